@@ -356,6 +356,16 @@ unit_of_mail() {
     same "$line" 'systemd does not take it'
 }
 
+# timer_of_mail: it begins the unit of the same name each evening, and systemd has nothing to say about it, where it is there.
+timer_of_mail() {
+    echo "$text" >quota_mail.timer
+    printf '[Service]\nType=oneshot\nExecStart=/bin/true\n' >quota_mail.service
+    printf '%s\n' '[Timer]' 'OnCalendar=18:00' >wanted
+    grep -A 1 '^\[Timer\]$' quota_mail.timer >got || true
+    if command -v systemd-analyze >/dev/null; then systemd-analyze verify ./quota_mail.timer >>got 2>&1 || true; fi
+    same "$line" 'systemd does not take it'
+}
+
 # wrong_body: it can be applied in a copy of the crate, in which the line of the text stands behind that of T.
 wrong_body() {
     local body
@@ -452,6 +462,7 @@ display() {
     fi
     case $text in
         '$ '*) session ;;
+        '[Unit]'*'[Timer]'*) timer_of_mail ;;
         '[Unit]'*quota_mail*) unit_of_mail ;;
         '[Unit]'*) unit_of_systemd ;;
         '#!/bin/sh'*quota_client*) mailed ;;

@@ -4,6 +4,7 @@
 # (the first call builds it where it is stale)
 client=$top/bin/quota_client
 "$client" --version >/dev/null
+made=$top/crates/quota_client_program/out/quota_client_program
 runner=("$client")
 ask() { "$top/tests/serve_client.py" "$@"; }
 
@@ -32,14 +33,26 @@ got=0
 same 'wrong words where the error output is closed' "$got" 2
 if unshare -rn true 2>/dev/null; then
     got=0
-    unshare -rn "$top/crates/quota_client_program/out/quota_client_program" quota 875 1 1 /home >out.txt 2>err.txt || got=$?
+    unshare -rn "$made" quota 875 1 1 /home >out.txt 2>err.txt || got=$?
     same 'no network' "$got $(cat out.txt err.txt)" '4 quota: link fault'
+    if command -v python3 >/dev/null; then
+        runner=("$top/tests/real_files/terminal.py" unshare -rn "$made")
+        expect 'no network, at a terminal' 4 '' 'quota: link fault
+quota_client_program: UDP port 875: Network is unreachable' quota 875 1 1 /home
+        runner=("$client")
+    fi
 fi
 
 if command -v python3 >/dev/null; then
     # No server, for six seconds, while other rows run.
     nobody=$(ask free)
-    timeout 20 "$client" quota "$nobody" 1000 1000 /home >nobody.txt 2>&1 &
+    {
+        begin=$SECONDS
+        got=0
+        timeout 20 "$client" quota "$nobody" 1000 1000 /home >nobody.txt 2>&1 || got=$?
+        echo $((SECONDS - begin)) >waited.txt
+        exit "$got"
+    } &
     alone=$!
 
     # A server, whose user 1000 exceeds both soft limits, and whose user 1001 has none.
@@ -111,6 +124,7 @@ if command -v python3 >/dev/null; then
     got=0
     wait "$alone" || got=$?
     same 'no server' "$got $(cat nobody.txt)" '1 /home: no reply'
+    same 'no server takes six seconds to see' "$([ "$(cat waited.txt)" -ge 6 ] && echo so)" so
 else
     echo 'real_files: python3 is not there: no client over UDP is shown' >&2
 fi

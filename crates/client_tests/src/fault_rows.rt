@@ -47,12 +47,21 @@ words quota 875
 fails err 1
 run
 status 2
-= the error output fails behind a fault
+= the error output fails behind a fault of the peer
 words quota 875 1 2 /a
 fails peer 1
+fails err 1
 run
 status 4
-! quota: link fault
+unstarted
+= the error output fails behind one of the output
+words quota 875 1 2 /a
+datagram 1 1 0 0 0 0 2
+fails out 1
+fails err 1
+run
+status 4
+calls 1
 = each call of the peer fails in turn
 words quota 875 1 2 /a /b /c
 quiet
@@ -62,7 +71,7 @@ quiet 2
 datagram 1 1 0 0 0 0 3
 datagram 2 1 0 0 0 0 3
 datagram 3 1 0 0 0 0 2
-sweep peer
+sweep peer 15
 status 1
 calls 6
 > /a: 5 KiB, soft 4, hard 9, grace none, files 5, soft 4, hard 9, grace 01:00
@@ -73,7 +82,7 @@ words warn 875 1 2 /a /b /c
 datagram 1 1 0 0 0 0 1 1024 1 9 4 5 9 4 5 0 3600
 datagram 2 1 0 0 0 0 3
 datagram 3 1 0 0 0 0 1 1024 1 9 4 5 9 4 4 0 3600
-sweep out
+sweep out 4
 status 1
 calls 3
 > /a: over block limit by 1 KiB, grace none
@@ -82,7 +91,7 @@ calls 3
 > /c: over block limit by 1 KiB, grace none
 = each call of the error output fails in turn
 words quota 875 1 2 /a /b
-sweep err
+sweep err 1
 status 4
 port 875
 calls 1

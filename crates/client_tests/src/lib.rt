@@ -9,9 +9,9 @@
 //! | `xid N` | the xid of the first path; 1 where there is no such line |
 //! | `quiet`, `quiet N` | an event, or as many, in which no datagram comes |
 //! | `datagram PARTS`, `datagrams N PARTS` | a datagram, or as many: a number is a unit of four bytes, `'TEXT` a text with its length and padding, and `*N` N zeros |
-//! | `fails OBJECT N` | the call of `peer`, `out` or `err` that fails |
+//! | `fails OBJECT N` | the call of `peer`, `out` or `err` that fails; there may be such a line for each |
 //! | `run` | runs the client |
-//! | `sweep OBJECT` | runs it once with no fault, and then once for each call of the object that this run made, which fails |
+//! | `sweep OBJECT N` | runs it once with no fault of the object, and then once for each of the N calls of it that this run makes, which fails; each such run stops there, and one more call is not made |
 //! | `status N` | the status of the run; 0 where there is no such line |
 //! | `> TEXT`, `! TEXT` | the next line of its output, or of its error output |
 //! | `sent PARTS` | the next datagram that it sent |

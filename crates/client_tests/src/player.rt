@@ -3,9 +3,6 @@ use crate::running::{Failing, Ran, Setting, new_setting, run};
 use std::alloc::{AllocError, Global};
 use std::process::Abort;
 
-/// How many calls of an object a run has at most that is swept.
-const MOST_CALLS: u64 = 300;
-
 /// Where the player stands in a row.
 #[derive(Drop)]
 struct Stage {
@@ -88,40 +85,40 @@ fn put_events(
     Ok(true)
 }
 
-/// The calls of an object of which this one fails.
-fn failing_of(object: &str, call: u64) -> Option<Failing> {
+/// The calls that fail, with this one of an object among them.
+fn with_failing(failing: Failing, object: &str, call: u64) -> Option<Failing> {
     match object {
         "peer" => Some(Failing {
             peer: call,
-            out: 0,
-            err: 0,
+            out: failing.out,
+            err: failing.err,
         }),
         "out" => Some(Failing {
-            peer: 0,
+            peer: failing.peer,
             out: call,
-            err: 0,
+            err: failing.err,
         }),
         "err" => Some(Failing {
-            peer: 0,
-            out: 0,
+            peer: failing.peer,
+            out: failing.out,
             err: call,
         }),
         _ => None,
     }
 }
 
-/// Says which call fails.
+/// Says which call of an object fails, besides what fails of others.
 fn fail(stage: &mut Stage, words: &str) -> bool {
     let (object, call) = words.split_once(' ').unwrap_or((words, ""));
-    match (number(call), object) {
-        (Some(call), object) => match failing_of(object, call) {
-            Some(failing) => {
-                stage.setting.failing = failing;
-                true
-            }
-            None => false,
-        },
-        (None, _) => false,
+    let Some(call) = number(call) else {
+        return false;
+    };
+    match with_failing(stage.setting.failing, object, call) {
+        Some(failing) => {
+            stage.setting.failing = failing;
+            true
+        }
+        None => false,
     }
 }
 
@@ -143,6 +140,11 @@ fn begins(whole: &[u8], part: &[u8]) -> bool {
     whole.starts_with(part)
 }
 
+/// Whether it is a first part, and not all of it.
+fn begins_short(whole: &[u8], part: &[u8]) -> bool {
+    whole.starts_with(part) && part.len() < whole.len()
+}
+
 /// Whether whole lines were written.
 fn is_whole(bytes: &[u8]) -> bool {
     match bytes.last() {
@@ -151,7 +153,7 @@ fn is_whole(bytes: &[u8]) -> bool {
     }
 }
 
-/// Whether a run stopped as it should where a call of the object failed.
+/// Whether a run stopped as it should where a call of the object failed, beside one in which none did.
 fn is_stopped(object: &str, ran: &Ran, whole: &Ran) -> bool {
     match object {
         "peer" => {
@@ -159,36 +161,63 @@ fn is_stopped(object: &str, ran: &Ran, whole: &Ran) -> bool {
                 && says(ran, b"quota: link fault\n")
                 && begins(&whole.out, &ran.out)
                 && is_whole(&ran.out)
-                && ran.sent.len() <= whole.sent.len()
+                && whole.sent.starts_with(&ran.sent)
         }
         "out" => {
             ran.status == 4
                 && says(ran, b"quota: output fault\n")
-                && begins(&whole.out, &ran.out)
-                && ran.sent.len() <= whole.sent.len()
+                && begins_short(&whole.out, &ran.out)
+                && whole.sent.starts_with(&ran.sent)
         }
-        _ => ran.status == whole.status && ran.out == whole.out && begins(&whole.err, &ran.err),
+        _ => {
+            ran.status == whole.status && ran.out == whole.out && begins_short(&whole.err, &ran.err)
+        }
     }
 }
 
-/// Runs once, and then once for each call of the object, which fails.
-fn sweeps(stage: &mut Stage, object: &str) -> Result<bool, AllocError> {
+/// Runs with this call of an object failing, and answers what it did, where there is such an object.
+fn run_failing(stage: &mut Stage, object: &str, call: u64) -> Result<Option<Ran>, AllocError> {
+    let before = stage.setting.failing;
+    let Some(failing) = with_failing(before, object, call) else {
+        return Ok(None);
+    };
+    stage.setting.failing = failing;
+    let ran = run(stage.alloc, &stage.setting)?;
+    stage.setting.failing = before;
+    Ok(Some(ran))
+}
+
+/// Whether a run with this call of the object failing stops as it should, beside one in which none does.
+fn stops(stage: &mut Stage, object: &str, call: u64, whole: &Ran) -> Result<bool, AllocError> {
+    match run_failing(stage, object, call)? {
+        Some(ran) => Ok(is_stopped(object, &ran, whole)),
+        None => Ok(false),
+    }
+}
+
+/// Runs once, then once for each of so many calls of the object, which fails, and then with one more, which is not made.
+fn sweeps_calls(stage: &mut Stage, object: &str, count: u64) -> Result<bool, AllocError> {
     let whole = run(stage.alloc, &stage.setting)?;
-    for call in 1..MOST_CALLS {
-        let Some(failing) = failing_of(object, call) else {
-            return Ok(false);
-        };
-        stage.setting.failing = failing;
-        let ran = run(stage.alloc, &stage.setting)?;
-        if are_same(&ran, &whole) {
-            stage.ran = Some(whole);
-            return Ok(call > 1);
-        }
-        if !is_stopped(object, &ran, &whole) {
+    for call in 0..count {
+        if !stops(stage, object, call.saturating_add(1), &whole)? {
             return Ok(false);
         }
     }
-    Ok(false)
+    let same = match run_failing(stage, object, count.saturating_add(1))? {
+        Some(ran) => are_same(&ran, &whole),
+        None => false,
+    };
+    stage.ran = Some(whole);
+    Ok(count > 0 && same)
+}
+
+/// Sweeps the calls of an object, as a line tells them.
+fn sweeps(stage: &mut Stage, words: &str) -> Result<bool, AllocError> {
+    let (object, count) = words.split_once(' ').unwrap_or((words, ""));
+    match number(count) {
+        Some(count) => sweeps_calls(stage, object, count),
+        None => Ok(false),
+    }
 }
 
 /// Whether the next line of the output is this one.

@@ -166,6 +166,8 @@ impl Conns for MemConns {
         ensures fault { OnErr result ((mem_conns_seen self.new).listened ≡ (mem_conns_seen self.old).listened) }
         ensures leaves { KeepsConnections (mem_conns_seen self.old) (mem_conns_seen self.new) }
         ensures open_as_before { self.new.is_open ≡ self.old.is_open }
+        ensures faults { (mem_conns_seen self.new).listener_faults ≡ (if is_ok result then (mem_conns_seen self.old).listener_faults
+            else counted (mem_conns_seen self.old).listener_faults) }
         ensures cause { OnErr result (Rose (mem_conns_seen self.old).listener_faults (mem_conns_seen self.new).listener_faults) }
     {
         if self.failures.next_fails() {
@@ -194,6 +196,8 @@ impl Conns for MemConns {
         ensures leaves { KeepsListening (mem_conns_seen self.old) (mem_conns_seen self.new) }
         ensures connection_faults { (mem_conns_seen self.new).connection_faults
             ≡ (mem_conns_seen self.old).connection_faults }
+        ensures faults { (mem_conns_seen self.new).listener_faults ≡ (if is_ok result then (mem_conns_seen self.old).listener_faults
+            else counted (mem_conns_seen self.old).listener_faults) }
         ensures cause { OnErr result (Rose (mem_conns_seen self.old).listener_faults (mem_conns_seen self.new).listener_faults) }
     {
         if self.failures.next_fails() {
@@ -226,6 +230,8 @@ impl Conns for MemConns {
             ≡ option_map with_failed_read (mem_conns_seen self.old).current) }
         ensures leaves { ChangesCurrent (mem_conns_seen self.old) (mem_conns_seen self.new) }
         ensures open_as_before { self.new.is_open ≡ self.old.is_open }
+        ensures faults { (mem_conns_seen self.new).connection_faults ≡ (if is_ok result then (mem_conns_seen self.old).connection_faults
+            else counted (mem_conns_seen self.old).connection_faults) }
         ensures cause { OnErr result (Rose (mem_conns_seen self.old).connection_faults (mem_conns_seen self.new).connection_faults) }
     {
         if self.failures.next_fails() {
@@ -247,6 +253,8 @@ impl Conns for MemConns {
         ensures fault { OnErr result (FailsToWrite bytes.now (mem_conns_seen self.old).current (mem_conns_seen self.new).current) }
         ensures leaves { ChangesCurrent (mem_conns_seen self.old) (mem_conns_seen self.new) }
         ensures open_as_before { self.new.is_open ≡ self.old.is_open }
+        ensures faults { (mem_conns_seen self.new).connection_faults ≡ (if is_ok result then (mem_conns_seen self.old).connection_faults
+            else counted (mem_conns_seen self.old).connection_faults) }
         ensures cause { OnErr result (Rose (mem_conns_seen self.old).connection_faults (mem_conns_seen self.new).connection_faults) }
     {
         if self.failures.next_fails() {

@@ -1,4 +1,4 @@
-ghost use Rattle.std.specs.Prelude.{◌≡◌, ◌≤◌, ◌↔◌, ◌⊎◌, ◌∷◌, ◌++◌, List, [], None, Contains, IsErr, IfOk, IfSome, OnOk, OnErr};
+ghost use Rattle.std.specs.Prelude.{◌≡◌, ◌≤◌, ◌↔◌, ◌⊎◌, ◌∷◌, ◌++◌, List, [], None, Contains, IsErr, is_ok, if◌then◌else◌, IfOk, IfSome, OnOk, OnErr};
 ghost use Rattle.outside.specs.Count.{Rose, counted};
 ghost use Rattle.memory_objects.specs.InMemory.{new_plan};
 ghost use Rattle.network.specs.Events.{Event, KeepsStart, TakesEvent, peer_started_at};
@@ -124,6 +124,9 @@ impl Peer for MemPeer {
         ensures fault { OnErr result ((mem_peer_seen self.new).started ≡ (mem_peer_seen self.old).started) }
         ensures left { (mem_peer_seen self.new).left ≡ (mem_peer_seen self.old).left }
         ensures sent { (mem_peer_seen self.new).sent ≡ (mem_peer_seen self.old).sent }
+        ensures faults { (mem_peer_seen self.new).faults ≡ (if is_ok result then (mem_peer_seen self.old).faults
+            else counted (mem_peer_seen self.old).faults) }
+        ensures steady { OnOk result ((mem_peer_seen self.new).faults ≡ (mem_peer_seen self.old).faults) }
         ensures cause { OnErr result (Rose (mem_peer_seen self.old).faults (mem_peer_seen self.new).faults) }
         ensures later { (mem_peer_seen self.old).faults ≤ (mem_peer_seen self.new).faults }
     {
@@ -148,6 +151,9 @@ impl Peer for MemPeer {
         ensures fault { OnErr result ((mem_peer_seen self.new).sent ≡ (mem_peer_seen self.old).sent) }
         ensures left { (mem_peer_seen self.new).left ≡ (mem_peer_seen self.old).left }
         ensures leaves { KeepsStart (mem_peer_seen self.old) (mem_peer_seen self.new) }
+        ensures faults { (mem_peer_seen self.new).faults ≡ (if is_ok result then (mem_peer_seen self.old).faults
+            else counted (mem_peer_seen self.old).faults) }
+        ensures steady { OnOk result ((mem_peer_seen self.new).faults ≡ (mem_peer_seen self.old).faults) }
         ensures cause { OnErr result (Rose (mem_peer_seen self.old).faults (mem_peer_seen self.new).faults) }
     {
         if self.failures.next_fails() {
@@ -172,6 +178,9 @@ impl Peer for MemPeer {
         ensures fault { OnErr result ((mem_peer_seen self.new).left ≡ (mem_peer_seen self.old).left) }
         ensures sent { (mem_peer_seen self.new).sent ≡ (mem_peer_seen self.old).sent }
         ensures leaves { KeepsStart (mem_peer_seen self.old) (mem_peer_seen self.new) }
+        ensures faults { (mem_peer_seen self.new).faults ≡ (if is_ok result then (mem_peer_seen self.old).faults
+            else counted (mem_peer_seen self.old).faults) }
+        ensures steady { OnOk result ((mem_peer_seen self.new).faults ≡ (mem_peer_seen self.old).faults) }
         ensures cause { OnErr result (Rose (mem_peer_seen self.old).faults (mem_peer_seen self.new).faults) }
     {
         if self.failures.next_fails() {

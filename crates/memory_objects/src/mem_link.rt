@@ -1,4 +1,4 @@
-ghost use Rattle.std.specs.Prelude.{◌≡◌, ◌≤◌, ◌↔◌, ◌⊎◌, ◌∷◌, ◌++◌, [], None, length, min, take, Contains, IsErr, IfOk, OnOk, OnErr};
+ghost use Rattle.std.specs.Prelude.{◌≡◌, ◌≤◌, ◌↔◌, ◌⊎◌, ◌∷◌, ◌++◌, [], None, length, min, take, Contains, IsErr, is_ok, if◌then◌else◌, IfOk, OnOk, OnErr};
 ghost use Rattle.outside.specs.Count.{Rose, counted};
 ghost use Rattle.memory_objects.specs.InMemory.{answers_in, datagrams_of, mem_link_plan, mem_link_seen, new_plan, port_of};
 ghost use Rattle.outside.specs.Seen.{Datagram, started_at};
@@ -99,6 +99,8 @@ impl Link for MemLink {
         ensures fault { OnErr result ((mem_link_seen self.new).started ≡ (mem_link_seen self.old).started) }
         ensures left { (mem_link_seen self.new).left ≡ (mem_link_seen self.old).left }
         ensures answers { (mem_link_seen self.new).answers ≡ (mem_link_seen self.old).answers }
+        ensures faults { (mem_link_seen self.new).faults ≡ (if is_ok result then (mem_link_seen self.old).faults
+            else counted (mem_link_seen self.old).faults) }
         ensures cause { OnErr result (Rose (mem_link_seen self.old).faults (mem_link_seen self.new).faults) }
         ensures later { (mem_link_seen self.old).faults ≤ (mem_link_seen self.new).faults }
     {
@@ -126,6 +128,8 @@ impl Link for MemLink {
         ensures fault { OnErr result ((mem_link_seen self.new).left ≡ (mem_link_seen self.old).left) }
         ensures answers { (mem_link_seen self.new).answers ≡ (mem_link_seen self.old).answers }
         ensures started { (mem_link_seen self.new).started ≡ (mem_link_seen self.old).started }
+        ensures faults { (mem_link_seen self.new).faults ≡ (if is_ok result then (mem_link_seen self.old).faults
+            else counted (mem_link_seen self.old).faults) }
         ensures cause { OnErr result (Rose (mem_link_seen self.old).faults (mem_link_seen self.new).faults) }
         ensures later { (mem_link_seen self.old).faults ≤ (mem_link_seen self.new).faults }
     {
@@ -156,6 +160,8 @@ impl Link for MemLink {
         ensures fault { OnErr result ((mem_link_seen self.new).answers ≡ (mem_link_seen self.old).answers) }
         ensures left { (mem_link_seen self.new).left ≡ (mem_link_seen self.old).left }
         ensures started { (mem_link_seen self.new).started ≡ (mem_link_seen self.old).started }
+        ensures faults { (mem_link_seen self.new).faults ≡ (if is_ok result then (mem_link_seen self.old).faults
+            else counted (mem_link_seen self.old).faults) }
         ensures cause { OnErr result (Rose (mem_link_seen self.old).faults (mem_link_seen self.new).faults) }
         ensures later { (mem_link_seen self.old).faults ≤ (mem_link_seen self.new).faults }
     {

@@ -1,11 +1,11 @@
 //! What a quota program meets on the network: connections that it accepts, and a peer that it asks by datagrams.
 //!
-//! `Conns` is a listener and the one connection that is open, and a `Peer` is the other side of questions by datagrams.
-//! Each counts its faults, which never falls, and may tell its contents: an object in memory does, and an adapter over a
-//! real socket does not. Told or not, `Conns` tells whether a connection is open.
+//! `Conns` are a listener and the one connection of it that is open. A `Peer` is someone who is asked by datagrams, and
+//! answers by others. Each object counts its calls that fail, and that count never falls. It may tell its contents too, as one
+//! in memory does, and one over a real socket does not. `Conns` always tell whether a connection is open.
 //!
-//! The one promise: a call fails only where its object's count of faults rose, and what is told of the network stays in
-//! step with what was done.
+//! The one promise: a call fails only where its object's count of faults rose, and what is told of an object is what was
+//! done with it.
 #![tactic(auto)]
 
 mod conns;

@@ -8,8 +8,8 @@ pub struct PeerFault;
 
 /// Someone who is asked by datagrams, such as a server at a UDP port.
 ///
-/// Whatever a peer tells, a call fails only where its count of faults rose in that call, and a number of bytes that a
-/// call answers fits the buffer.
+/// Whatever a peer tells, its count of faults rises in a call that fails and stays in one that does not, and a number of
+/// bytes that a call answers fits the buffer.
 pub trait Peer {
     /// Whether peers of this type tell the events, what was sent and how they were started.
     ghost tells: { Bool };
@@ -28,6 +28,7 @@ pub trait Peer {
         ensures fault { OnErr result (IsTrue tells → (seen self.new).started ≡ (seen self.old).started) }
         ensures left { (seen self.new).left ≡ (seen self.old).left }
         ensures sent { (seen self.new).sent ≡ (seen self.old).sent }
+        ensures steady { OnOk result ((seen self.new).faults ≡ (seen self.old).faults) }
         ensures cause { OnErr result (Rose (seen self.old).faults (seen self.new).faults) }
         ensures later { (seen self.old).faults ≤ (seen self.new).faults };
 
@@ -41,6 +42,7 @@ pub trait Peer {
         ensures fault { OnErr result (IsTrue tells → (seen self.new).sent ≡ (seen self.old).sent) }
         ensures left { (seen self.new).left ≡ (seen self.old).left }
         ensures leaves { KeepsStart (seen self.old) (seen self.new) }
+        ensures steady { OnOk result ((seen self.new).faults ≡ (seen self.old).faults) }
         ensures cause { OnErr result (Rose (seen self.old).faults (seen self.new).faults) };
 
     /// Takes the next event. A datagram gives its first 4,096 bytes, and how many they are; `None` is a quiet, in which no
@@ -56,5 +58,6 @@ pub trait Peer {
         ensures fault { OnErr result (IsTrue tells → (seen self.new).left ≡ (seen self.old).left) }
         ensures sent { (seen self.new).sent ≡ (seen self.old).sent }
         ensures leaves { KeepsStart (seen self.old) (seen self.new) }
+        ensures steady { OnOk result ((seen self.new).faults ≡ (seen self.old).faults) }
         ensures cause { OnErr result (Rose (seen self.old).faults (seen self.new).faults) };
 }

@@ -37,10 +37,11 @@ pub fn is_file_name(word: &str) -> bool
         && !ends_so(name, b".und")
 }
 
-fn all_graphic(name: &[u8]) -> bool
-    ensures { result ≡ list_all is_graphic name.now }
+/// Whether each byte is one from `!` to `~`.
+pub fn all_graphic(bytes: &[u8]) -> bool
+    ensures { result ≡ list_all is_graphic bytes.now }
 {
-    name.iter().all(|byte| 33 <= *byte && *byte <= 126)
+    bytes.iter().all(|byte| 33 <= *byte && *byte <= 126)
 }
 
 fn ends_so(bytes: &[u8], ending: &[u8]) -> bool

@@ -15,7 +15,7 @@ mod values;
 
 pub use export::{Export, ExportList};
 pub use fault::Fault;
-pub use file_name::{is_file_name, read_file_name};
+pub use file_name::{all_graphic, is_file_name, read_file_name};
 pub use given::{Conversion, ExportWords, Given};
 pub use scan::{OperandWord, Scan, scan_words};
 pub use switch::{Flag, Flags, Setting, Switch};

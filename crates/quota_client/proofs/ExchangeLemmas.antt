@@ -8,7 +8,7 @@ use Rattle.network.specs.Events.{Event, PeerSeen, TakesDatagram}
 use Rattle.rquota_xdr.specs.declared.reply.Reply.{Reply}
 use Rattle.quota_client.specs.declared.exchange.Received.{Received}
 use Rattle.quota_client.specs.declared.exchange.Received.TheVariants.{Quiet, Other, Answer}
-use Rattle.quota_client.specs.Exchange.{Begins, Exchanges, IsAttempt, IsOther, Takes, joined}
+use Rattle.quota_client.specs.Exchange.{Begins, Exchanges, IsAttempt, IsOther, Takes, events_joined}
 use Rattle.quota_client.specs.Receiving.{Attempts, HasNoAnswer, IsRead, IsReceived, PassesOver, Receives, StopsBehind}
 
 read_received : (xid : ℕ) (datagram : List ℕ) (received : Received) → IsRead xid (take 4096 datagram) received → IsReceived xid (Some datagram) received
@@ -107,9 +107,9 @@ unanswered-none xid call seen = record {
 
 -- ---- a call, and what an attempt takes behind it
 
-joined-push : (attempts : List (List Event)) (last : List Event) → joined (attempts ++ last ∷ []) ≡ joined attempts ++ last
-joined-push attempts last =
-    flat_map-append (λ (attempt : List Event). attempt) attempts (last ∷ []) ∙ ap (λ (l : List Event). joined attempts ++ l) (append-nil last)
+events_joined-push : (attempts : List (List Event)) (last : List Event) → events_joined (attempts ++ last ∷ []) ≡ events_joined attempts ++ last
+events_joined-push attempts last =
+    flat_map-append (λ (attempt : List Event). attempt) attempts (last ∷ []) ∙ ap (λ (l : List Event). events_joined attempts ++ l) (append-nil last)
 
 replicate-push : (count : ℕ) (call : List ℕ) → replicate (count + 1) call ≡ replicate count call ++ call ∷ []
 replicate-push count call = sym (replicate_more count call)
@@ -133,17 +133,17 @@ unanswered-more xid count call old between asked new so_far kept sent one = reco
   attempts = so_far.attempts ++ one.taken ∷ [];
   each = All-push (λ (attempt : List Event). IsAttempt xid attempt None) so_far.attempts one.taken so_far.each one.attempt;
   number = omega (arith, length-append so_far.attempts (one.taken ∷ []), so_far.number);
-  takes = subst (λ (taken : List Event). Takes call taken (count + 1) old new) (sym (joined-push so_far.attempts one.taken))
-      (takes-more call (joined so_far.attempts) one.taken count old between asked new so_far.takes kept sent one.left one.sent);
+  takes = subst (λ (taken : List Event). Takes call taken (count + 1) old new) (sym (events_joined-push so_far.attempts one.taken))
+      (takes-more call (events_joined so_far.attempts) one.taken count old between asked new so_far.takes kept sent one.left one.sent);
 }
 
 -- the exchange ends with an answer
 pub exchanges-answer : (xid count : ℕ) (call : List ℕ) (old between asked new : PeerSeen) (reply : Reply) → count < 3 → HasNoAnswer xid count call old between → asked.left ≡ between.left
     → asked.sent ≡ between.sent ++ call ∷ [] → Attempts xid asked new (Some reply) → Exchanges xid call old new (Some reply)
 exchanges-answer xid count call old between asked new reply few so_far kept sent one = record {
-  taken = joined so_far.attempts ++ one.taken;
+  taken = events_joined so_far.attempts ++ one.taken;
   calls = count + 1;
-  takes = takes-more call (joined so_far.attempts) one.taken count old between asked new so_far.takes kept sent one.left one.sent;
+  takes = takes-more call (events_joined so_far.attempts) one.taken count old between asked new so_far.takes kept sent one.left one.sent;
   exchange = record {
     unanswered = so_far.attempts;
     each = so_far.each;
@@ -160,7 +160,7 @@ exchanges-answer xid count call old between asked new reply few so_far kept sent
 -- the exchange ends with the third attempt
 pub exchanges-none : (xid count : ℕ) (call : List ℕ) (old new : PeerSeen) → count ≡ 3 → HasNoAnswer xid count call old new → Exchanges xid call old new None
 exchanges-none xid count call old new three so_far = record {
-  taken = joined so_far.attempts;
+  taken = events_joined so_far.attempts;
   calls = count;
   takes = so_far.takes;
   exchange = record {
@@ -173,10 +173,10 @@ exchanges-none xid count call old new three so_far = record {
 -- a call was not sent
 pub begins-unsent : (xid count : ℕ) (call : List ℕ) (old between new : PeerSeen) → count < 3 → HasNoAnswer xid count call old between → new.left ≡ between.left → new.sent ≡ between.sent → Begins xid call old new
 begins-unsent xid count call old between new few so_far left sent = record {
-  taken = joined so_far.attempts;
+  taken = events_joined so_far.attempts;
   calls = count;
   takes = record {
-    left = so_far.takes.left ∙ ap (λ (l : List Event). joined so_far.attempts ++ l) (sym left);
+    left = so_far.takes.left ∙ ap (λ (l : List Event). events_joined so_far.attempts ++ l) (sym left);
     sent = sent ∙ so_far.takes.sent;
   };
   begun = record {
@@ -186,7 +186,7 @@ begins-unsent xid count call old between new few so_far left sent = record {
     others = [];
     other = All-nil (IsOther xid);
     few_others = omega arith;
-    all = sym (append-nil (joined so_far.attempts));
+    all = sym (append-nil (events_joined so_far.attempts));
     calls_sent = inr (sym so_far.number, refl);
   };
 }
@@ -195,9 +195,9 @@ begins-unsent xid count call old between new few so_far left sent = record {
 pub begins-stopped : (xid count : ℕ) (call : List ℕ) (old between asked new : PeerSeen) → count < 3 → HasNoAnswer xid count call old between → asked.left ≡ between.left → asked.sent ≡ between.sent ++ call ∷ []
     → StopsBehind xid asked new → Begins xid call old new
 begins-stopped xid count call old between asked new few so_far kept sent one = record {
-  taken = joined so_far.attempts ++ one.passes.others;
+  taken = events_joined so_far.attempts ++ one.passes.others;
   calls = count + 1;
-  takes = takes-more call (joined so_far.attempts) one.passes.others count old between asked new so_far.takes kept sent one.passes.left one.passes.sent;
+  takes = takes-more call (events_joined so_far.attempts) one.passes.others count old between asked new so_far.takes kept sent one.passes.left one.passes.sent;
   begun = record {
     unanswered = so_far.attempts;
     each = so_far.each;

@@ -7,7 +7,7 @@ use Rattle.std.proofs.lemmas.List.Elements.{All-head, All-tail}
 use Rattle.network.specs.Events.{Event}
 use Rattle.rquota_xdr.specs.declared.reply.Reply.{Reply}
 use Rattle.rquota_xdr.proofs.ReplyLemmas.{one_meaning}
-use Rattle.quota_client.specs.Exchange.{Answers, AreUnanswered, EndsBy, IsAttempt, IsBegun, IsExchange, IsOther, joined}
+use Rattle.quota_client.specs.Exchange.{Answers, AreUnanswered, EndsBy, IsAttempt, IsBegun, IsExchange, IsOther, events_joined}
 
 -- ---- an attempt, event by event
 
@@ -128,28 +128,28 @@ Chain xid zero taken calls reply = (taken ≡ []) × (calls ≡ 0) × (reply ≡
 Chain xid (suc count) taken calls reply = GoesOn xid (λ rest more. Chain xid count rest more reply) taken calls ⊎ IsAnswered xid taken calls reply
 
 chain-answered : (xid count : ℕ) (unanswered : List (List Event)) (last : List Event) (reply : Reply) → AreUnanswered xid unanswered → length unanswered < count → IsAttempt xid last (Some reply)
-    → Chain xid count (joined unanswered ++ last) (length unanswered + 1) (Some reply)
+    → Chain xid count (events_joined unanswered ++ last) (length unanswered + 1) (Some reply)
 chain-answered xid zero unanswered last reply each few attempt = absurd (omega (arith, few))
 chain-answered xid (suc count) [] last reply each few attempt = inr (record { answer = reply; is = refl; walk = walk_of xid last (Some reply) attempt; once = refl })
 chain-answered xid (suc count) (first ∷ unanswered) last reply each few attempt =
     inl (record {
       first = first;
-      rest = joined unanswered ++ last;
+      rest = events_joined unanswered ++ last;
       more = length unanswered + 1;
-      all = append_assoc first (joined unanswered) last;
+      all = append_assoc first (events_joined unanswered) last;
       calls_sent = omega arith;
       walk = walk_of xid first None (All-head (λ (a : List Event). IsAttempt xid a None) first unanswered each);
       others = chain-answered xid count unanswered last reply (All-tail (λ (a : List Event). IsAttempt xid a None) first unanswered each) (omega (arith, few)) attempt;
     })
 
-chain-unanswered : (xid count : ℕ) (unanswered : List (List Event)) → AreUnanswered xid unanswered → length unanswered ≡ count → Chain xid count (joined unanswered) count None
+chain-unanswered : (xid count : ℕ) (unanswered : List (List Event)) → AreUnanswered xid unanswered → length unanswered ≡ count → Chain xid count (events_joined unanswered) count None
 chain-unanswered xid zero [] each all = (refl, refl, refl)
 chain-unanswered xid zero (first ∷ unanswered) each all = absurd (omega (arith, all))
 chain-unanswered xid (suc count) [] each all = absurd (omega (arith, all))
 chain-unanswered xid (suc count) (first ∷ unanswered) each all =
     inl (record {
       first = first;
-      rest = joined unanswered;
+      rest = events_joined unanswered;
       more = count;
       all = refl;
       calls_sent = omega arith;
@@ -202,23 +202,23 @@ one_outcome xid one two behind_one behind_two calls calls' reply other first sec
     one_chain xid 3 one two behind_one behind_two calls calls' reply other (chain_of xid one calls reply first) (chain_of xid two calls' other second) same
 
 begun_on : (xid count : ℕ) (unanswered : List (List Event)) (others two behind : List Event) (calls : ℕ) (reply : Option Reply) → AreUnanswered xid unanswered → length unanswered < count → All (IsOther xid) others
-    → length others < 64 → Chain xid count two calls reply → joined unanswered ++ others ≡ two ++ behind → ⊥
+    → length others < 64 → Chain xid count two calls reply → events_joined unanswered ++ others ≡ two ++ behind → ⊥
 begun_on xid zero unanswered others two behind calls reply each few other few_others chain same = omega (arith, few)
 begun_on xid (suc count) [] others two behind calls reply each few other few_others (inl chain) same =
     let whole : others ≡ (chain.first ++ chain.rest) ++ behind = rw chain.all at same in
     walk_on xid 64 others chain.first (chain.rest ++ behind) None other few_others chain.walk (whole ∙ append_assoc chain.first chain.rest behind)
 begun_on xid (suc count) [] others two behind calls reply each few other few_others (inr chain) same = walk_on xid 64 others two behind (Some chain.answer) other few_others chain.walk same
 begun_on xid (suc count) (first ∷ unanswered) others two behind calls reply each few other few_others (inl chain) same =
-    let whole : (first ++ joined unanswered) ++ others ≡ (chain.first ++ chain.rest) ++ behind = rw chain.all at same in
+    let whole : (first ++ events_joined unanswered) ++ others ≡ (chain.first ++ chain.rest) ++ behind = rw chain.all at same in
     let walk = walk_of xid first None (All-head (λ (a : List Event). IsAttempt xid a None) first unanswered each) in
-    let walks = one_walk xid 64 first chain.first (joined unanswered ++ others) (chain.rest ++ behind) None None walk chain.walk
-    (sym (append_assoc first (joined unanswered) others) ∙ whole ∙ append_assoc chain.first chain.rest behind) in
+    let walks = one_walk xid 64 first chain.first (events_joined unanswered ++ others) (chain.rest ++ behind) None None walk chain.walk
+    (sym (append_assoc first (events_joined unanswered) others) ∙ whole ∙ append_assoc chain.first chain.rest behind) in
     begun_on xid count unanswered others chain.rest behind chain.more reply (All-tail (λ (a : List Event). IsAttempt xid a None) first unanswered each) (omega (arith, few)) other few_others chain.others
-    (behind_first first chain.first (joined unanswered) chain.rest others behind walks.0 whole)
+    (behind_first first chain.first (events_joined unanswered) chain.rest others behind walks.0 whole)
 begun_on xid (suc count) (first ∷ unanswered) others two behind calls reply each few other few_others (inr chain) same =
     let walk = walk_of xid first None (All-head (λ (a : List Event). IsAttempt xid a None) first unanswered each) in
-    let whole : first ++ (joined unanswered ++ others) ≡ two ++ behind = sym (append_assoc first (joined unanswered) others) ∙ same in
-    let walks = one_walk xid 64 first two (joined unanswered ++ others) behind None (Some chain.answer) walk chain.walk whole in
+    let whole : first ++ (events_joined unanswered ++ others) ≡ two ++ behind = sym (append_assoc first (events_joined unanswered) others) ∙ same in
+    let walks = one_walk xid 64 first two (events_joined unanswered ++ others) behind None (Some chain.answer) walk chain.walk whole in
     let none : None ≡ Some chain.answer = walks.1 in
     cc
 

@@ -7,14 +7,14 @@ use Rattle.std.proofs.lemmas.List.Elements.{All-contains, All-contains_itself, A
 use Rattle.std.proofs.lemmas.List.FromFn.{get_or-enumerate_from, length-enumerate_from}
 use Rattle.network.specs.Events.{Event}
 use Rattle.rquota_xdr.specs.Fields.{xid_of}
-use Rattle.rquota_xdr.specs.Reply.{spelling_of}
+use Rattle.rquota_xdr.specs.Reply.{reply_xid, spelling_of}
 use Rattle.rquota_xdr.specs.declared.reply.Reply.{Reply}
 use Rattle.rquota_xdr.specs.declared.reply.Reply.TheVariants.{OldRpc, NoProgram, NoVersion, NoProcedure, Auth, Garbage, Null, Quota, NoQuota, Denied}
 use Rattle.rquota_xdr.proofs.QuestionLemmas.{unit_here}
 use Rattle.rquota_xdr.proofs.ReplyLemmas.{one_meaning}
 use Rattle.quota_client.specs.declared.client.Client.{Client}
 use Rattle.quota_client.specs.Asking.{limits_call}
-use Rattle.quota_client.specs.Exchange.{Answers, IsExchange, IsReplyTo, reply_xid}
+use Rattle.quota_client.specs.Exchange.{Answers, IsExchange, IsReplyTo}
 use Rattle.quota_client.specs.Paths.{IsExchanged, PathAsked, PathCall, call_bytes, path_calls}
 use Rattle.quota_client.specs.Served.{ComesFrom, HaveOwnReplies, IsReplyOf, KeepsXid, Server}
 
@@ -105,16 +105,16 @@ own_datagram client server first paths call datagram reply few keeps here answer
     let other = contains-unmap (call_bytes client) (path_calls first paths) asked comes.2 in
     let short : length datagram ≤ 4096 = subst (λ (d : List ℕ). length d ≤ 4096) (sym from.spelled) (spelling_fits sent) in
     let whole : take 4096 datagram ≡ datagram = take_all 4096 datagram short in
-    let same : reply ≡ sent = one_meaning reply sent answers.fits from.fits (sym answers.spelled ∙ whole ∙ from.spelled) in
-    let xid_sent : reply_xid sent ≡ xid_of asked = keeps asked from.moment sent from.replied in
     let xid_asked : xid_of asked ≡ other.0.xid = ap xid_of other.2 ∙ limits_call-xid other.0.xid client.uid client.gid other.0.path client.uid (call_fits first paths other.0 other.1) in
+    let asked_fits : xid_of asked < 2 ^ 32 = subst (λ (n : ℕ). n < 2 ^ 32) (sym xid_asked) (call_fits first paths other.0 other.1) in
+    let same : reply ≡ sent = one_meaning reply sent answers.fits (keeps.fits asked from.moment sent asked_fits from.replied) (sym answers.spelled ∙ whole ∙ from.spelled) in
+    let xid_sent : reply_xid sent ≡ xid_of asked = keeps.xid asked from.moment sent from.replied in
     let xids : other.0.xid ≡ call.xid = sym xid_asked ∙ sym xid_sent ∙ ap reply_xid (sym same) ∙ answers.own in
     let calls : other.0 ≡ call = same_call first paths other.0 call few other.1 here xids in
     let bytes : asked ≡ call_bytes client call = other.2 ∙ ap (call_bytes client) calls in
     record {
       moment = from.moment;
       replied = subst (λ (r : Reply). server (call_bytes client call) from.moment ≡ Some r) (sym same) (subst (λ (b : List ℕ). server b from.moment ≡ Some sent) bytes from.replied);
-      fits = answers.fits;
       spelled = from.spelled ∙ ap spelling_of (sym same);
     }
 

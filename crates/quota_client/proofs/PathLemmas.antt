@@ -19,8 +19,8 @@ use Rattle.quota_client.specs.declared.fault.ClientFault.{ClientFault}
 use Rattle.quota_client.specs.declared.fault.ClientFault.TheVariants.{Asking, Printing}
 use Rattle.quota_client.specs.Exchange.{Begins, Exchanges}
 use Rattle.quota_client.specs.Line.{is_answered, lines_of}
-use Rattle.quota_client.specs.Paths.{AreAsked, IsExchanged, PathAsked, PathCall, call_bytes, events_of, path_calls, printed_of, sent_for}
-use Rattle.quota_client.specs.Run.{AskingSeen, AskingTells, Asks, StopsAsking, StopsPrinting}
+use Rattle.quota_client.specs.Paths.{AreAsked, IsExchanged, PathAsked, PathCall, call_bytes, events_taken, path_calls, printed_of, sent_for}
+use Rattle.quota_client.specs.Run.{AskingSeen, AskingTells, AsksPaths, StopsAsking, StopsPrinting}
 use Rattle.quota_client.specs.Steps.{AreLater, AsksPath, PrintsFirst, PrintsPath, PrintsPathInPart, StopsAtPath, StopsAtPaths}
 use Rattle.quota_client.specs.Words.{Asked, is_path}
 use Rattle.quota_client.proofs.OwnLemmas.{length-path_calls, own_replies, path_calls-at}
@@ -97,7 +97,7 @@ are_asked-more : (client : Client) (calls : List PathCall) (done : List PathAske
 are_asked-more client calls done one old between new more is so_far asks = record {
   in_order = in_order-more calls done one more is so_far.in_order;
   each = All-push IsExchanged done one so_far.each asks.exchanged;
-  left = so_far.left ∙ ap (λ (l : List Event). events_of done ++ l) asks.left ∙ sym (append_assoc (events_of done) one.taken new.left)
+  left = so_far.left ∙ ap (λ (l : List Event). events_taken done ++ l) asks.left ∙ sym (append_assoc (events_taken done) one.taken new.left)
       ∙ ap (λ (l : List Event). l ++ new.left) (sym (flat_map-push (λ (o : PathAsked). o.taken) done one));
   sent = asks.sent ∙ ap (λ (l : List (List ℕ)). l ++ replicate one.calls (call_bytes client one.call)) so_far.sent
       ∙ append_assoc old.sent (sent_for client done) (replicate one.calls (call_bytes client one.call))
@@ -128,8 +128,8 @@ prints-none asked first tells old new started left sent out = record {
 
 -- one path more was asked for
 asks-more : (asked : Asked) (first : ℕ) (done : List PathAsked) (one : PathAsked) (call : PathCall) (old between new : PeerSeen) → length asked.paths ≤ 16 → length done < length asked.paths
-    → get_or (path_calls first asked.paths) (length done) call ≡ call → Asks asked first done old between → AsksPath asked.client call one between new → new.started ≡ between.started
-    → Asks asked first (done ++ one ∷ []) old new
+    → get_or (path_calls first asked.paths) (length done) call ≡ call → AsksPaths asked first done old between → AsksPath asked.client call one between new → new.started ≡ between.started
+    → AsksPaths asked first (done ++ one ∷ []) old new
 asks-more asked first done one call old between new few some is so_far asks kept =
     let calls = path_calls first asked.paths in
     let count = length-path_calls first asked.paths in
@@ -172,9 +172,9 @@ prints-more asked first tells old between new count call answered one_answered f
 
 -- the peer failed in the exchange of a path
 pub stops-asking : (asked : Asked) (first : ℕ) (tells : AskingTells) (old between new : AskingSeen) (count : ℕ) (call : PathCall) (answered : Bool) → count < length asked.paths
-    → get_or (path_calls first asked.paths) count call ≡ call → PrintsFirst asked first tells old between count answered → Begins call.xid (call_bytes asked.client call) between.peer new.peer
-    → new.out ≡ between.out → new.peer.started ≡ between.peer.started → StopsAsking asked first tells old new
-stops-asking asked first tells old between new count call answered some is so_far begins out kept =
+    → get_or (path_calls first asked.paths) count call ≡ call → between.peer.faults ≡ old.peer.faults → PrintsFirst asked first tells old between count answered
+    → Begins call.xid (call_bytes asked.client call) between.peer new.peer → new.out ≡ between.out → new.peer.started ≡ between.peer.started → StopsAsking asked first tells old new
+stops-asking asked first tells old between new count call answered some is steady so_far begins out kept =
     let calls = path_calls first asked.paths in
     let size = length-path_calls first asked.paths in
     let place : length so_far.done ≡ count = so_far.number in
@@ -186,6 +186,7 @@ stops-asking asked first tells old between new count call answered some is so_fa
       call = call;
       more = drop (length so_far.done + 1) calls;
       at_hand = calls_split calls so_far.done call (omega arith) here so_far.asks.are_asked.in_order;
+      steady = steady;
       begins = begins;
       kept = kept;
       out = λ told. ap (λ (s : SinkSeen). s.written) out ∙ so_far.out told;
@@ -211,14 +212,16 @@ stops-printing asked first tells old between new count call answered few some is
 
 -- why not all paths were asked for and printed, by what happened at one
 pub stops_at : (asked : Asked) (first : ℕ) (tells : AskingTells) (old between new : AskingSeen) (count : ℕ) (call : PathCall) (answered : Bool) (fault : ClientFault) → length asked.paths ≤ 16
-    → count < length asked.paths → get_or (path_calls first asked.paths) count call ≡ call → AreLater old between → (IsTrue tells.peer → PrintsFirst asked first tells old between count answered)
-    → new.peer.started ≡ between.peer.started → StopsAtPath asked.client call tells between new fault → StopsAtPaths asked first tells old new fault
-stops_at asked first tells old between new count call answered Asking few some is later so_far kept stops = record {
+    → count < length asked.paths → get_or (path_calls first asked.paths) count call ≡ call → AreLater old between → between.peer.faults ≡ old.peer.faults
+    → (IsTrue tells.peer → PrintsFirst asked first tells old between count answered) → new.peer.started ≡ between.peer.started → StopsAtPath asked.client call tells between new fault
+    → StopsAtPaths asked first tells old new fault
+stops_at asked first tells old between new count call answered Asking few some is later steady so_far kept stops = record {
   failed = Rose-since old.peer.faults between.peer.faults new.peer.faults later.peer stops.failed;
-  stops = λ told. inr (stops-asking asked first tells old between new count call answered some is (so_far told) (stops.begins told) stops.out kept);
+  stops = λ told. inr (stops-asking asked first tells old between new count call answered some is steady (so_far told) (stops.begins told) stops.out kept);
 }
-stops_at asked first tells old between new count call answered Printing few some is later so_far kept stops = record {
+stops_at asked first tells old between new count call answered Printing few some is later steady so_far kept stops = record {
   failed = Rose-since old.out.faults between.out.faults new.out.faults later.out stops.failed;
+  steady = stops.steady ∙ steady;
   stops = λ told. stops-printing asked first tells old between new count call answered few some is (so_far told) (stops.prints told) kept;
 }
 

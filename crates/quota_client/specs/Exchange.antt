@@ -3,22 +3,8 @@
 use Rattle.std.specs.Prelude.{◌≡◌, ℕ, ◌+◌, ◌<◌, ◌⊎◌, List, [], ◌∷◌, ◌++◌, length, replicate, take, Option, None, Some}
 use Rattle.std.specs.List.{All, flat_map}
 use Rattle.network.specs.Events.{Event, PeerSeen}
-use Rattle.rquota_xdr.specs.Reply.{FitsUnits, spelling_of}
+use Rattle.rquota_xdr.specs.Reply.{FitsUnits, reply_xid, spelling_of}
 use Rattle.rquota_xdr.specs.declared.reply.Reply.{Reply}
-use Rattle.rquota_xdr.specs.declared.reply.Reply.TheVariants.{OldRpc, NoProgram, NoVersion, NoProcedure, Auth, Garbage, Null, Quota, NoQuota, Denied}
-
--- the xid of a reply, by which it is known to be one to the call with this xid
-abbrev pub reply_xid : Reply → ℕ
-reply_xid (OldRpc xid) = xid
-reply_xid (NoProgram xid) = xid
-reply_xid (NoVersion xid) = xid
-reply_xid (NoProcedure xid) = xid
-reply_xid (Auth xid stat) = xid
-reply_xid (Garbage xid) = xid
-reply_xid (Null xid) = xid
-reply_xid (Quota xid quota) = xid
-reply_xid (NoQuota xid) = xid
-reply_xid (Denied xid) = xid
 
 -- bytes spell a reply that has this xid
 pub record IsReplyTo (xid : ℕ) (bytes : List ℕ) (reply : Reply) : Type 0 where
@@ -55,8 +41,8 @@ pub record IsAttempt (xid : ℕ) (taken : List Event) (reply : Option Reply) : T
   pub ends : EndsAttempt xid others taken reply
 
 -- the events of attempts, one after another
-abbrev pub joined : List (List Event) → List Event
-joined attempts = flat_map (λ attempt. attempt) attempts
+abbrev pub events_joined : List (List Event) → List Event
+events_joined attempts = flat_map (λ attempt. attempt) attempts
 
 -- attempts without an answer, each with the events that it took
 abbrev pub AreUnanswered : ℕ → List (List Event) → Type 0
@@ -67,13 +53,13 @@ pub record EndsAnswered (xid : ℕ) (unanswered : List (List Event)) (taken : Li
   pub few : length unanswered < 3
   pub last : List Event
   pub attempt : IsAttempt xid last (Some reply)
-  pub all : taken ≡ joined unanswered ++ last
+  pub all : taken ≡ events_joined unanswered ++ last
   pub calls_sent : calls ≡ length unanswered + 1
 
 -- three attempts had no answer
 pub record EndsUnanswered (unanswered : List (List Event)) (taken : List Event) (calls : ℕ) : Type 0 where
   pub three : length unanswered ≡ 3
-  pub all : taken ≡ joined unanswered
+  pub all : taken ≡ events_joined unanswered
   pub calls_sent : calls ≡ 3
 
 -- an exchange ends with the first answer, or with the third attempt
@@ -96,7 +82,7 @@ pub record IsBegun (xid : ℕ) (taken : List Event) (calls : ℕ) : Type 0 where
   pub others : List Event
   pub other : All (IsOther xid) others
   pub few_others : length others < 64
-  pub all : taken ≡ joined unanswered ++ others
+  pub all : taken ≡ events_joined unanswered ++ others
   pub calls_sent : (calls ≡ length unanswered + 1) ⊎ ((calls ≡ length unanswered) × (others ≡ []))
 
 -- This many events were taken, and the call was sent so often.

@@ -34,8 +34,8 @@ abbrev pub IsExchanged : PathAsked → Type 0
 IsExchanged one = IsExchange one.call.xid one.taken one.calls one.reply
 
 -- the events that were taken, path by path
-abbrev pub events_of : List PathAsked → List Event
-events_of done = flat_map (λ (one : PathAsked). one.taken) done
+abbrev pub events_taken : List PathAsked → List Event
+events_taken done = flat_map (λ (one : PathAsked). one.taken) done
 
 -- the datagrams that were sent, path by path
 abbrev pub sent_for : Client → List PathAsked → List (List ℕ)
@@ -46,12 +46,12 @@ abbrev pub printed_of : Mode → List PathAsked → List ℕ
 printed_of mode done = flat_map (λ (one : PathAsked). lines_of mode one.call.path one.reply) done
 
 -- 0 where each path is answered, and otherwise 1
-abbrev pub status_of : List PathAsked → ℕ
-status_of done = if list_all (λ (one : PathAsked). is_answered one.reply) done then 0 else 1
+abbrev pub status_by_answers : List PathAsked → ℕ
+status_by_answers done = if list_all (λ (one : PathAsked). is_answered one.reply) done then 0 else 1
 
 -- The first paths were asked for by these calls, one after another, each on the events that the one before left.
 pub record AreAsked (client : Client) (calls : List PathCall) (done : List PathAsked) (old new : PeerSeen) : Type 0 where
   pub in_order : map (λ (one : PathAsked). one.call) done ≡ take (length done) calls
   pub each : All IsExchanged done
-  pub left : old.left ≡ events_of done ++ new.left
+  pub left : old.left ≡ events_taken done ++ new.left
   pub sent : new.sent ≡ old.sent ++ sent_for client done

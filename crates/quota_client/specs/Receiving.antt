@@ -2,10 +2,11 @@
 use Rattle.std.specs.Prelude.{◌≡◌, ℕ, ⊤, ◌<◌, List, ◌∷◌, ◌++◌, length, Option, None}
 use Rattle.std.specs.List.{All}
 use Rattle.network.specs.Events.{Event, PeerSeen}
+use Rattle.rquota_xdr.specs.Reply.{reply_xid}
 use Rattle.rquota_xdr.specs.declared.reply.Reply.{Reply}
 use Rattle.quota_client.specs.declared.exchange.Received.{Received}
 use Rattle.quota_client.specs.declared.exchange.Received.TheVariants.{Quiet, Other, Answer}
-use Rattle.quota_client.specs.Exchange.{Answers, AreUnanswered, IsAttempt, IsOther, IsReplyTo, Takes, joined, reply_xid}
+use Rattle.quota_client.specs.Exchange.{Answers, AreUnanswered, IsAttempt, IsOther, IsReplyTo, Takes, events_joined}
 
 -- what an event is for a call with this xid
 abbrev pub IsReceived : ℕ → Event → Received → Type 0
@@ -56,4 +57,4 @@ pub record HasNoAnswer (xid count : ℕ) (call : List ℕ) (old new : PeerSeen) 
   pub attempts : List (List Event)
   pub each : AreUnanswered xid attempts
   pub number : length attempts ≡ count
-  pub takes : Takes call (joined attempts) count old new
+  pub takes : Takes call (events_joined attempts) count old new

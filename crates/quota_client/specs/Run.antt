@@ -12,7 +12,7 @@ use Rattle.refusals.specs.declared.cause.Cause.TheVariants.{LinkFault, SinkFault
 use Rattle.option_words.specs.declared.fault.Fault.{Fault}
 use Rattle.quota_client.specs.Exchange.{Begins}
 use Rattle.quota_client.specs.Line.{lines_of}
-use Rattle.quota_client.specs.Paths.{AreAsked, PathAsked, PathCall, call_bytes, path_calls, printed_of, status_of}
+use Rattle.quota_client.specs.Paths.{AreAsked, PathAsked, PathCall, call_bytes, path_calls, printed_of, status_by_answers}
 use Rattle.quota_client.specs.Served.{HaveOwnReplies}
 use Rattle.quota_client.specs.Words.{Asked}
 
@@ -53,7 +53,7 @@ Says cause tells old new = IsTrue tells → AppendsUnless (Rose old.faults new.f
 
 -- The peer was started once, at the port, before anything was sent, and then the first paths were asked for, one after
 -- another, each on the events that the one before left. A reply for a path is one to its own call.
-pub record Asks (asked : Asked) (first : ℕ) (done : List PathAsked) (old new : PeerSeen) : Type 0 where
+pub record AsksPaths (asked : Asked) (first : ℕ) (done : List PathAsked) (old new : PeerSeen) : Type 0 where
   pub started : new.started ≡ peer_started_at old asked.client.port
   pub are_asked : AreAsked asked.client (path_calls first asked.paths) done old new
   pub own : HaveOwnReplies asked.client (path_calls first asked.paths) done
@@ -62,9 +62,9 @@ pub record Asks (asked : Asked) (first : ℕ) (done : List PathAsked) (old new :
 pub record HasAnswers (asked : Asked) (first : ℕ) (tells : AskingTells) (old new : AskingSeen) (status : ℕ) : Type 0 where
   pub done : List PathAsked
   pub all : length done ≡ length asked.paths
-  pub asks : Asks asked first done old.peer new.peer
+  pub asks : AsksPaths asked first done old.peer new.peer
   pub out : IsTrue tells.out → new.out.written ≡ old.out.written ++ printed_of asked.client.mode done
-  pub ended : status ≡ status_of done
+  pub ended : status ≡ status_by_answers done
 
 -- the peer was not started, and nothing else was done
 pub record IsUnstarted (old new : AskingSeen) : Type 0 where
@@ -73,15 +73,16 @@ pub record IsUnstarted (old new : AskingSeen) : Type 0 where
   pub sent : new.peer.sent ≡ old.peer.sent
   pub out : new.out ≡ old.out
 
--- The paths before one were asked for, the output has what is printed of them, and nothing else, and the exchange of that
--- path was begun and is not over.
+-- The paths before one were asked for, in which the peer did not fail, the output has what is printed of them, and nothing
+-- else, and the exchange of that path was begun and is not over.
 pub record StopsAsking (asked : Asked) (first : ℕ) (tells : AskingTells) (old new : AskingSeen) : Type 0 where
   pub done : List PathAsked
   pub between : PeerSeen
-  pub asks : Asks asked first done old.peer between
+  pub asks : AsksPaths asked first done old.peer between
   pub call : PathCall
   pub more : List PathCall
   pub at_hand : path_calls first asked.paths ≡ map (λ (one : PathAsked). one.call) done ++ call ∷ more
+  pub steady : between.faults ≡ old.peer.faults
   pub begins : Begins call.xid (call_bytes asked.client call) between new.peer
   pub kept : new.peer.started ≡ between.started
   pub out : IsTrue tells.out → new.out.written ≡ old.out.written ++ printed_of asked.client.mode done
@@ -90,7 +91,7 @@ pub record StopsAsking (asked : Asked) (first : ℕ) (tells : AskingTells) (old 
 pub record StopsPrinting (asked : Asked) (first : ℕ) (tells : AskingTells) (old new : AskingSeen) : Type 0 where
   pub printed : List PathAsked
   pub last : PathAsked
-  pub asks : Asks asked first (printed ++ last ∷ []) old.peer new.peer
+  pub asks : AsksPaths asked first (printed ++ last ∷ []) old.peer new.peer
   pub out : IsTrue tells.out → AppendsPrefix (old.out.written ++ printed_of asked.client.mode printed) new.out.written
       (lines_of asked.client.mode last.call.path last.reply)
 
@@ -102,9 +103,10 @@ pub record IsRefused (fault : Fault) (tells : ClientTells) (old new : ClientSeen
   pub asking : new.asking ≡ old.asking
   pub err : Says (Usage fault.kind fault.word) tells.err old.err new.err
 
--- Nothing failed: the error output got nothing.
+-- Nothing failed, whatever the peer tells: its count of faults stayed, and the error output got nothing.
 pub record IsDone (asked : Asked) (first : ℕ) (tells : ClientTells) (old new : ClientSeen) (status : ℕ) : Type 0 where
   pub ended : status ≤ 1
+  pub steady : new.asking.peer.faults ≡ old.asking.peer.faults
   pub err : new.err ≡ old.err
   pub answers : IsTrue tells.asking.peer → HasAnswers asked first tells.asking old.asking new.asking status
 
@@ -116,10 +118,11 @@ pub record PeerFails (asked : Asked) (first : ℕ) (tells : ClientTells) (old ne
   pub stops : IsTrue tells.asking.peer
       → IsUnstarted old.asking new.asking ⊎ StopsAsking asked first tells.asking old.asking new.asking
 
--- The output failed.
+-- The output failed, and the peer did not.
 pub record OutFails (asked : Asked) (first : ℕ) (tells : ClientTells) (old new : ClientSeen) (status : ℕ) : Type 0 where
   pub ended : status ≡ 4
   pub failed : Rose old.asking.out.faults new.asking.out.faults
+  pub steady : new.asking.peer.faults ≡ old.asking.peer.faults
   pub err : Says SinkFault tells.err old.err new.err
   pub stops : IsTrue tells.asking.peer → StopsPrinting asked first tells.asking old.asking new.asking
 

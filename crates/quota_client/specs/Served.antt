@@ -1,27 +1,26 @@
 -- Whose reply a datagram is. The server may be any that gives a reply the xid of its call (RFC 5531, section 9).
-use Rattle.std.specs.Prelude.{◌≡◌, ℕ, ⊤, IfSome, List, map, Option, None, Some}
+use Rattle.std.specs.Prelude.{◌≡◌, ℕ, ◌<◌, ◌^◌, ⊤, IfSome, List, map, Option, None, Some}
 use Rattle.std.specs.List.{All, Contains}
 use Rattle.network.specs.Events.{Event}
 use Rattle.rquota_xdr.specs.Fields.{xid_of}
-use Rattle.rquota_xdr.specs.Reply.{FitsUnits, spelling_of}
+use Rattle.rquota_xdr.specs.Reply.{FitsUnits, reply_xid, spelling_of}
 use Rattle.rquota_xdr.specs.declared.reply.Reply.{Reply}
 use Rattle.quota_client.specs.declared.client.Client.{Client}
-use Rattle.quota_client.specs.Exchange.{reply_xid}
-use Rattle.quota_client.specs.Paths.{PathAsked, PathCall, call_bytes, events_of}
+use Rattle.quota_client.specs.Paths.{PathAsked, PathCall, call_bytes, events_taken}
 
 -- a server: its reply to a call at a moment, or none
 abbrev pub Server : Type 0
 Server = (call : List ℕ) → (moment : ℕ) → Option Reply
 
--- it gives each reply the xid of its call
-abbrev pub KeepsXid : Server → Type 0
-KeepsXid server = (call : List ℕ) (moment : ℕ) (reply : Reply) → server call moment ≡ Some reply → reply_xid reply ≡ xid_of call
+-- It gives each reply the xid of its call, and where that is a number of 32 bits each unit of the reply is.
+pub record KeepsXid (server : Server) : Type 0 where
+  pub xid : (call : List ℕ) (moment : ℕ) (reply : Reply) → server call moment ≡ Some reply → reply_xid reply ≡ xid_of call
+  pub fits : (call : List ℕ) (moment : ℕ) (reply : Reply) → xid_of call < 2 ^ 32 → server call moment ≡ Some reply → FitsUnits reply
 
 -- a datagram spells what the server replied to a call at some moment
 pub record IsReplyOf (server : Server) (call datagram : List ℕ) (reply : Reply) : Type 0 where
   pub moment : ℕ
   pub replied : server call moment ≡ Some reply
-  pub fits : FitsUnits reply
   pub spelled : datagram ≡ spelling_of reply
 
 -- An event that is a datagram is the server's reply to one of these calls, whichever it is, and whenever and however often it
@@ -38,4 +37,4 @@ HasOwnReply client server one = IfSome one.reply (λ reply. (datagram : List ℕ
 -- Where all datagrams that were taken are replies to calls of the run, each path that has a reply has its own.
 abbrev pub HaveOwnReplies : Client → (calls : List PathCall) → (done : List PathAsked) → Type 0
 HaveOwnReplies client calls done = (server : Server) → KeepsXid server
-    → All (ComesFrom server (map (call_bytes client) calls)) (events_of done) → All (HasOwnReply client server) done
+    → All (ComesFrom server (map (call_bytes client) calls)) (events_taken done) → All (HasOwnReply client server) done

@@ -10,7 +10,7 @@ use Rattle.quota_client.specs.declared.fault.ClientFault.TheVariants.{Asking, Pr
 use Rattle.quota_client.specs.Exchange.{Begins}
 use Rattle.quota_client.specs.Line.{is_answered, lines_of}
 use Rattle.quota_client.specs.Paths.{IsExchanged, PathAsked, PathCall, call_bytes, printed_of}
-use Rattle.quota_client.specs.Run.{AskingSeen, AskingTells, Asks, IsUnstarted, StopsAsking, StopsPrinting}
+use Rattle.quota_client.specs.Run.{AskingSeen, AskingTells, AsksPaths, IsUnstarted, StopsAsking, StopsPrinting}
 use Rattle.quota_client.specs.Words.{Asked}
 
 -- a path was asked for
@@ -39,9 +39,10 @@ pub record BeginsPath (client : Client) (call : PathCall) (tells : AskingTells) 
   pub begins : IsTrue tells.peer → Begins call.xid (call_bytes client call) old.peer new.peer
   pub out : new.out ≡ old.out
 
--- the output failed behind the exchange of a path
+-- the output failed behind the exchange of a path, in which the peer did not fail
 pub record FailsPath (client : Client) (call : PathCall) (tells : AskingTells) (old new : AskingSeen) : Type 0 where
   pub failed : Rose old.out.faults new.out.faults
+  pub steady : new.peer.faults ≡ old.peer.faults
   pub prints : IsTrue tells.peer → PrintsPathInPart client call tells old new
 
 -- why a path was not asked for and printed
@@ -53,7 +54,7 @@ StopsAtPath client call tells old new Printing = FailsPath client call tells old
 pub record PrintsFirst (asked : Asked) (first : ℕ) (tells : AskingTells) (old new : AskingSeen) (count : ℕ) (answered : Bool) : Type 0 where
   pub done : List PathAsked
   pub number : length done ≡ count
-  pub asks : Asks asked first done old.peer new.peer
+  pub asks : AsksPaths asked first done old.peer new.peer
   pub out : IsTrue tells.out → new.out.written ≡ old.out.written ++ printed_of asked.client.mode done
   pub is_answered : answered ≡ list_all (λ (one : PathAsked). is_answered one.reply) done
 
@@ -62,9 +63,10 @@ pub record PeerStops (asked : Asked) (first : ℕ) (tells : AskingTells) (old ne
   pub failed : Rose old.peer.faults new.peer.faults
   pub stops : IsTrue tells.peer → IsUnstarted old new ⊎ StopsAsking asked first tells old new
 
--- the output failed
+-- the output failed, and the peer did not
 pub record OutStops (asked : Asked) (first : ℕ) (tells : AskingTells) (old new : AskingSeen) : Type 0 where
   pub failed : Rose old.out.faults new.out.faults
+  pub steady : new.peer.faults ≡ old.peer.faults
   pub stops : IsTrue tells.peer → StopsPrinting asked first tells old new
 
 -- why not all paths were asked for and printed

@@ -1,4 +1,4 @@
-ghost use Rattle.std.specs.Prelude.{◌≡◌, ◌≤◌, length, IsTrue, IfErr, IfOk};
+ghost use Rattle.std.specs.Prelude.{◌≡◌, ◌≤◌, length, IsTrue, IfErr, IfOk, OnOk};
 ghost use Rattle.std.specs.List.{AllPass};
 ghost use Rattle.network.specs.Events.{KeepsStart};
 ghost use Rattle.option_words.specs.Items.{texts_of};
@@ -32,6 +32,7 @@ pub(crate) fn ask_paths<P: Peer, O: Sink>(
         → PrintsFirst (record { client = client.now; paths = texts_of paths.now }) xid (asking_tells P.tells O.tells)
         (asking_of (P.seen peer.old) (O.seen out.old)) (asking_of (P.seen peer.new) (O.seen out.new))
         (length paths.now) answered) }
+    ensures steady { OnOk result ((P.seen peer.new).faults ≡ (P.seen peer.old).faults) }
     ensures stopped { IfErr result (StopsAtPaths (record { client = client.now; paths = texts_of paths.now }) xid
         (asking_tells P.tells O.tells)
         (asking_of (P.seen peer.old) (O.seen out.old)) (asking_of (P.seen peer.new) (O.seen out.new))) }
@@ -63,6 +64,7 @@ fn print_path<P: Peer, O: Sink>(
     ensures done { IfOk result (λ answered. IsTrue P.tells
         → PrintsPath client.now (record { xid = xid; path = path.now }) (asking_tells P.tells O.tells)
         (asking_of (P.seen peer.old) (O.seen out.old)) (asking_of (P.seen peer.new) (O.seen out.new)) answered) }
+    ensures steady { OnOk result ((P.seen peer.new).faults ≡ (P.seen peer.old).faults) }
     ensures stopped { IfErr result (StopsAtPath client.now (record { xid = xid; path = path.now })
         (asking_tells P.tells O.tells)
         (asking_of (P.seen peer.old) (O.seen out.old)) (asking_of (P.seen peer.new) (O.seen out.new))) }

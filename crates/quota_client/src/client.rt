@@ -1,4 +1,4 @@
-use crate::Mode;
+use crate::mode::Mode;
 
 /// Who asks, at which port, and what is printed.
 #[derive(Clone, Copy)]

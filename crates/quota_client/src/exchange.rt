@@ -1,8 +1,9 @@
-ghost use Rattle.std.specs.Prelude.{◌≡◌, ◌≤◌, length, None, IsTrue, IfNone, IfOk, IfSome, OnErr};
+ghost use Rattle.std.specs.Prelude.{◌≡◌, ◌≤◌, length, None, IsTrue, IfNone, IfOk, IfSome, OnErr, OnOk};
 ghost use Rattle.outside.specs.Count.{Rose};
 ghost use Rattle.network.specs.Events.{KeepsStart};
+ghost use Rattle.rquota_xdr.specs.Reply.{reply_xid};
 ghost use Rattle.rquota_xdr.specs.declared.reply.Reply.{Reply};
-ghost use Rattle.quota_client.specs.Exchange.{Begins, Exchanges, IsReplyTo, reply_xid};
+ghost use Rattle.quota_client.specs.Exchange.{Begins, Exchanges, IsReplyTo};
 ghost use Rattle.quota_client.specs.Receiving.{Attempts, HasXid, IsRead, Receives, StopsBehind};
 
 use network::{Peer, PeerFault};
@@ -31,6 +32,9 @@ pub(crate) enum Received {
 /// were 64 others. So replies to other calls are passed over, whether they come late, twice or out of order, and so is
 /// whatever is no reply. No memory of the heap is taken.
 ///
+/// `call` has at most 1,092 bytes, as `write_call` makes them, and `xid` is the number that it begins with: what is sent is
+/// not looked at here.
+///
 /// # Errors
 ///
 /// The peer failed. The exchange was begun, and what was taken of the events does not complete it.
@@ -41,6 +45,7 @@ pub fn ask<P: Peer>(peer: &mut P, xid: u32, call: &[u8]) -> Result<Option<Reply>
     ensures begun { OnErr result (IsTrue P.tells → Begins xid call.now (P.seen peer.old) (P.seen peer.new)) }
     // Whatever the peer tells, a reply has this xid.
     ensures own { IfOk result (λ reply. IfSome reply (λ found. reply_xid found ≡ xid)) }
+    ensures steady { OnOk result ((P.seen peer.new).faults ≡ (P.seen peer.old).faults) }
     ensures cause { OnErr result (Rose (P.seen peer.old).faults (P.seen peer.new).faults) }
     ensures leaves { KeepsStart (P.seen peer.old) (P.seen peer.new) }
 {
@@ -60,6 +65,7 @@ fn await_reply<P: Peer>(peer: &mut P, xid: u32) -> Result<Option<Reply>, PeerFau
         → Attempts xid (P.seen peer.old) (P.seen peer.new) reply) }
     ensures stopped { OnErr result (IsTrue P.tells → StopsBehind xid (P.seen peer.old) (P.seen peer.new)) }
     ensures own { IfOk result (λ reply. IfSome reply (λ found. reply_xid found ≡ xid)) }
+    ensures steady { OnOk result ((P.seen peer.new).faults ≡ (P.seen peer.old).faults) }
     ensures cause { OnErr result (Rose (P.seen peer.old).faults (P.seen peer.new).faults) }
     ensures leaves { KeepsStart (P.seen peer.old) (P.seen peer.new) }
 {
@@ -81,6 +87,7 @@ fn receive<P: Peer>(peer: &mut P, xid: u32, buf: &mut [u8; 4096]) -> Result<Rece
     ensures own { IfOk result (HasXid xid) }
     ensures fault { OnErr result (IsTrue P.tells → (P.seen peer.new).left ≡ (P.seen peer.old).left) }
     ensures sent { (P.seen peer.new).sent ≡ (P.seen peer.old).sent }
+    ensures steady { OnOk result ((P.seen peer.new).faults ≡ (P.seen peer.old).faults) }
     ensures cause { OnErr result (Rose (P.seen peer.old).faults (P.seen peer.new).faults) }
     ensures leaves { KeepsStart (P.seen peer.old) (P.seen peer.new) }
 {

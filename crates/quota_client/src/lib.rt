@@ -23,7 +23,6 @@ mod words;
 
 pub use call_writer::write_call;
 pub use exchange::ask;
-pub use mode::Mode;
 pub use run::run_client;
 
 // What the calls of this crate ask is a peer, which is found here with them.

@@ -1,4 +1,4 @@
-ghost use Rattle.std.specs.Prelude.{◌≡◌, ◌≤◌, ◌↔◌, ◌⊎◌, [], length, IsErr, IsTrue, Ok};
+ghost use Rattle.std.specs.Prelude.{◌≡◌, ◌≤◌, ◌↔◌, ◌⊎◌, length, IsErr, Ok};
 ghost use Rattle.std.specs.List.{AllPass};
 ghost use Rattle.refusals.specs.Status.{status_of};
 ghost use Rattle.option_words.specs.Items.{texts_of};
@@ -17,8 +17,10 @@ use refusals::{Cause, Place, write_cause};
 /// has a quota or has none, 1 some path has another answer, 2 the words are outside the grammar, 4 a fault of the peer or
 /// of the output. With status 2 or 4 one error line goes to `err`.
 ///
-/// `words` are the words of the command line without the program's own name: MODE PORT UID GID and 1 to 16 paths. Path k,
-/// counted from 0, is asked for with `xid` + k modulo 2^32. No memory of the heap is taken.
+/// `words` are the words of the command line without the program's own name: MODE PORT UID GID and 1 to 16 paths. MODE is
+/// `quota` or `warn`, PORT from 1 to 65,535, UID and GID are below 2^32, each number of 1 to 20 decimal digits, and a path has
+/// 1 to 1,024 bytes from `!` to `~`. Path k, counted from 0, is asked for with `xid` + k modulo 2^32, whatever `xid` is. No
+/// memory of the heap is taken.
 pub fn run_client<P: Peer, O: Sink, E: Sink>(
     words: &[String],
     peer: &mut P,

@@ -1,15 +1,14 @@
-ghost use Rattle.std.specs.Prelude.{◌≡◌, ◌<◌, ◌≤◌, ◌^◌, not, length, position, string_bytes, None, Some, Ok, Err, IfOk, MatchOption, MatchResult};
-ghost use Rattle.std.specs.List.{AllPass, list_all};
+ghost use Rattle.std.specs.Prelude.{◌≡◌, ◌≤◌, not, length, position, string_bytes, None, Some, Ok, Err, IfOk, MatchResult};
+ghost use Rattle.std.specs.List.{AllPass};
 ghost use Rattle.refusals.specs.declared.cause.UsageKind.TheVariants.{WrongOperands};
 ghost use Rattle.option_words.specs.Fault.{fault};
-ghost use Rattle.option_words.specs.FileName.{is_graphic};
 ghost use Rattle.option_words.specs.Items.{texts_of};
 ghost use Rattle.option_words.specs.Values.{number_within};
 ghost use Rattle.quota_client.specs.Words.{asked_of, client_of, is_path, mode_of};
 
-use crate::Mode;
 use crate::client::Client;
-use option_words::{Fault, checked, is_export_path, number_within};
+use crate::mode::Mode;
+use option_words::{Fault, all_graphic, checked, is_export_path, number_within};
 use refusals::UsageKind;
 
 /// The most paths.
@@ -104,12 +103,5 @@ fn first_other(words: &[String]) -> Option<usize>
 fn is_path(word: &str) -> bool
     ensures { result ≡ is_path word.now }
 {
-    is_export_path(word) && is_graphic(word.as_bytes())
-}
-
-/// Whether each byte is one from `!` to `~`.
-fn is_graphic(bytes: &[u8]) -> bool
-    ensures { result ≡ list_all is_graphic bytes.now }
-{
-    bytes.iter().all(|byte| 33 <= *byte && *byte <= 126)
+    is_export_path(word) && all_graphic(word.as_bytes())
 }

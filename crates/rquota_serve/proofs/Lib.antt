@@ -4,3 +4,4 @@ pub mod NumberLemmas
 pub mod ReplyLemmas
 pub mod ServingLemmas
 pub mod LookingLemmas
+pub mod XidLemmas

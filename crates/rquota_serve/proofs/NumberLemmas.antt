@@ -1,5 +1,5 @@
 -- The size of a block, found by trying one power of two after another.
-use Rattle.std.proofs.Common.{◌≡◌, ◌≤◌, ◌+◌, ℕ, zero, suc, Bool, true, false, cond, Some, refl, sym, ap, ◌∙◌, arith}
+use Rattle.std.proofs.Common.{◌≡◌, ◌≤◌, ◌+◌, ℕ, zero, suc, Bool, true, false, cond, Some, refl, sym, ap, subst, ◌∙◌, arith}
 use Rattle.std.specs.List.{find, range_with_len}
 use Rattle.std.specs.Option.{unwrap_or}
 use Rattle.quota_types.specs.declared.record.Rec.{Rec}
@@ -43,3 +43,20 @@ pub sought-last : (rec : Rec) (power : ℕ) → 31 ≤ power → IsSought rec po
 sought-last rec power past so_far =
     let none : so_far.more ≡ 0 = omega (arith, past, so_far.up_to) in
     sym (so_far.sought ∙ ap (λ (m : ℕ). unwrap_or (find (fit_blocks rec) (range_with_len power m)) 30) none)
+
+chosen_within : (test : Bool) (one two : ℕ) → one ≤ 30 → two ≤ 30 → cond test one two ≤ 30
+chosen_within true one two first second = first
+chosen_within false one two first second = second
+
+tried_within : (rec : Rec) (power more : ℕ) → power + more ≡ 31 → unwrap_or (find (fit_blocks rec) (range_with_len power more)) 30 ≤ 30
+tried_within rec power zero is = omega arith
+tried_within rec power (suc more) is =
+    let rest = tried_within rec (power + 1) more (omega (arith, is)) in
+    let chosen = chosen_within (fit_blocks rec power) power _ (omega (arith, is)) rest in
+    subst (λ (n : ℕ). n ≤ 30) (sym (step rec power more (fit_blocks rec power) refl)) chosen
+
+-- the greatest power is 30
+pub block_power-within : (rec : Rec) → block_power rec ≤ 30
+block_power-within rec =
+    let first = sought-first rec in
+    subst (λ (n : ℕ). n ≤ 30) (sym first.sought) (tried_within rec 10 first.more first.up_to)

@@ -12,6 +12,7 @@ mod asking;
 mod export;
 mod exports;
 mod fault;
+pub mod laws;
 mod new_export;
 mod numbers;
 mod serving;

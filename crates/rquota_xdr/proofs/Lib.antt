@@ -3,3 +3,4 @@ pub mod RowLemmas
 pub mod SpellingLemmas
 pub mod ReplyLemmas
 pub mod QuestionLemmas
+pub mod XidLemmas

@@ -33,7 +33,7 @@ answer_of P true told answer rest is more fails = more fails
 answer_of P false told answer rest is more fails = let same : told ≡ answer = cc in subst P same is
 
 -- what holds of the answer of each row holds of that of the first that fails
-first_failing_answer : (P : Call → Type 0) (rows : List Row) (answer : Call) → AllByRecursion (λ row. P row.answer) rows → first_failing rows ≡ Some answer → P answer
+pub first_failing_answer : (P : Call → Type 0) (rows : List Row) (answer : Call) → AllByRecursion (λ row. P row.answer) rows → first_failing rows ≡ Some answer → P answer
 first_failing_answer P [] answer all fails = absurd cc
 first_failing_answer P (row ∷ rows) answer all fails =
     answer_of P row.holds row.answer answer (first_failing rows) all.0 (first_failing_answer P rows answer all.1) fails

@@ -1,5 +1,5 @@
 -- What a datagram asks of an rquota server: the table of what must hold of a call, in the order in which it is told.
-use Rattle.std.specs.Prelude.{ℕ, ◌+◌, ◌≤◌, not, ◌||◌, ◌==◌, nat_le, if◌then◌else◌, List, [], ◌∷◌, ◌++◌, length, unwrap_or}
+use Rattle.std.specs.Prelude.{◌≡◌, ℕ, ◌+◌, ◌<◌, ◌^◌, ◌≤◌, not, ◌||◌, ◌==◌, nat_le, if◌then◌else◌, List, [], ◌∷◌, ◌++◌, length, unwrap_or}
 use Rattle.rquota_xdr.specs.Fields.{caller_of, flavor_of, has_arguments, id_of, is_credential, is_set, is_system_credential, is_verifier, kind_of, message_type_of, path_of, procedure_of, program_of, rpc_version_of, version_of, xid_of}
 use Rattle.rquota_xdr.specs.Rows.{Row, ◌otherwise◌, first_failing}
 use Rattle.rquota_xdr.specs.declared.call.Call.{Call}
@@ -73,3 +73,16 @@ call_of datagram = unwrap_or (first_failing (rows_of datagram)) (accepted datagr
 abbrev pub HasPathWithin : ℕ → Call → Type 0
 HasPathWithin len (Get xid caller path kind id) = (path.start + path.len ≤ len) × (path.len ≤ 1024)
 HasPathWithin len _ = Unit {0}
+
+-- what a datagram asks has this xid, unless it is no call, and an `auth_stat` is a number of 32 bits
+abbrev pub IsAskedWith : (xid : ℕ) → Call → Type 0
+IsAskedWith xid Silent = Unit {0}
+IsAskedWith xid (OldRpc own) = own ≡ xid
+IsAskedWith xid (NoProgram own) = own ≡ xid
+IsAskedWith xid (NoVersion own) = own ≡ xid
+IsAskedWith xid (NoProcedure own) = own ≡ xid
+IsAskedWith xid (Auth own stat) = (own ≡ xid) × (stat < 2 ^ 32)
+IsAskedWith xid (Garbage own) = own ≡ xid
+IsAskedWith xid (Null own) = own ≡ xid
+IsAskedWith xid (Get own caller path kind id) = own ≡ xid
+IsAskedWith xid (Set own) = own ≡ xid

@@ -50,3 +50,16 @@ AreNumbers units = AllByRecursion (λ unit. unit < 2 ^ 32) units
 -- each unit of the reply is a number of 32 bits
 abbrev pub FitsUnits : Reply → Type 0
 FitsUnits reply = AreNumbers (units_of reply)
+
+-- the xid of a reply, by which it is known to be one to the call with this xid
+abbrev pub reply_xid : Reply → ℕ
+reply_xid (reply.OldRpc xid) = xid
+reply_xid (reply.NoProgram xid) = xid
+reply_xid (reply.NoVersion xid) = xid
+reply_xid (reply.NoProcedure xid) = xid
+reply_xid (reply.Auth xid stat) = xid
+reply_xid (reply.Garbage xid) = xid
+reply_xid (reply.Null xid) = xid
+reply_xid (reply.Quota xid quota) = xid
+reply_xid (reply.NoQuota xid) = xid
+reply_xid (reply.Denied xid) = xid

@@ -1,6 +1,8 @@
 //! Laws of the codec.
 
-ghost use Rattle.std.specs.Prelude.{◌≡◌, Some};
+ghost use Rattle.std.specs.Prelude.{◌≡◌, ℕ, List, Some};
+ghost use Rattle.rquota_xdr.specs.Call.{IsAskedWith, call_of};
+ghost use Rattle.rquota_xdr.specs.Fields.{xid_of};
 ghost use Rattle.rquota_xdr.specs.Question.{Asks, IsQuestion, Question, question_bytes};
 ghost use Rattle.rquota_xdr.specs.Reply.{FitsUnits, spelling_of};
 ghost use Rattle.rquota_xdr.specs.declared.reply.Reply.{Reply};
@@ -25,4 +27,9 @@ pub fn a_spelling_has_one_meaning()
 /// A call for limits that was written field by field asks for what its fields say.
 pub fn a_written_call_is_what_is_asked()
     ensures { (q : Question) → IsQuestion q → Asks (question_bytes q) q }
+{}
+
+/// What a datagram asks has its xid, unless it is no call of RPC.
+pub fn what_is_asked_has_the_xid_of_the_datagram()
+    ensures { (datagram : List ℕ) → IsAskedWith (xid_of datagram) (call_of datagram) }
 {}

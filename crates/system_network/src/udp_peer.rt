@@ -1,4 +1,4 @@
-ghost use Rattle.std.specs.Prelude.{◌≡◌, ◌≤◌, IfOk, IfSome, Ok, OnErr};
+ghost use Rattle.std.specs.Prelude.{◌≡◌, ◌≤◌, IfOk, IfSome, Ok, OnErr, OnOk};
 ghost use Rattle.outside.specs.Count.{Rose};
 
 use network::{Peer, PeerFault};
@@ -92,6 +92,7 @@ impl<'a, R: Net + Clock> UdpPeer<'a, R> {
     /// Turns an error of the system, at a call on a port, into a fault, which is counted and noted.
     fn counting<T>(&mut self, port: u16, answer: io::Result<T>) -> Result<T, PeerFault>
         ensures ok { IfOk result (λ value. answer ≡ Ok value) }
+        ensures steady { OnOk result (self.new.faults ≡ self.old.faults) }
         ensures cause { OnErr result (Rose self.old.faults self.new.faults) }
         ensures later { self.old.faults ≤ self.new.faults }
     {

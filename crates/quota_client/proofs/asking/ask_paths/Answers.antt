@@ -1,4 +1,4 @@
-use Rattle.std.proofs.Common.{◌≡◌, ◌+◌, ◌%◌, ◌^◌, ◌<◌, ◌≤◌, Bool, length, refl, sym, subst, arith}
+use Rattle.std.proofs.Common.{◌≡◌, ◌+◌, ◌%◌, ◌^◌, ◌<◌, ◌≤◌, Bool, length, refl, sym, subst, ◌∙◌, arith}
 use Rattle.std.specs.Prelude.{◌&&◌}
 use Rattle.std.proofs.lemmas.Result.{err_from_is_err_and}
 use Rattle.option_words.specs.Items.{texts_of}
@@ -19,6 +19,7 @@ loop-place-init g c =
     record {
       prints = λ told. prints-none asked c.args.xid (asking_tells P.tells O.tells) (asking_of (P.seen c.args.peer.now) (O.seen c.args.out.now)) (asking_of (P.seen c.start.new.self) (O.seen c.args.out.now))
           (c.in_ok-start.ensures.started told) c.start.ensures.left c.start.ensures.sent refl;
+      steady = c.in_ok-start.ensures.steady;
       later = record { peer = c.start.ensures.later; out = omega arith };
     }
 
@@ -42,7 +43,7 @@ returns-in_err-is_answered-clause-stopped g c =
     rw (p.1, p.2)
     (stops_at asked c.args.xid (asking_tells P.tells O.tells) (asking_of (P.seen c.args.peer.now) (O.seen c.args.out.now)) (asking_of (P.seen c.loop-place.peer) (O.seen c.loop-place.out))
     (asking_of (P.seen c.print_path.new.peer) (O.seen c.print_path.new.out)) c.loop-place.place call c.loop-place.answered c.in_err-is_answered.field-0.0 few some here c.loop-place.invariant.later
-    c.loop-place.invariant.prints c.print_path.ensures.leaves.started c.in_err-is_answered.ensures.stopped)
+    c.loop-place.invariant.steady c.loop-place.invariant.prints c.print_path.ensures.leaves.started c.in_err-is_answered.ensures.stopped)
 
 pub loop-place-preserved : goal.loop-place-preserved
 loop-place-preserved g c =
@@ -65,5 +66,6 @@ loop-place-preserved g c =
           subst (λ (b : Bool). PrintsFirst asked c.args.xid (asking_tells P.tells O.tells) before after (c.loop-place.place + 1) b) (sym both)
           (prints-more asked c.args.xid (asking_tells P.tells O.tells) before between after c.loop-place.place call c.loop-place.answered c.in_ok-is_answered.is_answered few some here
           (c.loop-place.invariant.prints told) (c.in_ok-is_answered.ensures.done told) c.print_path.ensures.leaves.started);
+      steady = c.in_ok-is_answered.ensures.steady ∙ c.loop-place.invariant.steady;
       later = let one = c.loop-place.invariant.later in let two = c.print_path.ensures.later in record { peer = omega (arith, one.peer, two.peer); out = omega (arith, one.out, two.out) };
     }

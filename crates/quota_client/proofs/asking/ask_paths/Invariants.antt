@@ -1,4 +1,4 @@
-use Rattle.std.proofs.Common.{IsTrue}
+use Rattle.std.proofs.Common.{◌≡◌, IsTrue}
 use Rattle.option_words.specs.Items.{texts_of}
 use Rattle.quota_client.specs.Run.{asking_of, asking_tells}
 use Rattle.quota_client.specs.Steps.{AreLater, PrintsFirst}
@@ -13,5 +13,6 @@ invariant-loop-place g l =
     record {
       prints : IsTrue P.tells
           → PrintsFirst asked l.xid (asking_tells P.tells O.tells) (asking_of (P.seen l.fn.peer) (O.seen l.fn.out)) (asking_of (P.seen l.peer) (O.seen l.out)) l.place l.answered;
+      steady : (P.seen l.peer).faults ≡ (P.seen l.fn.peer).faults;
       later : AreLater (asking_of (P.seen l.fn.peer) (O.seen l.fn.out)) (asking_of (P.seen l.peer) (O.seen l.out));
     }

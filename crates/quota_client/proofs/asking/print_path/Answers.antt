@@ -19,6 +19,7 @@ returns-in_err-write_lines-clause-stopped g c =
     let fails = rw c.as_bytes-path.ensures.value at c.in_err-write_lines.ensures in
     rw (p.1, p.2) (record {
       failed = fails.failed;
+      steady = c.in_ok-reply.ensures.steady;
       prints = λ told. prints_part client call _ (asking_tells P.tells O.tells) (asking_of (P.seen c.args.peer.now) (O.seen c.args.out.now)) (asking_of (P.seen c.ask.new.peer) (O.seen c.write_lines.new.out))
           c.in_ok-reply.reply bytes (c.in_ok-reply.ensures.exchanged told) fails.part;
     })

@@ -1,4 +1,4 @@
-use Rattle.std.proofs.Common.{Option, subst}
+use Rattle.std.proofs.Common.{Option, subst, ◌∙◌}
 use Rattle.std.proofs.lemmas.Result.{err_from_is_err_and}
 use Rattle.network.proofs.EventsLemmas.{keeps_start-then}
 use Rattle.rquota_xdr.specs.declared.reply.Reply.{Reply}
@@ -29,5 +29,6 @@ loop-attempt-preserved g c =
           let one = subst (λ (r : Option Reply). Attempts c.args.xid (P.seen c.send.new.self) (P.seen c.await_reply.new.peer) r) c.in_default.is (c.in_ok-reply.ensures.attempted told) in
           unanswered-more c.args.xid c.loop-attempt._attempt c.args.call.now (P.seen c.args.peer.now) (P.seen c.loop-attempt.peer) (P.seen c.send.new.self) (P.seen c.await_reply.new.peer)
           (c.loop-attempt.invariant.unanswered told) c.send.ensures.left (c.in_ok-send.ensures.sent told) one;
+      steady = c.in_ok-reply.ensures.steady ∙ c.in_ok-send.ensures.steady ∙ c.loop-attempt.invariant.steady;
       leaves = keeps_start-then _ _ _ (keeps_start-then _ _ _ c.loop-attempt.invariant.leaves c.send.ensures.leaves) c.await_reply.ensures.leaves;
     }

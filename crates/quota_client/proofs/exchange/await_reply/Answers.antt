@@ -1,4 +1,4 @@
-use Rattle.std.proofs.Common.{subst}
+use Rattle.std.proofs.Common.{subst, ◌∙◌}
 use Rattle.network.proofs.EventsLemmas.{keeps_start-then}
 use Rattle.quota_client.specs.declared.exchange.Received.{Received}
 use Rattle.quota_client.specs.Receiving.{Receives}
@@ -25,5 +25,6 @@ loop-other-preserved g c =
       passes = λ told.
           let one = subst (λ (r : Received). Receives c.args.xid (P.seen c.loop-other.peer) (P.seen c.receive.new.peer) r) c.in-Other.is (c.in_ok-receive.ensures.received told) in
           passes-more c.args.xid c.loop-other._other (P.seen c.args.peer.now) (P.seen c.loop-other.peer) (P.seen c.receive.new.peer) (c.loop-other.invariant.passes told) one c.receive.ensures.sent;
+      steady = c.in_ok-receive.ensures.steady ∙ c.loop-other.invariant.steady;
       leaves = keeps_start-then _ _ _ c.loop-other.invariant.leaves c.receive.ensures.leaves;
     }
