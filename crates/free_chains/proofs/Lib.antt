@@ -6,4 +6,5 @@ pub mod FreeListLemmas
 pub mod EntryListLemmas
 pub mod LeaveLemmas
 pub mod CountLemmas
+pub mod RoomLemmas
 pub mod LinkLemmas

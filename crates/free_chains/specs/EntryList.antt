@@ -10,6 +10,10 @@ use Rattle.free_chains.specs.Chain.{IsChain}
 use Rattle.free_chains.specs.Links.{HasLinks, led_to}
 use Rattle.free_chains.specs.declared.heads.Heads.{Heads}
 
+-- a block, and the blocks to which its links lead, that to the block before it first
+abbrev pub blocks_beside : List ℕ → (block : ℕ) → List ℕ
+blocks_beside file block = block ∷ led_to (previous_of file block) ++ led_to (next_of file block)
+
 -- each block of a list names the one before it, the first one 0
 abbrev pub NamesPrevious : (file chain : List ℕ) → Type 0
 NamesPrevious file chain = map (previous_of file) chain ≡ take (length chain) (0 ∷ chain)

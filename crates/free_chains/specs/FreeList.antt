@@ -1,9 +1,11 @@
 -- What calls do with the list of free blocks. Source: `get_free_dqblk` and `put_free_dqblk` of the kernel's
 -- `fs/quota/quota_tree.c`.
-use Rattle.std.specs.Prelude.{◌≡◌, ◌≢◌, ◌⊎◌, ℕ, ◌+◌, ◌<◌, ◌≤◌, IsTrue, List, [], ◌∷◌, length, min, replicate}
+use Rattle.std.specs.Prelude.{◌≡◌, ◌≢◌, ◌⊎◌, ℕ, ◌+◌, ◌<◌, ◌≤◌, IsTrue, List, [], ◌∷◌, length, min, replicate, take}
 use Rattle.quota_types.specs.Bytes.{byte_at}
 use Rattle.quota_types.specs.Times.{times}
 use Rattle.file_blocks.specs.Block.{block_of, leads, next_of}
+use Rattle.quota_pages.specs.Page.{Page}
+use Rattle.quota_pages.specs.Used.{missing_among}
 use Rattle.free_chains.specs.Chain.{IsChain}
 use Rattle.free_chains.specs.declared.heads.Heads.{Heads}
 
@@ -56,6 +58,11 @@ pub record GivesBlock (old new : List ℕ) (heads : Heads) (block : ℕ) : Type 
 pub record CountsFree (file : List ℕ) (heads : Heads) (most count : ℕ) : Type 0 where
   pub is : (chain : List ℕ) (end : ℕ) → IsChain file heads.blocks heads.free chain end → count ≡ min most (length chain)
   pub inside : (chain : List ℕ) (end : ℕ) → IsChain file heads.blocks heads.free chain end → length chain < most → end < heads.blocks
+
+-- Each of the first blocks of the list of free blocks, up to this many, is buffered, or there is room for it.
+abbrev pub CountsWithin : (file : List ℕ) → Heads → (most : ℕ) → List Page → Type 0
+CountsWithin file heads most pages =
+    (chain : List ℕ) (end : ℕ) → IsChain file heads.blocks heads.free chain end → length pages + missing_among pages (take most chain) ≤ 12
 
 -- The list of free blocks ends at this number, and before that it has fewer blocks than were asked for.
 pub record EndsBefore (file : List ℕ) (heads : Heads) (most number : ℕ) : Type 0 where

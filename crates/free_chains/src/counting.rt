@@ -1,10 +1,10 @@
 //! How many blocks are free.
 
-ghost use Rattle.std.specs.Prelude.{◌≡◌, ◌+◌, ◌<◌, ◌≤◌, length, IfOk, IfErr, is_ok};
+ghost use Rattle.std.specs.Prelude.{◌≡◌, ◌⊎◌, ◌+◌, ◌<◌, ◌≤◌, length, IfOk, IfErr, is_ok};
 ghost use Rattle.quota_pages.specs.Pages.{HoldsAsBuffered, pages_of};
 ghost use Rattle.quota_pages.specs.Used.{IsKnown, LooksAtSome, shown_over};
 ghost use Rattle.free_chains.specs.ChainFault.{IfOut, IsChainFault};
-ghost use Rattle.free_chains.specs.FreeList.{CountsFree, EndsBefore};
+ghost use Rattle.free_chains.specs.FreeList.{CountsFree, CountsWithin, EndsBefore};
 
 use crate::chain_fault::ChainFault;
 use crate::heads::Heads;
@@ -14,7 +14,8 @@ use quota_pages::Pages;
 use quota_types::{DamageKind, damage_at};
 
 /// Counts the blocks of the list of free blocks, as far as `most`, which is 4 at most. A list that returns to one of
-/// its blocks ends there. It reads `most` blocks at most.
+/// its blocks ends there. It reads `most` blocks at most: there is room for as many, or, where the list is known, each of
+/// its first blocks, up to `most`, is buffered or there is room for it.
 ///
 /// # Errors
 ///
@@ -27,7 +28,8 @@ pub fn count_free<S: Store>(
     most: u32,
 ) -> Result<u32, ChainFault>
     requires most { most ≤ 4 }
-    requires room { length (pages_of pages.old) + most ≤ 12 }
+    requires room { (length (pages_of pages.old) + most ≤ 12) ⊎ (IsKnown S.tells (S.seen store.old) pages.old
+        × CountsWithin (shown_over (S.seen store.old) pages.old) heads.now most (pages_of pages.old)) }
     ensures few { IfOk result (λ count. count ≤ most) }
     ensures count { IfOk result (λ count. IsKnown S.tells (S.seen store.old) pages.old
         → CountsFree (shown_over (S.seen store.old) pages.old) heads.now most count) }

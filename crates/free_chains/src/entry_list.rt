@@ -4,11 +4,11 @@ ghost use Rattle.std.specs.Prelude.{◌≡◌, ℕ, ◌+◌, ◌<◌, ◌≤◌,
 ghost use Rattle.outside.specs.Count.{Rose};
 ghost use Rattle.quota_pages.specs.Page.{is_buffered};
 ghost use Rattle.quota_pages.specs.Pages.{HoldsAsBuffered, pages_of};
-ghost use Rattle.quota_pages.specs.Used.{IsKnown, LendsSome, LooksAtSome, shown_over};
+ghost use Rattle.quota_pages.specs.Used.{HasRoomWithin, IsKnown, LendsSome, LooksAtSome, missing_among, shown_over};
 ghost use Rattle.free_chains.specs.Chain.{IsChain};
 ghost use Rattle.free_chains.specs.ChainFault.{IfOut, IsChainFault};
 ghost use Rattle.free_chains.specs.Links.{ChangesLinksAlone, led_to};
-ghost use Rattle.free_chains.specs.EntryList.{AreApart, EntersList, LeavesList, NamesPrevious, StopsLeaving, TakesOut, Unlinks};
+ghost use Rattle.free_chains.specs.EntryList.{AreApart, EntersList, LeavesList, NamesPrevious, StopsLeaving, TakesOut, Unlinks, blocks_beside};
 
 use crate::block_links::{bring, link_at, set_link, set_links};
 use crate::chain_fault::ChainFault;
@@ -18,7 +18,8 @@ use quota_pages::Pages;
 use quota_types::{DamageKind, damage_at};
 
 /// Puts a block before the list of data blocks that have room. Its links become the old head and 0, and the old first
-/// block, where there is one, names it as the block before. All other bytes stay. It reads two blocks at most.
+/// block, where there is one, names it as the block before. All other bytes stay. It reads two blocks at most: each of
+/// them is buffered, or there is room for it.
 ///
 /// # Errors
 ///
@@ -30,7 +31,8 @@ pub fn enter_entry_list<S: Store>(
     heads: &mut Heads,
     n: u32,
 ) -> Result<(), ChainFault>
-    requires { length (pages_of pages.old) + 2 ≤ 12 }
+    requires { heads.old.first < heads.old.blocks
+        → length (pages_of pages.old) + missing_among (pages_of pages.old) (n ∷ led_to heads.old.first) ≤ 12 }
     ensures head { OnOk result (heads.new ≡ record heads.old { first = n }) }
     ensures inside { OnOk result (heads.old.first < heads.old.blocks) }
     ensures entered { OnOk result (IsKnown S.tells (S.seen store.old) pages.old
@@ -56,7 +58,8 @@ pub fn enter_entry_list<S: Store>(
 }
 
 /// Takes a block out of the list of data blocks that have room. The blocks before it and behind it are linked to each
-/// other, and its own links become 0. All other bytes stay. It reads three blocks at most.
+/// other, and its own links become 0. All other bytes stay. It reads three blocks at most: there is room for as many, or,
+/// where it is known which they are, each of them is buffered or there is room for it.
 ///
 /// # Errors
 ///
@@ -68,7 +71,8 @@ pub fn leave_entry_list<S: Store>(
     heads: &mut Heads,
     n: u32,
 ) -> Result<(), ChainFault>
-    requires { length (pages_of pages.old) + 3 ≤ 12 }
+    requires { HasRoomWithin (IsKnown S.tells (S.seen store.old) pages.old) (pages_of pages.old) 3
+        (blocks_beside (shown_over (S.seen store.old) pages.old) n) }
     ensures taken_out { OnOk result (TakesOut S.tells n
         (S.seen store.old) (S.seen store.new) heads.old heads.new pages.old pages.new) }
     ensures left { OnOk result (IsKnown S.tells (S.seen store.old) pages.old → (front back : List ℕ)
@@ -104,7 +108,8 @@ fn unlink<S: Store>(
     previous: u32,
 ) -> Result<(), StoreFault>
     requires there { is_buffered (pages_of pages.old) n ≡ true }
-    requires room { length (pages_of pages.old) + 2 ≤ 12 }
+    requires room { length (pages_of pages.old)
+        + missing_among (pages_of pages.old) (led_to previous ++ led_to next) ≤ 12 }
     ensures unlinked { OnOk result (IsKnown S.tells (S.seen store.old) pages.old → AreApart n next previous
         → Unlinks (shown_over (S.seen store.old) pages.old) (shown_over (S.seen store.new) pages.new) n next previous) }
     ensures links { OnOk result (IsKnown S.tells (S.seen store.old) pages.old

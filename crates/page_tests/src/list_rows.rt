@@ -114,6 +114,7 @@ impl Lists {
     }
 
     /// A call on the lists.
+    #[tactic(auto, using(crate::proofs::MissingLemmas::room_either, crate::proofs::MissingLemmas::room_many, free_chains::proofs::RoomLemmas::enter_room))]
     fn call(&mut self, step: Step) -> Answer {
         if self.pages.spare() < 4 {
             return Answer::Not;

@@ -110,7 +110,7 @@ impl Tree {
     }
 
     /// An identifier gets a leaf, and the answer is how many fresh blocks it took.
-    #[tactic(auto, using(crate::proofs::MissingLemmas::few_missing))]
+    #[tactic(auto, using(crate::proofs::MissingLemmas::few_missing, crate::proofs::MissingLemmas::room_many))]
     fn add(&mut self, id: u32, data: u32, fresh: u32) -> Answer {
         if self.pages.spare() < 12 || fresh > 1_000_000 {
             return Answer::Not;
@@ -162,6 +162,7 @@ impl Tree {
         Answer::Is(fresh)
     }
 
+    #[tactic(auto, using(crate::proofs::MissingLemmas::room_either))]
     fn next(&mut self, after: Option<u32>) -> Result<Option<(u32, u32)>, WalkFault> {
         self.pages.clear();
         if self.pages.spare() < 7 {
@@ -194,6 +195,7 @@ impl Tree {
         }
     }
 
+    #[tactic(auto, using(crate::proofs::MissingLemmas::room_many))]
     fn look(&mut self, step: Step) -> Answer {
         if self.pages.spare() < 12 {
             return Answer::Not;

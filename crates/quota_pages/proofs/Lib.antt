@@ -7,3 +7,4 @@ pub mod AgainLemmas
 pub mod UsedLemmas
 pub mod LentLemmas
 pub mod UsesLemmas
+pub mod RoomLemmas

@@ -1,5 +1,5 @@
 -- What calls over a buffer of pages leave of it, and of what it shows over its file.
-use Rattle.std.specs.Prelude.{◌≡◌, ℕ, ◌+◌, ◌*◌, ◌<◌, ◌≤◌, Bool, true, IsTrue, List, [], ◌∷◌, length, max, if◌then◌else◌}
+use Rattle.std.specs.Prelude.{◌≡◌, ◌⊎◌, ℕ, ◌+◌, ◌*◌, ◌<◌, ◌≤◌, Bool, true, IsTrue, List, [], ◌∷◌, length, max, if◌then◌else◌}
 use Rattle.quota_types.specs.Bytes.{number_at}
 use Rattle.quota_types.specs.Times.{StandsIn, times}
 use Rattle.file_blocks.specs.Block.{block_of, file_of}
@@ -32,6 +32,10 @@ missing pages number = if is_buffered pages number then 0 else 1
 unfoldable pub missing_among : List Page → List ℕ → ℕ
 missing_among pages [] = 0
 missing_among pages (number ∷ numbers) = missing pages number + missing_among pages numbers
+
+-- There is room for this many blocks; or it is known which are looked at, and each of them is buffered, or there is room for it.
+abbrev pub HasRoomWithin : (known : Type 0) → List Page → (most : ℕ) → (numbers : List ℕ) → Type 0
+HasRoomWithin known pages most numbers = (length pages + most ≤ 12) ⊎ (known × (length pages + missing_among pages numbers ≤ 12))
 
 -- At most this many pages were used, whether they were looked at or lent: the name and what was buffered stay, what was known
 -- still is, no file changed, and where it was done no name is unsynced that was not. It is said beside what is shown then.

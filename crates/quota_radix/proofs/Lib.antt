@@ -1,5 +1,6 @@
 pub mod AddedStepLemmas
 pub mod AlongLemmas
+pub mod BufferedLemmas
 pub mod DescentLemmas
 pub mod DownLemmas
 pub mod FindLemmas
@@ -27,3 +28,4 @@ pub mod UnlinkStepLemmas
 pub mod UnlinkWordLemmas
 pub mod WalkLemmas
 pub mod WayLemmas
+pub mod WayRoomLemmas

@@ -1,3 +1,4 @@
+pub mod Buffered
 pub mod Descent
 pub mod Digits
 pub mod LeafAfter

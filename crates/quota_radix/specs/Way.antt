@@ -20,6 +20,10 @@ digit_on_way id gone = id / 256 ^ (3 - gone) % 256
 unfoldable pub blocks_on_way : List ℕ → (blocks id : ℕ) → List ℕ
 blocks_on_way file blocks id = filter_map (block_on_way file blocks id) (range_with_len 0 5)
 
+-- The blocks of the tree on the way of an identifier, as far as it goes: those to which its first 0, 1, 2 and 3 digits lead.
+unfoldable pub tree_on_way : List ℕ → (blocks id : ℕ) → List ℕ
+tree_on_way file blocks id = filter_map (block_on_way file blocks id) (range_with_len 0 4)
+
 -- The blocks of a way begin with the root, and are one to five.
 pub record IsFromRoot (found : List ℕ) : Type 0 where
   pub root : slice_index found 0 ≡ 1

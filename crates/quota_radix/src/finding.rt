@@ -3,11 +3,11 @@ ghost use Rattle.file_blocks.specs.Block.{word_at};
 ghost use Rattle.quota_types.specs.declared.damage.DamageKind.TheVariants.{RefOut};
 ghost use Rattle.quota_pages.specs.Page.{is_buffered};
 ghost use Rattle.quota_pages.specs.Pages.{HoldsAsBuffered, pages_of};
-ghost use Rattle.quota_pages.specs.Used.{IsKnown, LooksAtSome, missing, shown_over};
+ghost use Rattle.quota_pages.specs.Used.{HasRoomWithin, IsKnown, LooksAtSome, missing, shown_over};
 ghost use Rattle.quota_radix.specs.Descent.{leaf_block};
 ghost use Rattle.quota_radix.specs.Link.{AreBuffered};
 ghost use Rattle.quota_radix.specs.WalkFault.{IfDamaged, IsWalkFault};
-ghost use Rattle.quota_radix.specs.Way.{IsFromRoot, IsInsideOnWay, IsOutOnWay, blocks_on_way};
+ghost use Rattle.quota_radix.specs.Way.{IsFromRoot, IsInsideOnWay, IsOutOnWay, blocks_on_way, tree_on_way};
 
 use crate::levels::ROOT;
 use crate::{Path, WalkFault, digits};
@@ -54,7 +54,7 @@ pub(crate) fn reference_in<S: Store>(
 /// The blocks on the way of an identifier that are there: the root first, and the data block fifth.
 ///
 /// The file has `blocks` blocks. As many are read as there are of the tree on the way, 4 at most, and these are
-/// buffered then.
+/// buffered then: there is room for 4, or, where the way is known, each of them is buffered or there is room for it.
 ///
 /// # Errors
 ///
@@ -66,7 +66,8 @@ pub fn find_path<S: Store>(
     blocks: u32,
     id: u32,
 ) -> Result<Path, WalkFault>
-    requires { length (pages_of pages.old) + 4 ≤ 12 }
+    requires { HasRoomWithin (IsKnown S.tells (S.seen store.old) pages.old) (pages_of pages.old) 4
+        (tree_on_way (shown_over (S.seen store.old) pages.old) blocks id) }
     ensures found { IfOk result (λ path. IsKnown S.tells (S.seen store.old) pages.old
         → path.found.items ≡ blocks_on_way (shown_over (S.seen store.old) pages.old) blocks id) }
     ensures leaf { IfOk result (λ path. IsKnown S.tells (S.seen store.old) pages.old
@@ -100,7 +101,8 @@ pub fn find_path<S: Store>(
 
 /// The data block to which an identifier leads by its four digits, or None where one of them leads nowhere.
 ///
-/// The file has `blocks` blocks. At most 4 of them are read.
+/// The file has `blocks` blocks. At most 4 of them are read: there is room for as many, or, where the way is known, each
+/// block of the tree on it is buffered or there is room for it.
 ///
 /// # Errors
 ///
@@ -112,7 +114,8 @@ pub fn leaf<S: Store>(
     blocks: u32,
     id: u32,
 ) -> Result<Option<u32>, WalkFault>
-    requires { length (pages_of pages.old) + 4 ≤ 12 }
+    requires { HasRoomWithin (IsKnown S.tells (S.seen store.old) pages.old) (pages_of pages.old) 4
+        (tree_on_way (shown_over (S.seen store.old) pages.old) blocks id) }
     ensures found { IfOk result (λ found. IsKnown S.tells (S.seen store.old) pages.old
         → found ≡ leaf_block (shown_over (S.seen store.old) pages.old) blocks id) }
     ensures inside { OnOk result (IsKnown S.tells (S.seen store.old) pages.old

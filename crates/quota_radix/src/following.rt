@@ -1,4 +1,4 @@
-ghost use Rattle.std.specs.Prelude.{◌≡◌, ◌+◌, ◌-◌, ◌*◌, ◌^◌, ◌<◌, ◌≤◌, ℕ, List, suc, length, true, IfErr, IfNone, IfOk, IfSome, OnOk, Some, is_ok};
+ghost use Rattle.std.specs.Prelude.{◌≡◌, ◌⊎◌, ◌+◌, ◌-◌, ◌*◌, ◌^◌, ◌<◌, ◌≤◌, ℕ, List, suc, length, true, IfErr, IfNone, IfOk, IfSome, OnOk, Some, is_ok};
 ghost use Rattle.std.specs.List.{flat_map};
 ghost use Rattle.std.specs.Option.{option_map};
 ghost use Rattle.file_blocks.specs.Block.{block_of, word_at};
@@ -7,7 +7,9 @@ ghost use Rattle.quota_types.specs.declared.damage.DamageKind.TheVariants.{RefOu
 ghost use Rattle.quota_pages.specs.Page.{is_buffered};
 ghost use Rattle.quota_pages.specs.Pages.{pages_of};
 ghost use Rattle.quota_pages.specs.Used.{IsKnown, LooksAtSome, missing, shown_over};
+ghost use Rattle.quota_radix.specs.Buffered.{IsThereFrom, IsTherePast, IsThereToLeast};
 ghost use Rattle.quota_radix.specs.Descent.{later_steps, leaf_from, path_from, paths_below, with_digits};
+ghost use Rattle.quota_radix.specs.Digits.{digits_of};
 ghost use Rattle.quota_radix.specs.LeafAfter.{first_after, leaf_after};
 ghost use Rattle.quota_radix.specs.Lookup.{IsBelowRoot, IsOnWay, IsWayFault};
 ghost use Rattle.quota_radix.specs.Tree.{step};
@@ -145,7 +147,8 @@ fn least_below<S: Store>(
     path: TreePath,
     to_go: usize,
 ) -> Result<TreePath, WalkFault>
-    requires room { length (pages_of pages.old) + to_go ≤ 12 }
+    requires room { (length (pages_of pages.old) + to_go ≤ 12) ⊎ (IsKnown S.tells (S.seen store.old) pages.old
+        × IsThereToLeast (pages_of pages.old) (shown_over (S.seen store.old) pages.old) blocks to_go path) }
     requires left { HasLeft to_go path }
     ensures found { IfOk result (λ leaf. IsKnown S.tells (S.seen store.old) pages.old
         → path_from 0 (paths_below (shown_over (S.seen store.old) pages.old) blocks to_go path) ≡ Some leaf) }
@@ -181,7 +184,8 @@ fn least_past<S: Store>(
     digit: u8,
     to_go: usize,
 ) -> Result<Option<TreePath>, WalkFault>
-    requires room { length (pages_of pages.old) + to_go ≤ 12 }
+    requires room { (length (pages_of pages.old) + to_go ≤ 12) ⊎ (IsKnown S.tells (S.seen store.old) pages.old
+        × IsTherePast (pages_of pages.old) (shown_over (S.seen store.old) pages.old) blocks to_go path (digit + 1)) }
     requires buffered { missing (pages_of pages.old) path.block ≡ 0 }
     requires left { HasLeft (suc to_go) path }
     ensures found { IfOk result (λ found. IsKnown S.tells (S.seen store.old) pages.old
@@ -221,7 +225,8 @@ fn first_below<S: Store>(
     path: TreePath,
     digits: &[u8],
 ) -> Result<Option<TreePath>, WalkFault>
-    requires room { length (pages_of pages.old) + (2 * length digits.now - 1) ≤ 12 }
+    requires room { (length (pages_of pages.old) + (2 * length digits.now - 1) ≤ 12) ⊎ (IsKnown S.tells (S.seen store.old) pages.old
+        × IsThereFrom (pages_of pages.old) (shown_over (S.seen store.old) pages.old) blocks path digits.now) }
     requires left { HasLeft (length digits.now) path }
     ensures found { IfOk result (λ found. IsKnown S.tells (S.seen store.old) pages.old
         → found ≡ path_from (with_digits path.number digits.now)
@@ -263,7 +268,8 @@ fn first_leaf_from<S: Store>(
     blocks: u32,
     from: u32,
 ) -> Result<Option<TreePath>, WalkFault>
-    requires { length (pages_of pages.old) + 7 ≤ 12 }
+    requires { (length (pages_of pages.old) + 7 ≤ 12) ⊎ (IsKnown S.tells (S.seen store.old) pages.old
+        × IsThereFrom (pages_of pages.old) (shown_over (S.seen store.old) pages.old) blocks (record { number = 0; block = 1 }) (digits_of from)) }
     ensures found { IfOk result (λ found. IsKnown S.tells (S.seen store.old) pages.old
         → found ≡ leaf_from (shown_over (S.seen store.old) pages.old) blocks from) }
     ensures least { IfOk result (λ found. IfSome found (λ leaf. from ≤ leaf.number)) }
@@ -284,6 +290,7 @@ fn first_leaf_from<S: Store>(
 /// The least identifier after another one, or the least of all, or None where that passes the last one.
 fn id_after(after: Option<u32>) -> Option<u32>
     ensures first { IfSome result (λ id. id ≡ first_after after) }
+    ensures small { IfSome result (λ id. first_after after < 2 ^ 32) }
     ensures last { IfNone result (first_after after ≡ 2 ^ 32) }
 {
     match after {
@@ -297,7 +304,8 @@ fn id_after(after: Option<u32>) -> Option<u32>
 /// From the way of the identifier that is looked for up to that of the answer no reference leads past the last block.
 ///
 /// The file has `blocks` blocks. At most 7 of them are read: one a level on the way down, and three more at most where
-/// the way backs up and goes down again by a later digit. After the last identifier nothing is read.
+/// the way backs up and goes down again by a later digit. After the last identifier nothing is read. There is room for
+/// 7, or it is known which are looked at, and each of them is buffered.
 ///
 /// # Errors
 ///
@@ -309,7 +317,8 @@ pub fn next_leaf<S: Store>(
     blocks: u32,
     after: Option<u32>,
 ) -> Result<Option<(u32, u32)>, WalkFault>
-    requires { length (pages_of pages.old) + 7 ≤ 12 }
+    requires { first_after after < 2 ^ 32 → (length (pages_of pages.old) + 7 ≤ 12) ⊎ (IsKnown S.tells (S.seen store.old) pages.old
+        × IsThereFrom (pages_of pages.old) (shown_over (S.seen store.old) pages.old) blocks (record { number = 0; block = 1 }) (digits_of (first_after after))) }
     ensures found { IfOk result (λ found. IsKnown S.tells (S.seen store.old) pages.old
         → found ≡ leaf_after (shown_over (S.seen store.old) pages.old) blocks after) }
     ensures ascends { IfOk result (λ found. IfSome found (λ leaf. IsAfter after leaf.0)) }

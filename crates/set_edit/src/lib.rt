@@ -30,3 +30,6 @@ pub use number::read_limit;
 pub use skipped::Skipped;
 pub use time_word::TimeWord;
 pub use times::set_times;
+
+// A number is read by a call of this crate, too, though it stands below it.
+pub use input_text::read_number;

@@ -2,12 +2,14 @@ pub mod AbsentLemmas
 pub mod AddedLemmas
 pub mod AwaitedEntryLemmas
 pub mod BehindLemmas
+pub mod BesideLemmas
 pub mod ChangeFaultLemmas
 pub mod ClearsLemmas
 pub mod CountedLemmas
 pub mod EnteredLemmas
 pub mod FreedLemmas
 pub mod FreshLemmas
+pub mod FullLemmas
 pub mod GivenLemmas
 pub mod HeaderChangedLemmas
 pub mod HeaderStaysLemmas

@@ -1,5 +1,5 @@
 -- Blocks that were taken one after another for a change.
-use Rattle.std.specs.Prelude.{◌≡◌, ℕ, ◌<◌, ◌^◌, List, ◌++◌, length, replicate, Option, None}
+use Rattle.std.specs.Prelude.{◌≡◌, ℕ, ◌<◌, ◌^◌, ◌+◌, max, ⊤, List, ◌++◌, length, replicate, Option, None}
 use Rattle.quota_types.specs.Times.{StandsIn, times}
 use Rattle.quota_types.specs.declared.file_kind.Format.{Format}
 use Rattle.file_blocks.specs.Block.{block_of}
@@ -11,6 +11,7 @@ use Rattle.free_chains.specs.declared.heads.Heads.{Heads}
 use Rattle.tree_meaning.specs.Loose.{loose_of}
 use Rattle.tree_meaning.specs.Roles.{data_with}
 use Rattle.tree_change.specs.declared.change_fault.ChangeFault.{ChangeFault}
+use Rattle.tree_change.specs.declared.change_fault.ChangeFault.TheVariants.{Store, Damage as Damaged, Full}
 use Rattle.tree_change.specs.ChangeFault.{IsChangeFault}
 use Rattle.tree_change.specs.Putting.{TakesCounted}
 use Rattle.tree_change.specs.Room.{FileHasRoom}
@@ -31,6 +32,12 @@ pub record TakesFresh (fresh : List ℕ) (old new : List ℕ) (heads now : Heads
   pub each : (held : List ℕ) (awaited : Option TreePath) (format : Format) (records : Records) → IsWholeTree (loose_of held awaited None) format old heads records
       → HasFresh fresh held awaited format old new heads now records
   pub counted : TakesCounted (length fresh) old new heads now
+
+-- Where it was refused since the file is full, the file would have one block more than there are, or than there may be, whichever is more.
+abbrev pub TellsOneMore : Heads → (limit : ℕ) → ChangeFault → Type 0
+TellsOneMore heads limit Store = ⊤
+TellsOneMore heads limit (Damaged damage) = ⊤
+TellsOneMore heads limit (Full blocks most) = blocks ≡ 1 + max heads.blocks limit
 
 -- A step that takes this many blocks was refused: where the file is known, a damage shows that it is no tree of any format, and it
 -- is told to be full only where there is no room for that many within the limit.

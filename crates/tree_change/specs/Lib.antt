@@ -1,4 +1,5 @@
 pub mod Behind
+pub mod Beside
 pub mod ChangeFault
 pub mod Clears
 pub mod Enters

@@ -1,13 +1,13 @@
 //! Blocks that are taken for a change.
 
-ghost use Rattle.std.specs.Prelude.{◌≡◌, ◌≢◌, ◌+◌, ◌≤◌, ◌∷◌, [], length, true, false, IfErr, IfOk, OnErr, OnOk, ⊤, is_ok};
+ghost use Rattle.std.specs.Prelude.{◌≡◌, ◌≢◌, ◌+◌, ◌≤◌, ◌∷◌, [], length, true, false, IfErr, IfOk, OnErr, OnOk, ⊤, is_ok, max};
 ghost use Rattle.quota_types.specs.Times.{times};
 ghost use Rattle.arrayvec.specs.ArrayVec.{array_vec_len};
 ghost use Rattle.quota_pages.specs.Page.{is_buffered};
 ghost use Rattle.quota_pages.specs.Pages.{pages_of};
 ghost use Rattle.quota_pages.specs.Used.{IsKnown, LendsSome, LooksAtSome, Uses, shown_over};
 ghost use Rattle.quota_radix.specs.Link.{AreBuffered};
-ghost use Rattle.tree_change.specs.Fresh.{IsTakeFault, TakesFresh};
+ghost use Rattle.tree_change.specs.Fresh.{IsTakeFault, TakesFresh, TellsOneMore};
 ghost use Rattle.tree_change.specs.Putting.{TakesWithin};
 ghost use Rattle.tree_change.specs.Shows.{OfChange};
 
@@ -23,7 +23,8 @@ use quota_pages::Pages;
 /// # Errors
 ///
 /// `Store` where the store failed, `Damage` where the list of free blocks leads past the last block, and `Full` where no
-/// block is free and there are as many as there may be. The heads are as before, and the buffer shows what it showed.
+/// block is free and there are as many as there may be, with the number of blocks that the file would have. The heads are as
+/// before, and the buffer shows what it showed.
 pub(crate) fn take_one<S: Store>(
     pages: &mut Pages,
     store: &mut S,
@@ -35,6 +36,7 @@ pub(crate) fn take_one<S: Store>(
         (λ before after. TakesFresh (block ∷ []) before after heads.old heads.new)) }
     ensures first { OnOk result (heads.new.first ≡ heads.old.first) }
     ensures takes { OnOk result (TakesWithin limit ⊤ heads.old heads.new pages.old pages.new) }
+    ensures most { OnOk result (heads.new.blocks ≤ max heads.old.blocks limit) }
     ensures beside { IfOk result (λ block. heads.old.blocks ≢ 0 → block ≢ 0) }
     ensures lends { IfOk result (λ block. LendsSome S.tells true 1 (block ∷ [])
         (S.seen store.old) (S.seen store.new) pages.old pages.new) }
@@ -43,6 +45,7 @@ pub(crate) fn take_one<S: Store>(
     ensures stays { OnErr result (heads.new ≡ heads.old) }
     ensures refused { IfErr result (IsTakeFault (S.seen store.old).faults (S.seen store.new).faults
         (IsKnown S.tells (S.seen store.old) pages.old) (shown_over (S.seen store.old) pages.old) heads.old limit 1) }
+    ensures full { IfErr result (TellsOneMore heads.old limit) }
 {
     if heads.free == 0 && heads.blocks >= limit {
         return Err(ChangeFault::Full {
@@ -59,7 +62,8 @@ pub(crate) fn take_one<S: Store>(
 /// # Errors
 ///
 /// `Store` where the store failed, `Damage` where the list of free blocks leads past the last block, and `Full` where there
-/// is no room for them. The heads are as before.
+/// is no room for them, with the number of blocks that the file would have with the first of them for which there is none. The
+/// heads are as before.
 pub fn take_fresh<S: Store>(
     pages: &mut Pages,
     store: &mut S,
@@ -80,6 +84,7 @@ pub fn take_fresh<S: Store>(
     ensures stays { OnErr result (heads.new ≡ heads.old) }
     ensures refused { IfErr result (IsTakeFault (S.seen store.old).faults (S.seen store.new).faults
         (IsKnown S.tells (S.seen store.old) pages.old) (shown_over (S.seen store.old) pages.old) heads.old limit count) }
+    ensures full { IfErr result (TellsOneMore heads.old limit) }
 {
     let mut now = *heads;
     let mut fresh = ArrayVec::new();

@@ -6,7 +6,7 @@ ghost use Rattle.quota_types.specs.Span.{KeepsOutside};
 ghost use Rattle.outside.specs.Count.{Rose};
 ghost use Rattle.quota_pages.specs.Page.{HasRoomFor};
 ghost use Rattle.quota_pages.specs.Pages.{pages_of};
-ghost use Rattle.quota_pages.specs.Used.{KeepsBlocksBut, Uses, shown_over};
+ghost use Rattle.quota_pages.specs.Used.{KeepsBlocksBut, LendsSome, Uses, shown_over};
 ghost use Rattle.tree_change.specs.HeaderHeads.{HasHeads, SetsHeads, with_heads};
 ghost use Rattle.tree_change.specs.Shows.{LendsOne, LooksAtOne, OfChange};
 
@@ -91,6 +91,7 @@ pub(crate) fn renew_heads<S: Store>(
         (shown_over (S.seen store.old) pages.old) (shown_over (S.seen store.new) pages.new)) }
     ensures set { OnOk result (OfChange S.tells (S.seen store.old) (S.seen store.new) pages.old pages.new
         (λ before after. AreOf header.now (header_of before) → SetsHeads heads.now before after)) }
+    ensures lends { OnOk result (LendsSome S.tells true 1 (0 ∷ []) (S.seen store.old) (S.seen store.new) pages.old pages.new) }
     ensures idle { HasHeads header.now heads.now → pages_of pages.new ≡ pages_of pages.old }
     ensures uses { Uses S.tells (is_ok result) 1 (S.seen store.old) (S.seen store.new) pages.old pages.new }
     ensures cause { OnErr result (Rose (S.seen store.old).faults (S.seen store.new).faults) }

@@ -1,13 +1,15 @@
 //! A record that is removed from a tree file in place.
 
-ghost use Rattle.std.specs.Prelude.{◌≡◌, ◌+◌, ◌≤◌, [], length, take, true, is_ok, is_none, None, IfErr, IfOk, IfSome, OnErr, OnOk};
+ghost use Rattle.std.specs.Prelude.{◌≡◌, ◌+◌, ◌≤◌, ◌∷◌, [], length, slice_index, take, true, is_ok, is_none, None, IfErr, IfOk, IfSome, OnErr, OnOk};
 ghost use Rattle.std.specs.FinMap.{get};
 ghost use Rattle.arrayvec.specs.ArrayVec.{array_vec_len};
 ghost use Rattle.quota_types.specs.Format.{IsTreeFormat};
+ghost use Rattle.quota_pages.specs.Page.{lent_count};
 ghost use Rattle.quota_pages.specs.Pages.{pages_of};
 ghost use Rattle.quota_pages.specs.Used.{IsKnown, LooksAtSome, Uses, shown_over};
 ghost use Rattle.quota_radix.specs.Link.{AreBuffered};
 ghost use Rattle.quota_radix.specs.Way.{blocks_on_way};
+ghost use Rattle.tree_change.specs.Beside.{LendsBeside, LendsForRemoval};
 ghost use Rattle.tree_change.specs.ChangeFault.{IsChangeFault};
 ghost use Rattle.tree_change.specs.Removal.{HasNoWay, RemovesRecord, TakesRecord};
 ghost use Rattle.tree_change.specs.Shows.{OfChange, OfEachValue, OfShown, OfValueChange};
@@ -44,6 +46,8 @@ fn take_out<S: Store>(
     ensures taken { OnOk result (OfChange S.tells (S.seen store.old) (S.seen store.new) pages.old pages.new
         (λ before after. TakesRecord format path.now.found.items id before after heads.old heads.new)) }
     ensures blocks { OnOk result (heads.new.blocks ≡ heads.old.blocks) }
+    ensures beside { OnOk result (LendsBeside (take 4 path.now.found.items) (slice_index path.now.found.items 4) heads.old.first S.tells 4
+        (S.seen store.old) (S.seen store.new) pages.old pages.new) }
     ensures uses { Uses S.tells (is_ok result) 4 (S.seen store.old) (S.seen store.new) pages.old pages.new }
     ensures stays { OnErr result (heads.new ≡ heads.old) }
     ensures refused { IfErr result (IsChangeFault (S.seen store.old).faults (S.seen store.new).faults
@@ -80,6 +84,8 @@ fn remove_found<S: Store>(
         → OfValueChange S.tells (S.seen store.old) (S.seen store.new) pages.old pages.new header.now
         (λ value before after. RemovesRecord id value before after heads)) }
     ensures blocks { IfOk result (λ heads. heads.blocks ≡ header.now.blocks) }
+    ensures beside { OnOk result (LendsBeside (0 ∷ take 4 path.now.found.items) (slice_index path.now.found.items 4) header.now.first S.tells 5
+        (S.seen store.old) (S.seen store.new) pages.old pages.new) }
     ensures uses { Uses S.tells (is_ok result) 5 (S.seen store.old) (S.seen store.new) pages.old pages.new }
     ensures refused { IfErr result (IsChangeFault (S.seen store.old).faults (S.seen store.new).faults
         (path.now.found.items ≡ blocks_on_way (shown_over (S.seen store.old) pages.old) header.now.blocks id
@@ -94,8 +100,9 @@ fn remove_found<S: Store>(
 /// Removes the record of an identifier from a tree file with this header, and answers the heads that the file has then, or
 /// None where the identifier has no record. Then nothing was lent for writing.
 ///
-/// At most twelve blocks are read. What the file should be is left in the buffer; nothing is written yet. The tree blocks
-/// that the way has lost are free, and before them the data block, where it has no entry.
+/// At most twelve blocks are read. What the file should be is left in the buffer; nothing is written yet. Eight blocks at most
+/// are lent for writing: the header's, the five on the way of the identifier, and the two beside the data block in the entry
+/// list. The tree blocks that the way has lost are free, and before them the data block, where it has no entry.
 ///
 /// # Errors
 ///
@@ -115,6 +122,9 @@ pub fn remove_record<S: Store>(
     ensures blocks { IfOk result (λ found. IfSome found (λ heads. heads.blocks ≡ header.now.blocks)) }
     ensures found { IfOk result (λ found. OfEachValue S.tells (S.seen store.old) pages.old header.now (λ value.
         is_none (get value.records id) ≡ is_none found)) }
+    ensures touched { IfOk result (λ found. IfSome found (λ _. LendsForRemoval id header.now.blocks header.now.first S.tells
+        (S.seen store.old) (S.seen store.new) pages.old pages.new)) }
+    ensures few { OnOk result (lent_count (pages_of pages.new) ≤ 8) }
     ensures absent { IfOk result (λ found. found ≡ None
         → LooksAtSome S.tells true 12 (S.seen store.old) (S.seen store.new) pages.old pages.new) }
     ensures refused { IfErr result (IsChangeFault (S.seen store.old).faults (S.seen store.new).faults

@@ -1,11 +1,12 @@
 //! Entries that are removed from their data block, with what follows of it for the lists.
 
-ghost use Rattle.std.specs.Prelude.{◌≡◌, ◌+◌, ◌≤◌, length, true, is_ok, IfErr, OnErr, OnOk};
+ghost use Rattle.std.specs.Prelude.{◌≡◌, ◌+◌, ◌≤◌, [], length, true, is_ok, IfErr, OnErr, OnOk};
 ghost use Rattle.quota_types.specs.Format.{IsTreeFormat};
 ghost use Rattle.quota_types.specs.declared.file_kind.Format.{Format as QuotaFormat};
 ghost use Rattle.quota_pages.specs.Page.{is_buffered};
 ghost use Rattle.quota_pages.specs.Pages.{pages_of};
 ghost use Rattle.quota_pages.specs.Used.{Uses};
+ghost use Rattle.tree_change.specs.Beside.{LendsBeside};
 ghost use Rattle.tree_change.specs.ChangeFault.{IsStepFault};
 ghost use Rattle.tree_change.specs.Removes.{AwaitsInNoTree, EntersTree, GivesTree, IsNoTreeMisplacing, IsNoTreeOf, LeavesTree, RemovesEntry};
 ghost use Rattle.tree_change.specs.Shows.{OfChange, OfShown};
@@ -33,6 +34,8 @@ fn leave_list<S: Store>(
         (λ before after. (format : QuotaFormat) → LeavesTree format block before after heads.old heads.new)) }
     ensures blocks { OnOk result (heads.new.blocks ≡ heads.old.blocks) }
     ensures free { OnOk result (heads.new.free ≡ heads.old.free) }
+    ensures beside { OnOk result (LendsBeside [] block heads.old.first S.tells 3
+        (S.seen store.old) (S.seen store.new) pages.old pages.new) }
     ensures uses { Uses S.tells (is_ok result) 3 (S.seen store.old) (S.seen store.new) pages.old pages.new }
     ensures stays { OnErr result (heads.new ≡ heads.old) }
     ensures refused { IfErr result (IsStepFault (S.seen store.old).faults (S.seen store.new).faults
@@ -58,6 +61,8 @@ fn enter_list<S: Store>(
     ensures entered { OnOk result (OfChange S.tells (S.seen store.old) (S.seen store.new) pages.old pages.new
         (λ before after. (format : QuotaFormat) → EntersTree format block before after heads.old heads.new)) }
     ensures blocks { OnOk result (heads.new.blocks ≡ heads.old.blocks) }
+    ensures beside { OnOk result (LendsBeside [] block heads.old.first S.tells 2
+        (S.seen store.old) (S.seen store.new) pages.old pages.new) }
     ensures uses { Uses S.tells (is_ok result) 2 (S.seen store.old) (S.seen store.new) pages.old pages.new }
     ensures stays { OnErr result (heads.new ≡ heads.old) }
     ensures refused { IfErr result (IsStepFault (S.seen store.old).faults (S.seen store.new).faults
@@ -85,6 +90,8 @@ fn give_up<S: Store>(
     ensures given { OnOk result (OfChange S.tells (S.seen store.old) (S.seen store.new) pages.old pages.new
         (λ before after. (format : QuotaFormat) → GivesTree format block before after heads.old heads.new)) }
     ensures blocks { OnOk result (heads.new.blocks ≡ heads.old.blocks) }
+    ensures beside { OnOk result (LendsBeside [] block heads.old.first S.tells 3
+        (S.seen store.old) (S.seen store.new) pages.old pages.new) }
     ensures uses { Uses S.tells (is_ok result) 3 (S.seen store.old) (S.seen store.new) pages.old pages.new }
     ensures stays { OnErr result (heads.new ≡ heads.old) }
     ensures refused { IfErr result (IsStepFault (S.seen store.old).faults (S.seen store.new).faults
@@ -118,6 +125,8 @@ pub fn remove_entry<S: Store>(
     ensures removed { OnOk result (OfChange S.tells (S.seen store.old) (S.seen store.new) pages.old pages.new
         (λ before after. RemovesEntry format id block before after heads.old heads.new)) }
     ensures blocks { OnOk result (heads.new.blocks ≡ heads.old.blocks) }
+    ensures beside { OnOk result (LendsBeside [] block heads.old.first S.tells 4
+        (S.seen store.old) (S.seen store.new) pages.old pages.new) }
     ensures uses { Uses S.tells (is_ok result) 4 (S.seen store.old) (S.seen store.new) pages.old pages.new }
     ensures stays { OnErr result (heads.new ≡ heads.old) }
     ensures refused { IfErr result (IsStepFault (S.seen store.old).faults (S.seen store.new).faults

@@ -92,11 +92,17 @@ pub record IsTorn (before made left : List ℕ) : Type 0 where
 abbrev pub TreeLeaves : (old after left : Option (List ℕ)) → Type 0
 TreeLeaves old after left = (left ≡ old) ⊎ (IsSome left × IsTorn (bytes_of old) (bytes_of after) (bytes_of left))
 
--- how many blocks a change of a tree file looks at, and writes, at most: the grace periods stand in one
+-- how many blocks a change of a tree file looks at, at most: the grace periods stand in one
 abbrev pub most_blocks : FileChange → ℕ
 most_blocks (Put id rec) = 12
 most_blocks (Remove id) = 12
 most_blocks (SetGrace grace) = 1
+
+-- how many blocks it writes at most: where a record is taken away the header, the five on its way, and the two beside its data block
+abbrev pub most_written : FileChange → ℕ
+most_written (Put id rec) = 12
+most_written (Remove id) = 8
+most_written (SetGrace grace) = 1
 
 -- how many calls of `read` a change of a tree file makes at most
 abbrev pub tree_change_reads : FileSeen → FileChange → ℕ
@@ -104,7 +110,7 @@ tree_change_reads seen change = most_blocks change
 
 -- how many calls of `write` it makes at most
 abbrev pub tree_change_writes : FileSeen → FileChange → ℕ
-tree_change_writes seen change = most_blocks change
+tree_change_writes seen change = most_written change
 
 -- how many blocks a put that succeeds writes at most, by the record that the identifier had: where there was one, that is written over
 abbrev pub blocks_put : Option Rec → ℕ
@@ -114,7 +120,7 @@ blocks_put (Some rec) = 1
 -- how many calls of `write` a change makes at most that succeeds on a file that stands for this value
 abbrev pub tree_done_writes : FileSeen → QuotaValue → FileChange → ℕ
 tree_done_writes seen value (Put id rec) = blocks_put (get value.records id)
-tree_done_writes seen value (Remove id) = 12
+tree_done_writes seen value (Remove id) = 8
 tree_done_writes seen value (SetGrace grace) = 1
 
 -- what is said of all changes of opened tree files, whose store tells its files or doesn't

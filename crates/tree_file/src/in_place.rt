@@ -84,7 +84,8 @@ pub(crate) fn put_in<S: Store>(
 }
 
 /// Takes the record of an identifier out of a file with this header, and syncs it. Answers the heads that the header has
-/// then, or None where the identifier has none and nothing was written. The buffer is empty before and then.
+/// then, or None where the identifier has none and nothing was written. Eight blocks are written at most. The buffer is empty
+/// before and then.
 ///
 /// # Errors
 ///
@@ -118,7 +119,7 @@ pub(crate) fn remove_in<S: Store>(
     ensures others { KeepsOthers (name_of pages.old) (S.seen store.old).files (S.seen store.new).files }
     ensures leaves { EditsOne (name_of pages.old) (S.seen store.old) (S.seen store.new) }
     ensures reads { (S.seen store.new).reads ≤ (S.seen store.old).reads + 12 }
-    ensures writes { (S.seen store.new).writes ≤ (S.seen store.old).writes + 12 }
+    ensures writes { (S.seen store.new).writes ≤ (S.seen store.old).writes + 8 }
     ensures name { name_of pages.new ≡ name_of pages.old }
     ensures empty { pages_of pages.new ≡ [] }
 {

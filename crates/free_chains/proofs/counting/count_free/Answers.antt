@@ -1,12 +1,28 @@
-use Rattle.std.proofs.Common.{ℕ, ◌+◌, List, ap, arith, inl, inr, refl, sym, ◌∙◌}
+use Rattle.std.proofs.Common.{ℕ, ◌+◌, ◌≢◌, ◌∷◌, [], List, ap, arith, inl, inr, refl, sym, ◌∙◌}
 use Rattle.std.specs.Prelude.{◌==◌}
 use Rattle.std.specs.List.{list_any}
 use Rattle.quota_types.proofs.TimesLemmas.{StandsIn-list_any}
 use Rattle.quota_pages.proofs.UsedLemmas.{held_since, looks_more, looks_then, missing-few, shown_over-looks}
 use Rattle.quota_pages.specs.Pages.{pages_of}
+use Rattle.quota_pages.specs.Used.{missing_among}
+use Rattle.quota_pages.proofs.UsedLemmas.{missing-stay}
+use Rattle.quota_pages.proofs.UsesLemmas.{missing_among-append, missing_among-cons, missing_among-nil}
+use Rattle.quota_types.proofs.TimesLemmas.{times-list_any}
+use Rattle.file_blocks.proofs.LeadsLemmas.{leads_from}
+use Rattle.free_chains.proofs.RoomLemmas.{counting_room}
 use Rattle.free_chains.proofs.CountLemmas.{IsBegun, begun_step, counts_ended, counts_most, ends_before}
 use Rattle.free_chains.proofs.counting.count_free.Goals as goal
 use Rattle.free_chains.proofs.counting.count_free.Goals.{then-at-eq0-via-then-at-eq0, then-at-eq0-via-else-at-eq0+then-contains}
+
+pub word-requires-clause-room : goal.word-requires-clause-room
+word-requires-clause-room g c =
+    let kept = c.loop-count.invariant in
+    let met = c.loop-count.met.items in
+    let at : ℕ = c.loop-count.at in
+    counting_room _ c.args.heads.now (pages_of c.args.pages.now) (pages_of c.loop-count.pages) c.args.most met at c.requires.room kept.begun
+    (leads_from c.args.heads.now.blocks at (omega (arith, c.if-at-eq0.false)) c.if-at-heads.false)
+    (times-list_any met at (ap (λ (xs : List ℕ). list_any (λ (other : ℕ). other == at) xs) (sym c.as_slice.ensures.value) ∙ sym c.contains.ensures.value ∙ c.if-contains.false))
+    (omega (arith, kept.long, c.loop-count-test.true)) (omega (arith, kept.long, kept.looked.few)) kept.few kept.looked.stay (missing-stay (pages_of c.args.pages.now) (pages_of c.loop-count.pages) at (kept.looked.stay at))
 
 pub returns-then-at-heads-clause-refused : goal.returns-then-at-heads-clause-refused
 returns-then-at-heads-clause-refused g c = rw c.damage_at.ensures (
@@ -33,6 +49,16 @@ loop-count-preserved g c =
     let kept = c.loop-count.invariant in
     record {
       long = omega (arith, c.push.ensures.len);
+      few = omega (
+        arith,
+        kept.few,
+        c.in_ok-at.ensures.looked.few,
+        missing-stay (pages_of c.args.pages.now) (pages_of c.loop-count.pages) c.loop-count.at (kept.looked.stay c.loop-count.at),
+        ap (missing_among (pages_of c.args.pages.now)) c.push.ensures.items,
+        missing_among-append (pages_of c.args.pages.now) c.loop-count.met.items (c.loop-count.at ∷ []),
+        missing_among-cons (pages_of c.args.pages.now) c.loop-count.at [],
+        missing_among-nil (pages_of c.args.pages.now),
+      );
       looked = looks_more (c.loop-count.count + 1) (omega (arith, missing-few (pages_of c.loop-count.pages) c.loop-count.at)) (looks_then kept.looked c.in_ok-at.ensures.looked);
       begun = λ known. begun_step _ _ _ _ c.loop-count.met.items _ c.loop-count.at c.in_ok-at.at (kept.begun known) c.if-at-eq0.false c.if-at-heads.false
           (ap (λ (xs : List ℕ). list_any (λ (other : ℕ). other == c.loop-count.at) xs) (sym c.as_slice.ensures.value) ∙ sym c.contains.ensures.value ∙ c.if-contains.false) c.push.ensures.items (shown_over-looks kept.looked)

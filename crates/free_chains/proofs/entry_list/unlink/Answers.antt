@@ -1,7 +1,17 @@
 use Rattle.quota_pages.proofs.UsedLemmas.{shown_over-lends, shown_over-looks}
 use Rattle.free_chains.proofs.BesideLemmas.{beside_unlinks}
 use Rattle.free_chains.proofs.LinkLemmas.{unlinks, unlinks_lends}
+use Rattle.quota_pages.specs.Pages.{pages_of}
+use Rattle.free_chains.proofs.RoomLemmas.{first_led, second_led}
 use Rattle.free_chains.proofs.entry_list.unlink.Goals as goal
+
+pub bring-requires : goal.bring-requires
+bring-requires g c = first_led (pages_of c.args.pages.now) c.args.previous c.args.next c.requires.room
+
+pub set_link-requires-clause-room : goal.set_link-requires-clause-room
+set_link-requires-clause-room g c =
+    let looks = c.in_ok-bring.ensures.looked in
+    second_led (pages_of c.args.pages.now) (pages_of c.bring.new.pages) c.args.previous c.args.next looks.stay looks.few c.requires.room
 
 pub returns-clause-unlinked : goal.returns-clause-unlinked
 returns-clause-unlinked g c = λ known apart.

@@ -16,6 +16,7 @@ use Rattle.quota_radix.specs.Way.{IsOutOnWay}
 use Rattle.quota_radix.proofs.LinkWayLemmas.{buffered_more}
 use Rattle.quota_radix.proofs.AlongLemmas.{IsAlong, along_all, along_all_inside, along_end, along_end_inside, along_more, along_out, along_out_at, along_start, fifth_is_leaf, nth, root_first}
 use Rattle.quota_radix.proofs.WalkLemmas.{damaged_weaker, pages_stay, since, walk_refused}
+use Rattle.quota_radix.proofs.WayRoomLemmas.{first_looked, way_room}
 use Rattle.quota_radix.proofs.finding.find_path.Goals as goal
 
 -- the block that was read last is buffered, and so are those that were read before
@@ -48,12 +49,15 @@ loop-digit-init g c =
       count = ap (λ (xs : List ℕ). length xs) first;
       along = λ known. along_start _ c.args.blocks c.args.id _ first;
       held = λ file clean. along_start _ c.args.blocks c.args.id _ first;
+      few = λ known. omega arith;
       looked = looks_none g.S.Store.tells _ _;
     }
 
 pub reference_in-requires : goal.reference_in-requires
 reference_in-requires g c =
-    λ missing. omega (arith, c.loop-digit-test.true, c.requires, c.loop-digit.invariant.looked.few)
+    let kept = c.loop-digit.invariant in
+    way_room (pages_of c.args.pages.now) (pages_of c.loop-digit.pages) _ c.args.blocks c.args.id c.loop-digit.digit-index c.loop-digit.block c.loop-digit-test.true c.requires
+    (λ known. (c.loop-digit.found.items, kept.along known)) kept.looked.stay kept.looked.few kept.few
 
 pub returns-in_err-block-clause-refused : goal.returns-in_err-block-clause-refused
 returns-in_err-block-clause-refused g c =
@@ -104,6 +108,8 @@ loop-digit-preserved g c =
       held = λ file clean. along_more _ c.args.blocks c.args.id index c.loop-digit.block c.in_ok-block.block digit _ _ c.loop-digit-test.true digit_is
           (held_since read.looked (λ (f : List ℕ). IsAlong f c.args.blocks c.args.id index c.loop-digit.block c.loop-digit.found.items) kept.held file clean)
           (read.held file clean) read.inside c.if-block-eq0.false c.push-in-loop-digit.ensures.items;
+      few = λ known. first_looked (pages_of c.args.pages.now) (pages_of c.loop-digit.pages) (pages_of c.reference_in.new.pages) _ c.args.blocks c.args.id index c.loop-digit.block c.loop-digit.found.items (kept.along known)
+          kept.looked.stay (kept.few known) read.looked.few;
       looked = looks_more (index + 1) (omega (arith, missing-few (pages_of c.loop-digit.pages) c.loop-digit.block)) (looks_then kept.looked read.looked);
     }
 

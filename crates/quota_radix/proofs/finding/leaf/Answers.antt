@@ -9,6 +9,7 @@ use Rattle.quota_pages.specs.Pages.{HoldsAsBuffered, pages_of}
 use Rattle.quota_radix.specs.Way.{IsOutOnWay}
 use Rattle.quota_pages.specs.Page.{is_buffered}
 use Rattle.quota_pages.proofs.UsesLemmas.{there-missing}
+use Rattle.quota_radix.proofs.WayRoomLemmas.{first_looked, way_room}
 use Rattle.quota_radix.proofs.finding.leaf.Goals as goal
 
 pub loop-digit-init : goal.loop-digit-init
@@ -16,12 +17,15 @@ loop-digit-init g c = record {
   within = omega arith;
   along = λ known. (1 ∷ [], along_start _ c.args.blocks c.args.id (1 ∷ []) refl);
   held = λ file clean. (1 ∷ [], along_start _ c.args.blocks c.args.id (1 ∷ []) refl);
+  few = λ known. omega arith;
   looked = (looks_none _ _ _);
 }
 
 pub reference_in-requires : goal.reference_in-requires
 reference_in-requires g c =
-    λ missing. omega (arith, c.loop-digit-test.true, c.requires, c.loop-digit.invariant.looked.few)
+    let kept = c.loop-digit.invariant in
+    way_room (pages_of c.args.pages.now) (pages_of c.loop-digit.pages) _ c.args.blocks c.args.id c.loop-digit.digit-index c.loop-digit.block c.loop-digit-test.true c.requires
+    (kept.along) kept.looked.stay kept.looked.few kept.few
 
 pub returns-in_err-block-clause-refused : goal.returns-in_err-block-clause-refused
 returns-in_err-block-clause-refused g c =
@@ -72,6 +76,8 @@ loop-digit-preserved g c =
             along_more _ c.args.blocks c.args.id index c.loop-digit.block c.in_ok-block.block word found.0 _ c.loop-digit-test.true digit_is found.1
                 (read.held file clean) read.inside c.if-block-eq0.false refl,
           );
+      few = λ known. first_looked (pages_of c.args.pages.now) (pages_of c.loop-digit.pages) (pages_of c.reference_in.new.pages) _ c.args.blocks c.args.id index c.loop-digit.block (kept.along known).0 (kept.along known).1
+          kept.looked.stay (kept.few known) read.looked.few;
       looked = looks_within kept.looked read.looked (omega (arith, missing-few (pages_of c.loop-digit.pages) c.loop-digit.block));
     }
 

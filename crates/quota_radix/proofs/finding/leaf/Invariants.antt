@@ -1,7 +1,8 @@
-use Rattle.std.proofs.Common.{true, ◌≤◌, List, ℕ}
-use Rattle.quota_pages.specs.Pages.{HoldsAsBuffered}
-use Rattle.quota_pages.specs.Used.{IsKnown, LooksAtSome, shown_over}
+use Rattle.std.proofs.Common.{true, ◌+◌, ◌≤◌, List, ℕ, length}
+use Rattle.quota_pages.specs.Pages.{HoldsAsBuffered, pages_of}
+use Rattle.quota_pages.specs.Used.{IsKnown, LooksAtSome, missing_among, shown_over}
 use Rattle.quota_radix.proofs.AlongLemmas.{IsAlong}
+use Rattle.quota_radix.proofs.WayRoomLemmas.{first_on_way}
 use Rattle.quota_radix.proofs.finding.leaf.Given as goal
 
 abbrev pub invariant-loop-digit : goal.invariant-loop-digit
@@ -11,5 +12,7 @@ invariant-loop-digit g l =
       within : l.digit-index ≤ 4;
       along : IsKnown S.tells (S.seen l.fn.store) l.fn.pages → (found : List ℕ) × IsAlong (shown_over (S.seen l.fn.store) l.fn.pages) l.blocks l.id l.digit-index l.block found;
       held : HoldsAsBuffered l.pages (λ shown. (found : List ℕ) × IsAlong shown l.blocks l.id l.digit-index l.block found);
+      few : IsKnown S.tells (S.seen l.fn.store) l.fn.pages
+          → length (pages_of l.pages) ≤ length (pages_of l.fn.pages) + missing_among (pages_of l.fn.pages) (first_on_way (shown_over (S.seen l.fn.store) l.fn.pages) l.blocks l.id l.digit-index);
       looked : LooksAtSome S.tells true l.digit-index (S.seen l.fn.store) (S.seen l.store) l.fn.pages l.pages;
     }

@@ -1,4 +1,4 @@
-use Rattle.std.proofs.Common.{false, ◌≡◌, ℕ, suc, ◌+◌, ◌*◌, ◌<◌, List, ◌∷◌, length, get_or, sym, ap, ◌∙◌, arith}
+use Rattle.std.proofs.Common.{false, ◌≡◌, ℕ, suc, ◌+◌, ◌*◌, ◌<◌, List, ◌∷◌, length, get_or, inl, inr, sym, ap, ◌∙◌, arith}
 use Rattle.std.specs.List.{flat_map}
 use Rattle.std.proofs.lemmas.Result.{IfOk-weaker, err_from_is_err_and}
 use Rattle.quota_radix.specs.Descent.{later_steps, path_from, paths_below, with_digits}
@@ -12,6 +12,7 @@ use Rattle.quota_radix.specs.Way.{IsInsideBy, IsInsideFrom, number_in}
 use Rattle.quota_pages.proofs.UsedLemmas.{looks_none, missing-few}
 use Rattle.quota_pages.specs.Pages.{pages_of}
 use Rattle.quota_pages.specs.Used.{missing}
+use Rattle.quota_radix.proofs.BufferedLemmas.{from_here, from_next, from_past}
 use Rattle.quota_radix.proofs.following.+first_below.Goals as goal
 
 rest_long : (digits : List ℕ) (digit : ℕ) (rest : List ℕ) → digits ≡ digit ∷ rest → length digits ≡ suc (length rest)
@@ -24,6 +25,30 @@ pub step-requires-clause-small : goal.step-requires-clause-small
 step-requires-clause-small g t c =
     let more = rest_long c.args.digits.now c.in-Some.digit.now c.in-Some.rest.now c.in-Some.ensures.cases.0 in
     left_small (length c.args.digits.now) (length c.in-Some.rest.now) c.args.path more c.requires.left
+
+pub step-requires-clause-room : goal.step-requires-clause-room
+step-requires-clause-room g t c =
+    from_here (pages_of c.args.pages.now) _ c.args.blocks c.args.path c.args.digits.now c.in-Some.digit.now c.in-Some.rest.now c.in-Some.ensures.cases.0 c.requires.room
+
+pub least_past-requires-clause-room : goal.least_past-requires-clause-room
+least_past-requires-clause-room g t c =
+    let looked = c.in_ok-next.ensures.looked in
+    from_past (pages_of c.args.pages.now) (pages_of c.step.new.pages) _ _ c.args.blocks c.args.path c.args.digits.now c.in-Some.digit.now c.in-Some.rest.now c.in-Some.ensures.cases.0 c.requires.room
+    (pages_stay looked) (λ known. inl (sym (c.in_ok-next.ensures.found known) ∙ c.in_default-2.is)) looked.stay (omega (arith, looked.few, missing-few (pages_of c.args.pages.now) c.args.path.block))
+
+pub least_past-requires-in-None-clause-room : goal.least_past-requires-in-None-clause-room
+least_past-requires-in-None-clause-room g t c =
+    let looked = c.in_ok-next.ensures.looked in
+    let none = rw c.in-None.is at c.in_ok-leaf.ensures.none in
+    from_past (pages_of c.args.pages.now) (pages_of c.first_below.new.pages) _ _ c.args.blocks c.args.path c.args.digits.now c.in-Some.digit.now c.in-Some.rest.now c.in-Some.ensures.cases.0 c.requires.room
+    (λ known. let one = pages_stay looked known in let two = pages_stay none one.0 in (two.0, two.1 ∙ one.1))
+    (λ known. inr (
+      c.in-Some-2.next,
+      sym (c.in_ok-next.ensures.found known) ∙ c.in-Some-2.is,
+      sym (since (pages_stay looked) (λ (file : List ℕ). c.in_ok-leaf.field-0 ≡ path_from (with_digits c.in-Some-2.next.number c.in-Some.rest.now) (paths_below file c.args.blocks (length c.in-Some.rest.now) c.in-Some-2.next)) c.in_ok-leaf.ensures.found known)
+          ∙ c.in-None.is,
+    ))
+    (λ other there. none.stay other (looked.stay other there)) (omega (arith, looked.few, none.few, missing-few (pages_of c.args.pages.now) c.args.path.block))
 
 pub returns-in_err-next-clause-refused : goal.returns-in_err-next-clause-refused
 returns-in_err-next-clause-refused g t c =
@@ -55,7 +80,8 @@ first_below-requires g t c =
       (
         fits,
         (
-          omega (arith, more, c.requires.room, c.in_ok-next.ensures.looked.few, missing-few (pages_of c.args.pages.now) c.args.path.block),
+          from_next (pages_of c.args.pages.now) (pages_of c.step.new.pages) _ _ c.args.blocks c.args.path c.in-Some-2.next c.args.digits.now c.in-Some.digit.now c.in-Some.rest.now c.in-Some.ensures.cases.0
+              c.requires.room (pages_stay c.in_ok-next.ensures.looked) (λ known. sym (c.in_ok-next.ensures.found known) ∙ c.in-Some-2.is) c.in_ok-next.ensures.looked.stay c.in_ok-next.ensures.looked.few,
           left_next (length c.args.digits.now) (length c.in-Some.rest.now) c.args.path c.in-Some-2.next more c.requires.left (omega (arith, low, number)),
         ),
       ),

@@ -10,6 +10,7 @@ use Rattle.quota_radix.proofs.WalkLemmas.{looks_within, pages_stay, since, walk_
 use Rattle.quota_pages.proofs.UsedLemmas.{looks_none, missing-few}
 use Rattle.quota_pages.specs.Pages.{pages_of}
 use Rattle.quota_pages.specs.Used.{missing}
+use Rattle.quota_radix.proofs.BufferedLemmas.{least_here, least_next}
 use Rattle.quota_radix.proofs.following.+least_below.Goals as goal
 
 more_to_go : (to_go : ℕ) → (to_go ≡ 0 → ⊥) → to_go ≡ suc (to_go - 1)
@@ -17,6 +18,10 @@ more_to_go to_go some = omega arith
 
 pub first_step-requires-clause-small : goal.first_step-requires-clause-small
 first_step-requires-clause-small g t c = left_small c.args.to_go (c.args.to_go - 1) c.args.path (more_to_go c.args.to_go c.if-to_go-eq0.false) c.requires.left
+
+pub first_step-requires-clause-room : goal.first_step-requires-clause-room
+first_step-requires-clause-room g t c =
+    least_here (pages_of c.args.pages.now) _ c.args.blocks c.args.to_go (c.args.to_go - 1) c.args.path (more_to_go c.args.to_go c.if-to_go-eq0.false) c.requires.room
 
 pub returns-in_err-next-clause-refused : goal.returns-in_err-next-clause-refused
 returns-in_err-next-clause-refused g t c =
@@ -47,7 +52,8 @@ least_below-requires g t c =
       (
         fits,
         (
-          omega (arith, more, c.requires.room, c.in_ok-next.ensures.looked.few, missing-few (pages_of c.args.pages.now) c.args.path.block),
+          least_next (pages_of c.args.pages.now) (pages_of c.first_step.new.pages) _ _ c.args.blocks c.args.to_go (c.args.to_go - 1) c.args.path c.in-Some.next more c.requires.room
+              (pages_stay c.in_ok-next.ensures.looked) (λ known. sym (c.in_ok-next.ensures.found known) ∙ c.in-Some.is) c.in_ok-next.ensures.looked.stay c.in_ok-next.ensures.looked.few,
           left_next c.args.to_go (c.args.to_go - 1) c.args.path c.in-Some.next more c.requires.left goes.most,
         ),
       ),

@@ -1,4 +1,4 @@
-use Rattle.std.proofs.Common.{false, ◌≡◌, ℕ, suc, ◌+◌, List, Option, Some, None, sym, subst, ◌∙◌, refl, arith}
+use Rattle.std.proofs.Common.{false, ◌≡◌, ℕ, suc, ◌+◌, List, Option, Some, None, sym, ap, subst, ◌∙◌, refl, arith}
 use Rattle.std.proofs.lemmas.Result.{err_from_is_err_and}
 use Rattle.quota_radix.specs.declared.tree_path.TreePath.{TreePath}
 use Rattle.quota_radix.specs.Descent.{path_from, paths_below}
@@ -11,6 +11,7 @@ use Rattle.quota_radix.proofs.WalkLemmas.{looks_within, pages_stay, since, walk_
 use Rattle.quota_pages.proofs.UsedLemmas.{looks_none}
 use Rattle.quota_pages.specs.Pages.{pages_of}
 use Rattle.quota_pages.specs.Used.{missing}
+use Rattle.quota_radix.proofs.BufferedLemmas.{past_next}
 use Rattle.quota_radix.proofs.following.least_past.Goals as goal
 
 from_byte : (file : List ℕ) (blocks to_go byte digit : ℕ) (path : TreePath) (last : Option ℕ) → byte ≡ digit → IsInsideBy file blocks to_go path (byte + 1) last
@@ -29,6 +30,12 @@ pub least_below-requires-clause-left : goal.least_below-requires-clause-left
 least_below-requires-clause-left g c =
     let goes : GoesOnFrom c.args.path (c.from.result + 1) c.in-Some.next = rw c.in-Some.is at c.in_ok-next.ensures.onward in
     left_next (suc c.args.to_go) c.args.to_go c.args.path c.in-Some.next refl c.requires.left goes.most
+
+pub least_below-requires-clause-room : goal.least_below-requires-clause-room
+least_below-requires-clause-room g c =
+    let looked = c.in_ok-next.ensures.looked in
+    past_next (pages_of c.args.pages.now) (pages_of c.first_step.new.pages) _ _ c.args.blocks c.args.to_go (c.from.result + 1) (c.args.digit + 1) c.args.path c.in-Some.next
+    (ap (λ (k : ℕ). k + 1) c.from.ensures) c.requires.room (pages_stay looked) (λ known. sym (c.in_ok-next.ensures.found known) ∙ c.in-Some.is) looked.stay looked.few c.requires.buffered
 
 pub returns-in_err-least_below-in-Some-clause-refused : goal.returns-in_err-least_below-in-Some-clause-refused
 returns-in_err-least_below-in-Some-clause-refused g c =

@@ -1,4 +1,4 @@
-use Rattle.std.proofs.Common.{◌≡◌, ℕ, List, Option, Some, None, sym, ap, subst, ◌∙◌, arith}
+use Rattle.std.proofs.Common.{◌≡◌, ℕ, ◌+◌, ◌≤◌, ◌⊎◌, List, Option, Some, None, length, sym, ap, subst, ◌∙◌, arith}
 use Rattle.std.specs.Option.{option_map}
 use Rattle.std.proofs.lemmas.Result.{err_from_is_err_and}
 use Rattle.quota_pages.proofs.UsesLemmas.{there-missing}
@@ -8,7 +8,19 @@ use Rattle.quota_radix.specs.Way.{IsInsideUpTo}
 use Rattle.quota_radix.proofs.InsideLemmas.{none_up_to, way_up_to}
 use Rattle.quota_radix.proofs.PastLemmas.{none_after_last}
 use Rattle.quota_radix.proofs.WalkLemmas.{walk_refused}
+use Rattle.quota_pages.specs.Pages.{pages_of}
+use Rattle.quota_pages.specs.Used.{IsKnown, shown_over}
+use Rattle.quota_radix.specs.Buffered.{IsThereFrom}
+use Rattle.quota_radix.specs.Digits.{digits_of}
 use Rattle.quota_radix.proofs.following.next_leaf.Goals as goal
+
+pub first_leaf_from-requires : goal.first_leaf_from-requires
+first_leaf_from-requires g c =
+    let S = g.S.Store in
+    let seen = S.seen c.args.store.now in
+    let pages = c.args.pages.now in
+    subst (λ (k : ℕ). (length (pages_of pages) + 7 ≤ 12) ⊎ (IsKnown S.tells seen pages × IsThereFrom (pages_of pages) (shown_over seen pages) c.args.blocks (record { number = 0; block = 1 }) (digits_of k)))
+    (sym c.in-Some.ensures.first) (c.requires c.in-Some.ensures.small)
 
 pub returns-in_default-clause-found : goal.returns-in_default-clause-found
 returns-in_default-clause-found g c = λ known. sym (none_after_last _ c.args.blocks c.args.after c.in_default.ensures.last)

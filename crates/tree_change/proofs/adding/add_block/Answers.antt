@@ -1,14 +1,20 @@
 use Rattle.std.proofs.Common.{◌≡◌, ℕ, List, [], ◌∷◌, sym, ap, subst, ◌∙◌, arith}
 use Rattle.std.proofs.lemmas.Result.{err_from_is_err_and}
 use Rattle.quota_pages.specs.Used.{shown_over}
-use Rattle.quota_pages.proofs.UsedLemmas.{shown_over-lends}
+use Rattle.quota_pages.proofs.UsedLemmas.{shown_over-lends, missing-there}
 use Rattle.quota_types.proofs.TimesLemmas.{times-append}
 use Rattle.free_chains.specs.Links.{led_to}
 use Rattle.free_chains.specs.declared.heads.Heads.{Heads}
 use Rattle.tree_change.specs.Enters.{EntersRecord}
 use Rattle.tree_change.proofs.AddedLemmas.{added, entering_refused}
 use Rattle.tree_change.proofs.WithinLemmas.{no_link_to_header, other_block}
+use Rattle.quota_pages.specs.Pages.{pages_of}
+use Rattle.free_chains.proofs.RoomLemmas.{enter_room}
 use Rattle.tree_change.proofs.adding.add_block.Goals as goal
+
+pub enter_entry_list-requires : goal.enter_entry_list-requires
+enter_entry_list-requires g c = λ inside. enter_room (pages_of c.write_record.new.pages) c.in_ok-block.block c.take_one.new.heads.first
+    (omega (arith, c.requires.room, c.in_ok-block.ensures.lends.few, c.in_ok-write_record.ensures.lends.few, missing-there (pages_of c.take_one.new.pages) c.in_ok-block.block c.in_ok-block.ensures.brought))
 
 pub returns-in_err-enter_entry_list-clause-refused :
     goal.returns-in_err-enter_entry_list-clause-refused

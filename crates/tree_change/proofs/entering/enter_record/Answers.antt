@@ -1,10 +1,10 @@
-use Rattle.std.proofs.Common.{◌≡◌, true, ℕ, ◌==◌, if◌then◌else◌, List, [], ◌∷◌, ◌++◌, sym, subst, ◌∙◌, arith}
+use Rattle.std.proofs.Common.{◌≡◌, true, ℕ, ◌==◌, if◌then◌else◌, List, [], ◌∷◌, ◌++◌, sym, subst, ◌∙◌, arith, inl}
 use Rattle.std.proofs.lemmas.Result.{err_from_is_err_and}
 use Rattle.entry_codec.specs.Entry.{is_unused}
 use Rattle.file_blocks.specs.Block.{block_of}
 use Rattle.quota_types.specs.declared.record.Entry.{Entry}
 use Rattle.quota_pages.specs.Used.{IsKnown, shown_over}
-use Rattle.quota_pages.proofs.UsedLemmas.{shown_over-lends, shown_over-looks}
+use Rattle.quota_pages.proofs.UsedLemmas.{shown_over-lends, shown_over-looks, missing-there}
 use Rattle.quota_types.proofs.TimesLemmas.{times-append}
 use Rattle.free_chains.specs.EntryList.{LeavesList}
 use Rattle.free_chains.specs.Links.{led_to}
@@ -14,7 +14,11 @@ use Rattle.tree_steps.specs.EntrySteps.{WritesEntry}
 use Rattle.tree_change.specs.Enters.{EntersRecord}
 use Rattle.tree_change.proofs.EnteredLemmas.{entered_and_left, entered_with_room, leaving_refused, placing_refused}
 use Rattle.tree_change.proofs.WithinLemmas.{no_link_to_header, other_block}
+use Rattle.quota_pages.specs.Pages.{pages_of}
 use Rattle.tree_change.proofs.entering.enter_record.Goals as goal
+
+pub leave_entry_list-requires : goal.leave_entry_list-requires
+leave_entry_list-requires g c = inl (omega (arith, c.requires.room, c.in_ok-place.ensures.looked.few, c.in_ok-write_record.ensures.lends.few, missing-there (pages_of c.place_in.new.pages) c.args.heads.now.first c.in_ok-place.ensures.brought))
 
 pub returns-in_err-place-clause-refused : goal.returns-in_err-place-clause-refused
 returns-in_err-place-clause-refused g c =

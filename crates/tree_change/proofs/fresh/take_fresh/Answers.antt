@@ -11,6 +11,7 @@ use Rattle.quota_pages.proofs.UsesLemmas.{uses_of_lends, uses_then}
 use Rattle.tree_change.specs.Fresh.{TakesFresh}
 use Rattle.tree_change.proofs.FreshLemmas.{takes_one_more, taking_refused}
 use Rattle.tree_change.proofs.WithinLemmas.{other_block, takes_then}
+use Rattle.tree_change.proofs.FullLemmas.{tells_since}
 use Rattle.tree_change.proofs.fresh.take_fresh.Goals as goal
 
 pub returns-in_err-block-clause-refused : goal.returns-in_err-block-clause-refused
@@ -29,6 +30,7 @@ loop-preserved g c =
     let items : c.push.new.self.items ≡ fresh ++ block ∷ [] = c.push.ensures.items in
     record {
       long = omega (arith, c.push.ensures.len, kept.long);
+      most = omega (arith, kept.most, took.most);
       takes = takes_then c.args.limit ⊤ ⊤ c.args.heads.now c.loop.now c.take_one.new.heads c.args.pages.now c.loop.pages c.take_one.new.pages (λ is. is) kept.takes took.takes;
       beside = λ some. subst (λ (xs : List ℕ). times xs 0 ≡ 0) (sym items)
           (omega (
@@ -48,3 +50,9 @@ loop-preserved g c =
       taken = λ known. subst (λ (xs : List ℕ). TakesFresh xs (shown_over (g.S.Store.seen c.args.store.now) c.args.pages.now) (shown_over (g.S.Store.seen c.take_one.new.store) c.take_one.new.pages) c.args.heads.now c.take_one.new.heads) (sym items)
           (takes_one_more fresh _ _ _ c.args.heads.now c.loop.now c.take_one.new.heads block (shown_over-lends took.lends) (kept.taken known) (took.taken (kept.uses.known known)));
     }
+
+pub returns-in_err-block-clause-full : goal.returns-in_err-block-clause-full
+returns-in_err-block-clause-full g c =
+    let p = err_from_is_err_and c.from_residual.result c.from_residual.ensures.1 in
+    let kept = c.loop.invariant in
+    rw (p.1, p.2) (tells_since c.args.heads.now c.loop.now c.args.limit _ kept.takes.at_least kept.most c.in_err-block.ensures.full)

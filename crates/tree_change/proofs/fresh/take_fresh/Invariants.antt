@@ -1,4 +1,4 @@
-use Rattle.std.proofs.Common.{◌≡◌, ◌≢◌, true, length}
+use Rattle.std.proofs.Common.{◌≡◌, ◌≢◌, ◌≤◌, max, true, length}
 use Rattle.std.specs.Prelude.{⊤}
 use Rattle.quota_types.specs.Times.{times}
 use Rattle.quota_pages.specs.Pages.{pages_of}
@@ -13,6 +13,7 @@ invariant-loop g l =
     let S = g.S.Store in
     record {
       long : length l.fresh.items ≡ l.counter;
+      most : l.now.blocks ≤ max l.fn.heads.blocks l.fn.limit;
       takes : TakesWithin l.fn.limit ⊤ l.fn.heads l.now l.fn.pages l.pages;
       beside : l.fn.heads.blocks ≢ 0 → times l.fresh.items 0 ≡ 0;
       first : l.now.first ≡ l.fn.heads.first;

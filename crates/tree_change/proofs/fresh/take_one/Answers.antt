@@ -7,6 +7,7 @@ use Rattle.quota_pages.proofs.UsedLemmas.{shown_over-lends}
 use Rattle.tree_change.proofs.ChangeFaultLemmas.{of_chain}
 use Rattle.tree_change.proofs.FreshLemmas.{full_no_room, stops_no_tree, takes_one}
 use Rattle.tree_change.proofs.WithinLemmas.{block_taken, takes_head}
+use Rattle.tree_change.proofs.FullLemmas.{chain_tells, takes_most}
 use Rattle.tree_change.proofs.fresh.take_one.Goals as goal
 
 pub returns-then-heads-limit-clause-refused : goal.returns-then-heads-limit-clause-refused
@@ -36,3 +37,11 @@ returns-clause-beside g c = block_taken c.args.heads.now _ _ c.in_ok-take_block.
 
 pub returns-clause-brought : goal.returns-clause-brought
 returns-clause-brought g c = buffered_if_lent (pages_of c.take_block.new.pages) c.in_ok-take_block.field-0 c.in_ok-take_block.ensures.marked
+
+pub returns-clause-most : goal.returns-clause-most
+returns-clause-most g c = takes_most c.args.limit c.args.heads.now c.take_block.new.heads _ c.in_ok-take_block.ensures.head (λ none. grind (arith, none))
+
+pub returns-in_err-take_block-clause-full : goal.returns-in_err-take_block-clause-full
+returns-in_err-take_block-clause-full g c =
+    let p = err_from_is_err_and c.from_residual.result c.from_residual.ensures.1 in
+    rw (p.1, p.2) (chain_tells c.args.heads.now c.args.limit _)

@@ -1,4 +1,4 @@
-use Rattle.std.proofs.Common.{Option, refl, ◌≡◌, ℕ, ◌+◌, ◌-◌, ◌<◌, List, None, Some, length, sym, ap, subst, ◌∙◌, arith}
+use Rattle.std.proofs.Common.{Option, refl, ◌≡◌, ℕ, ◌+◌, ◌-◌, ◌<◌, List, None, Some, length, sym, ap, subst, ◌∙◌, arith, inl}
 use Rattle.std.specs.Prelude.{IsSome}
 use Rattle.std.proofs.lemmas.Bool.{false≢true}
 use Rattle.std.proofs.lemmas.Result.{IfErr-weaker, err_from_is_err_and, on_ok_weaker}
@@ -19,6 +19,9 @@ use Rattle.tree_change.proofs.ChangeFaultLemmas.{full_then, of_full, walk_not_fu
 use Rattle.tree_change.proofs.PuttingLemmas.{long_way_found, no_record_of, over_refused, put_over_whole, put_refused, short_way_found, taken_absent, wanted_as, way_refused, whole_way_found}
 use Rattle.tree_change.proofs.WithinLemmas.{last_beside, led_beside, takes_none, takes_then}
 use Rattle.tree_change.proofs.putting.put_in.Goals as goal
+
+pub find_path-requires : goal.find_path-requires
+find_path-requires g c = inl (omega (arith, c.requires.room))
 
 pub returns-in_err-path-clause-refused : goal.returns-in_err-path-clause-refused
 returns-in_err-path-clause-refused g c =

@@ -1,9 +1,11 @@
-use Rattle.std.proofs.Common.{ℕ, List, get_or, take, ap, arith}
+use Rattle.std.proofs.Common.{ℕ, List, get_or, take, ap, arith, subst}
 use Rattle.std.proofs.lemmas.Result.{err_from_is_err_and}
 use Rattle.quota_pages.specs.Pages.{pages_of}
 use Rattle.quota_pages.proofs.UsesLemmas.{none_missing, uses_more, uses_then}
 use Rattle.tree_change.proofs.ChangeFaultLemmas.{of_later}
 use Rattle.tree_change.proofs.RemovalLemmas.{has_no_way, takes_record}
+use Rattle.tree_change.proofs.BesideLemmas.{beside_unlinked}
+use Rattle.tree_change.specs.Beside.{LendsBeside}
 use Rattle.tree_change.proofs.removal.take_out.Goals as goal
 
 pub unlink_leaf-requires-clause-room : goal.unlink_leaf-requires-clause-room
@@ -39,3 +41,12 @@ returns-clause-taken g c = λ known.
 
 pub returns-clause-uses : goal.returns-clause-uses
 returns-clause-uses g c = uses_more 4 (omega (arith, none_missing (pages_of c.args.pages.now) (take 4 c.args.path.now.found.items) c.requires.buffered)) (uses_then c.in_ok-unlink_leaf.ensures.uses c.in_ok-remove_entry.ensures.uses)
+
+pub returns-clause-beside : goal.returns-clause-beside
+returns-clause-beside g c =
+    let S = g.S.Store in
+    let way : List ℕ = c.args.path.now.found.items in
+    let gone = c.in_ok-unlink_leaf.ensures in
+    subst (λ (block : ℕ). LendsBeside (take 4 way) block c.args.heads.now.first S.tells 4 (S.seen c.args.store.now) (S.seen c.remove_entry.new.store) c.args.pages.now c.remove_entry.new.pages)
+    (ap (λ (w : List ℕ). get_or w 4 0) c.deref.ensures.0)
+    (beside_unlinked _ c.args.heads.now.first (none_missing (pages_of c.args.pages.now) (take 4 way) c.requires.buffered) gone.first gone.lends c.in_ok-remove_entry.ensures.beside)

@@ -6,6 +6,7 @@ use Rattle.tree_change.specs.Clears.{LosesRecord}
 use Rattle.tree_change.proofs.ChangeFaultLemmas.{of_later}
 use Rattle.tree_change.proofs.RefusedLemmas.{awaited_no_tree}
 use Rattle.tree_change.proofs.RemovedLemmas.{full_in_no_tree, last_in_no_tree, removed_last, removed_of_full, removed_with_room}
+use Rattle.tree_change.proofs.BesideLemmas.{beside_cleared, beside_none}
 use Rattle.tree_change.proofs.removing.remove_entry.Goals as goal
 
 pub returns-in_err-clear_record-clause-refused : goal.returns-in_err-clear_record-clause-refused
@@ -69,3 +70,16 @@ returns-in-HadRoom-clause-removed g c = λ known.
     let between : List ℕ = shown_over (g.S.Store.seen c.clear_record.new.store) c.clear_record.new.pages in
     removed_with_room c.args.format c.args.id c.args.block old between c.args.heads.now
     (subst (λ (cleared : Cleared). LosesRecord c.args.format c.args.block c.args.id cleared old between) c.in-HadRoom.is (clears.cleared known))
+
+pub returns-in-Last-clause-beside : goal.returns-in-Last-clause-beside
+returns-in-Last-clause-beside g c =
+    let clears = c.in_ok-clear_record.ensures in
+    on_ok_weaker c.give_up.result (λ then. beside_cleared c.args.block c.args.heads.now.first (omega arith) clears.lends (λ known. (clears.cleared known).loses.links) then) c.give_up.ensures.beside
+
+pub returns-in-WasFull-clause-beside : goal.returns-in-WasFull-clause-beside
+returns-in-WasFull-clause-beside g c =
+    let clears = c.in_ok-clear_record.ensures in
+    on_ok_weaker c.enter_list.result (λ then. beside_cleared c.args.block c.args.heads.now.first (omega arith) clears.lends (λ known. (clears.cleared known).loses.links) then) c.enter_list.ensures.beside
+
+pub returns-in-HadRoom-clause-beside : goal.returns-in-HadRoom-clause-beside
+returns-in-HadRoom-clause-beside g c = beside_none c.args.block c.args.heads.now.first c.in_ok-clear_record.ensures.lends

@@ -1,4 +1,4 @@
-use Rattle.std.proofs.Common.{ℕ, List, refl, sym, ◌∙◌, arith}
+use Rattle.std.proofs.Common.{ℕ, List, refl, sym, ◌∙◌, arith, inl}
 use Rattle.std.proofs.lemmas.Result.{err_from_is_err_and}
 use Rattle.quota_pages.specs.Used.{shown_over}
 use Rattle.quota_radix.proofs.LeafLemmas.{leaf_of_block}
@@ -6,6 +6,9 @@ use Rattle.tree_file.proofs.ComingLemmas.{next_leads}
 use Rattle.tree_file.proofs.NextLemmas.{coming_before, entry_found, entry_none, next_found, next_none}
 use Rattle.tree_file.proofs.WalkFaultLemmas.{found_before, leaf_walk}
 use Rattle.tree_file.proofs.lookup.next_record.Goals as goal
+
+pub next_leaf-requires : goal.next_leaf-requires
+next_leaf-requires g c = λ small. inl (omega (arith, c.requires.room))
 
 pub returns-in_default-clause-found : goal.returns-in_default-clause-found
 returns-in_default-clause-found g c = λ known of value stands.

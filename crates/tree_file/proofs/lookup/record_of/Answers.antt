@@ -1,4 +1,4 @@
-use Rattle.std.proofs.Common.{◌≡◌, ℕ, List, Some, None, ap, sym, ◌∙◌, arith}
+use Rattle.std.proofs.Common.{◌≡◌, ℕ, List, Some, None, ap, sym, ◌∙◌, arith, inl}
 use Rattle.std.proofs.lemmas.Result.{err_from_is_err_and}
 use Rattle.std.specs.Option.{option_and_then}
 use Rattle.file_blocks.specs.Block.{block_of}
@@ -10,6 +10,9 @@ use Rattle.tree_meaning.specs.TreeFile.{record_in}
 use Rattle.tree_file.proofs.WalkFaultLemmas.{found_before, leaf_named, leaf_walk, way_named, way_walk}
 use Rattle.tree_file.proofs.LookupLemmas.{no_record, one_record}
 use Rattle.tree_file.proofs.lookup.record_of.Goals as goal
+
+pub leaf-requires : goal.leaf-requires
+leaf-requires g c = inl (omega (arith, c.requires.room))
 
 pub returns-in_err-block-clause-refused : goal.returns-in_err-block-clause-refused
 returns-in_err-block-clause-refused g c =
