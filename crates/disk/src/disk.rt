@@ -1,7 +1,7 @@
-ghost use Rattle.std.specs.Prelude.{◌≡◌, ◌≢◌, ◌≤◌, ◌^◌, ◌⊎◌, ◌↔◌, Bool, [], length, take, true, false, None, Some, IsSome, IsTrue, IfOk, OnOk, OnErr};
+ghost use Rattle.std.specs.Prelude.{◌≡◌, ◌≢◌, ◌≤◌, ◌^◌, ◌⊎◌, ◌↔◌, ℕ, Bool, List, [], length, take, true, false, None, Some, IsSome, IsTrue, IfOk, OnOk, OnErr};
 ghost use Rattle.std.specs.Option.{option_map};
 ghost use Rattle.disk.specs.DiskSeen.{ChangesNothing, DiskSeen, Follows, IsKept, TakesStep};
-ghost use Rattle.disk.specs.Steps.{CutsShort, IsRenamed, MayBeRenamed, TearsRange, with_cut};
+ghost use Rattle.disk.specs.Steps.{CutsShort, IsRenamed, MayBeRenamed, Shortens, TearsRange, with_cut};
 ghost use Rattle.outside.specs.Count.{Rose};
 ghost use Rattle.outside.specs.Unsynced.{AddsNone, with_handed, with_name};
 ghost use Rattle.outside.specs.World.{KeepsOtherTwo, KeepsOthers, World, bytes_from, with_bytes, with_file, with_new_name};
@@ -90,7 +90,8 @@ pub trait Disk {
         ensures leaves { TakesStep (CutsShort name.now 0) (seen self.old) (seen self.new) };
 
     /// Shortens a file to `len` bytes. One that is not longer stays, and one that is not there is not made. All other
-    /// files stay. The name is unsynced then, and until it is synced a stop may leave any bytes from `len` on, or none.
+    /// files stay. The name is unsynced then, and until it is synced a stop may leave any bytes from `len` on, or none, but no
+    /// file where there was none.
     ///
     /// # Errors
     ///
@@ -104,7 +105,7 @@ pub trait Disk {
             ⊎ ((seen self.new).files ≡ with_cut (seen self.old).files name.now len)) }
         ensures cause { OnErr result (Rose (seen self.old).faults (seen self.new).faults) }
         ensures others { KeepsOthers name.now (seen self.old).unsynced (seen self.new).unsynced }
-        ensures leaves { TakesStep (CutsShort name.now len) (seen self.old) (seen self.new) };
+        ensures leaves { TakesStep (Shortens name.now len) (seen self.old) (seen self.new) };
 
     /// Waits until a stop leaves the file of this name as it is read, and none where there is none. It changes no file.
     /// The name is synced then.
@@ -148,4 +149,8 @@ pub trait Disk {
 
     /// A stop since the present moment leaves an image, and each image may be left so.
     ghost present_is_now: { (disk : Self) (image : World) → (seen disk).since (seen disk).moment image ↔ (seen disk).images image };
+
+    /// A stop leaves the file of each name that is not unsynced as it is read, and none where there is none.
+    ghost synced_is_kept: { (disk : Self) (name : List ℕ) → IsTrue tells → (seen disk).unsynced name ≡ false
+        → IsKept name (seen disk) };
 }

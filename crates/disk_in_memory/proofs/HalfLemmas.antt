@@ -7,8 +7,8 @@ use Rattle.outside.specs.World.{World, with_file, with_new_name}
 use Rattle.outside.proofs.WorldLemmas.{KeepsOthers-with_file, apart_names, bytes_eq-same, bytes_eq-true, same_world, with_file-again, with_file-at, with_file-same, with_new_name-others}
 use Rattle.std.specs.Str.{bytes_eq}
 use Rattle.disk_in_memory.specs.Calls.{LeftAfter, MayMake, after_call, half_call, half_left, half_of, read_after}
-use Rattle.disk_in_memory.specs.Images.{cuts-nothing, done, tears-written}
-use Rattle.disk.specs.Steps.{ChangesFile, CutShort, IsOutside, Torn}
+use Rattle.disk_in_memory.specs.Images.{cuts-nothing, done, shortens-nothing, tears-written}
+use Rattle.disk.specs.Steps.{ChangesFile, CutShort, IsOutside, Shortened, Torn}
 use Rattle.disk_in_memory.specs.declared.call.Call.{Call}
 use Rattle.disk_in_memory.specs.declared.call.Call.TheVariants.{Write, Create, Cut, Sync, Rename}
 
@@ -132,7 +132,7 @@ read_too (Write writing) Left read closed name old new left makes =
 read_too (Create text) Left read closed name old new left makes =
     (with_file old name (read name), closed name old left, changed (CutShort 0) name (string_bytes text) read (after_call (Create text) read) old new (done (Create text) read) makes)
 read_too (Cut text len) Left read closed name old new left makes =
-    (with_file old name (read name), closed name old left, changed (CutShort len) name (string_bytes text) read (after_call (Cut text len) read) old new (done (Cut text len) read) makes)
+    (with_file old name (read name), closed name old left, changed (Shortened len) name (string_bytes text) read (after_call (Cut text len) read) old new (done (Cut text len) read) makes)
 read_too (Sync text) Left read closed name old new left makes =
     let kept : with_file new name (read name) (string_bytes text) ≡ read (string_bytes text) =
     elim (cases_Bool (bytes_eq name (string_bytes text))) [
@@ -154,7 +154,7 @@ half_step : (call : Call) (first : World) (earlier : List Call) (files : World) 
 half_step (Write writing) first earlier files left =
     (files, left, tears-written files (string_bytes writing.name) writing.at (length writing.bytes.items) (half_of writing.bytes.items) (omega (arith, length-take (length writing.bytes.items - length writing.bytes.items / 2) writing.bytes.items)))
 half_step (Create name) first earlier files left = (files, left, cuts-nothing files (string_bytes name) 0)
-half_step (Cut name len) first earlier files left = (files, left, cuts-nothing files (string_bytes name) len)
+half_step (Cut name len) first earlier files left = (files, left, shortens-nothing files (string_bytes name) len)
 half_step (Sync name) first earlier files left =
     let synced : World = with_file files (string_bytes name) (read_after first earlier (string_bytes name)) in
     (synced, as_read first earlier (string_bytes name) files left, (refl, with_file-at files (string_bytes name) (read_after first earlier (string_bytes name))))

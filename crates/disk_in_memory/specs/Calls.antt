@@ -2,7 +2,7 @@
 use Rattle.std.specs.Prelude.{◌≡◌, ◌≤◌, ◌⊎◌, ◌-◌, ◌/◌, ℕ, List, [], ◌∷◌, length, take, Some}
 use Rattle.std.specs.String.{string_bytes}
 use Rattle.outside.specs.World.{World, with_bytes, with_file, with_new_name}
-use Rattle.disk.specs.Steps.{CutsShort, IsRenamed, TearsRange, with_cut}
+use Rattle.disk.specs.Steps.{CutsShort, IsRenamed, Shortens, TearsRange, with_cut}
 use Rattle.disk_in_memory.specs.declared.call.Call.{Call}
 use Rattle.disk_in_memory.specs.declared.call.Call.TheVariants.{Write, Create, Cut, Sync, Rename}
 
@@ -14,12 +14,12 @@ after_call (Cut name len) files = with_cut files (string_bytes name) len
 after_call (Sync name) files = files
 after_call (Rename renaming) files = with_new_name files (string_bytes renaming.from) (string_bytes renaming.to)
 
--- What a stop may make of a call that was done where these files were read: a write tears its range, a new file and a
--- shortened one are cut short, a sync leaves the file as it was read, and a rename is done.
+-- What a stop may make of a call that was done where these files were read: a write tears its range, a new file is cut
+-- short, a shortened one is shortened, a sync leaves the file as it was read, and a rename is done.
 abbrev pub MayMake : Call → World → World → World → Type 0
 MayMake (Write writing) read old new = TearsRange (string_bytes writing.name) writing.at (length writing.bytes.items) old new
 MayMake (Create name) read old new = CutsShort (string_bytes name) 0 old new
-MayMake (Cut name len) read old new = CutsShort (string_bytes name) len old new
+MayMake (Cut name len) read old new = Shortens (string_bytes name) len old new
 MayMake (Sync name) read old new = (new ≡ old) × (new (string_bytes name) ≡ read (string_bytes name))
 MayMake (Rename renaming) read old new = IsRenamed (string_bytes renaming.from) (string_bytes renaming.to) old new
 

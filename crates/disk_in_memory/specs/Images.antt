@@ -1,6 +1,6 @@
 -- That what is read of a disk in memory is an image, and that a stop now leaves an image.
-use Rattle.std.specs.Prelude.{◌≤◌, ◌↔◌, ℕ, List, [], ◌∷◌, length, take, Option, Some, None, refl}
-use Rattle.std.proofs.Common.{inl, inr, ⊎_elim, sym, subst, arith, length-take}
+use Rattle.std.specs.Prelude.{◌≡◌, ◌≤◌, ◌↔◌, ℕ, List, [], ◌∷◌, length, take, Option, Some, None, refl}
+use Rattle.std.proofs.Common.{inl, inr, ⊎_elim, sym, ap, subst, arith, length-take}
 use Rattle.std.specs.Option.{option_map, unwrap_or}
 use Rattle.std.specs.String.{string_bytes}
 use Rattle.std.proofs.lemmas.List.{get_or-take}
@@ -8,7 +8,7 @@ use Rattle.outside.specs.World.{World, overwritten, with_bytes, with_file}
 use Rattle.outside.proofs.WorldLemmas.{KeepsOthers-with_file, with_file-at}
 use Rattle.outside.proofs.OverwriteLemmas.{get_or-overwritten_before, get_or-overwritten_behind, length-overwritten}
 use Rattle.disk_in_memory.specs.Calls.{LeftAfter, LeftSince, MayMake, after_call, read_after}
-use Rattle.disk.specs.Steps.{ChangesFile, CutShort, CutsShort, IsOutside, TearsRange, Torn}
+use Rattle.disk.specs.Steps.{ChangesFile, CutShort, CutsShort, IsOutside, Shortened, Shortens, TearsRange, Torn}
 use Rattle.disk_in_memory.specs.declared.call.Call.{Call}
 use Rattle.disk_in_memory.specs.declared.call.Call.TheVariants.{Write, Create, Cut, Sync, Rename}
 
@@ -48,6 +48,16 @@ cut_short-cut len (Some bytes) = record {
 cut_short-stays : (len : ℕ) (file : Option (List ℕ)) → CutShort len file file
 cut_short-stays len file = record { there = λ is. is; no_shorter = omega arith; same = λ place low below. refl }
 
+shortened-cut : (len : ℕ) (old : Option (List ℕ)) → Shortened len old (option_map (take len) old)
+shortened-cut len old = record { cut = cut_short-cut len old; absent = λ none. ap (λ (file : Option (List ℕ)). option_map (take len) file) none }
+
+shortened-stays : (len : ℕ) (file : Option (List ℕ)) → Shortened len file file
+shortened-stays len file = record { cut = cut_short-stays len file; absent = λ none. none }
+
+-- no cut shortens nothing
+pub shortens-nothing : (files : World) (name : List ℕ) (len : ℕ) → Shortens name len files files
+shortens-nothing files name len = (shortened-stays len (files name), λ other differ. refl)
+
 -- no cut cuts nothing short
 pub cuts-nothing : (files : World) (name : List ℕ) (len : ℕ) → CutsShort name len files files
 cuts-nothing files name len = (cut_short-stays len (files name), λ other differ. refl)
@@ -56,7 +66,7 @@ cuts-nothing files name len = (cut_short-stays len (files name), λ other differ
 pub done : (call : Call) (read : World) → MayMake call read read (after_call call read)
 done (Write writing) read = tears-written read (string_bytes writing.name) writing.at (length writing.bytes.items) writing.bytes.items (omega arith)
 done (Create name) read = changes_file-with (CutShort 0) read (string_bytes name) (Some []) (cut_short-empty (read (string_bytes name)))
-done (Cut name len) read = changes_file-with (CutShort len) read (string_bytes name) (option_map (take len) (read (string_bytes name))) (cut_short-cut len (read (string_bytes name)))
+done (Cut name len) read = changes_file-with (Shortened len) read (string_bytes name) (option_map (take len) (read (string_bytes name))) (shortened-cut len (read (string_bytes name)))
 done (Sync name) read = (refl, refl)
 done (Rename renaming) read = refl
 

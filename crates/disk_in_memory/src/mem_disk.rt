@@ -2,7 +2,7 @@ ghost use Rattle.std.specs.Prelude.{◌≡◌, ◌≢◌, ◌≤◌, ◌^◌, �
 ghost use Rattle.std.specs.Option.{option_map};
 ghost use Rattle.disk.specs.DiskSeen.{AllowsStep, ChangesNothing, Follows, IsFresh, IsKept, TakesStep};
 ghost use Rattle.disk_in_memory.specs.MemDisk.{HasStopped, IsToFail, half_left_of, mem_disk_plan, mem_disk_seen};
-ghost use Rattle.disk.specs.Steps.{CutsShort, IsRenamed, MayBeRenamed, TearsRange, with_cut};
+ghost use Rattle.disk.specs.Steps.{CutsShort, IsRenamed, MayBeRenamed, Shortens, TearsRange, with_cut};
 ghost use Rattle.memory_objects.specs.MemStore.{HaveDistinctNames, file_named};
 ghost use Rattle.outside.specs.Count.{Rose, counted};
 ghost use Rattle.outside.specs.Unsynced.{AddsNone, with_handed, with_name};
@@ -230,10 +230,10 @@ impl Disk for MemDisk {
         ensures unsynced { OnOk result ((mem_disk_seen self.new).unsynced
             ≡ with_name (mem_disk_seen self.old).unsynced name.now true) }
         ensures fault { OnErr result (ChangesNothing (mem_disk_seen self.old) (mem_disk_seen self.new)) }
-        ensures any { OnOk result (AllowsStep (CutsShort name.now len) (mem_disk_seen self.old) (mem_disk_seen self.new)) }
+        ensures any { OnOk result (AllowsStep (Shortens name.now len) (mem_disk_seen self.old) (mem_disk_seen self.new)) }
         ensures cause { OnErr result (Rose (mem_disk_seen self.old).faults (mem_disk_seen self.new).faults) }
         ensures others { KeepsOthers name.now (mem_disk_seen self.old).unsynced (mem_disk_seen self.new).unsynced }
-        ensures leaves { TakesStep (CutsShort name.now len) (mem_disk_seen self.old) (mem_disk_seen self.new) }
+        ensures leaves { TakesStep (Shortens name.now len) (mem_disk_seen self.old) (mem_disk_seen self.new) }
     {
         if next_fails(&mut self.failures, self.stop) {
             return Err(DiskFault);

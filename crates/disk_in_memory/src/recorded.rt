@@ -3,7 +3,7 @@ ghost use Rattle.std.specs.Option.{option_copied};
 ghost use Rattle.disk_in_memory.specs.Calls.{MayMake, after_call, half_left, read_after};
 ghost use Rattle.disk.specs.DiskSeen.{AllowsStep, ChangesNothing, Follows, IsKept, TakesStep};
 ghost use Rattle.disk_in_memory.specs.Recorded.{first_named};
-ghost use Rattle.disk.specs.Steps.{CutsShort, IsRenamed, MayBeRenamed, TearsRange, with_cut};
+ghost use Rattle.disk.specs.Steps.{CutsShort, IsRenamed, MayBeRenamed, Shortens, TearsRange, with_cut};
 ghost use Rattle.memory_objects.specs.MemStore.{file_named};
 ghost use Rattle.memory_objects.specs.NameSet.{names_in};
 ghost use Rattle.outside.specs.Unsynced.{AddsNone, Names, with_handed, with_name};
@@ -96,10 +96,10 @@ impl RecordedFiles {
         ensures fault { OnErr result ((failed later : ℕ) → failed ≤ later
             → ChangesNothing (told_of self.old failed) (told_of self.new later)) }
         ensures any { OnOk result ((failed later : ℕ)
-            → AllowsStep (CutsShort name.now len) (told_of self.old failed) (told_of self.new later)) }
+            → AllowsStep (Shortens name.now len) (told_of self.old failed) (told_of self.new later)) }
         ensures others { KeepsOthers name.now (names_of self.old) (names_of self.new) }
         ensures leaves { (failed later : ℕ) → failed ≤ later
-            → TakesStep (CutsShort name.now len) (told_of self.old failed) (told_of self.new later) }
+            → TakesStep (Shortens name.now len) (told_of self.old failed) (told_of self.new later) }
     {
         let call = Call::cut(self.allocator(), name, len)?;
         self.change(name, call)?;

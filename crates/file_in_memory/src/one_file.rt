@@ -95,6 +95,12 @@ impl Store for OneFile {
 
     ghost seen = { one_file_seen };
 
+    ghost commits = { λ _ _ _. Unit {0} };
+
+    ghost commits_nothing = { λ _ _. tt };
+
+    ghost commits_on = { λ _ _ _ _ _ _ _. tt };
+
     fn size(&mut self, name: &str) -> Result<Option<u64>, StoreFault>
         ensures sure { IsOk result }
         ensures found { IfOk result (λ found. found ≡ option_map length ((one_file_seen self.old).files name.now)) }

@@ -37,6 +37,7 @@ pub(crate) fn link_at<S: Store>(
     ensures held { IfOk result (λ link. HoldsAsBuffered pages.new (λ shown. link ≡ number_at 4 (block_of shown block) at)) }
     ensures named { IfErr result (IfOut (λ number. (is_buffered (pages_of pages.new) block ≡ true)
         × HoldsAsBuffered pages.new (λ shown. number ≡ number_at 4 (block_of shown block) at))) }
+    ensures commits { S.commits [] store.old store.new }
 {
     let link = pages.word(store, block, at)?;
     if link >= blocks {
@@ -56,6 +57,7 @@ pub(crate) fn bring<S: Store>(
         (S.seen store.old) (S.seen store.new) pages.old pages.new }
     ensures brought { OnOk result (block ≢ 0 → is_buffered (pages_of pages.new) block ≡ true) }
     ensures cause { OnErr result (Rose (S.seen store.old).faults (S.seen store.new).faults) }
+    ensures commits { S.commits [] store.old store.new }
 {
     if block == 0 {
         return Ok(());
@@ -82,6 +84,7 @@ pub(crate) fn set_link<S: Store>(
         (S.seen store.old) (S.seen store.new) pages.old pages.new) }
     ensures buffered { (block ≢ 0 → is_buffered (pages_of pages.old) block ≡ true) → IsOk result }
     ensures cause { OnErr result (Rose (S.seen store.old).faults (S.seen store.new).faults) }
+    ensures commits { S.commits [] store.old store.new }
 {
     if block == 0 {
         return Ok(());
@@ -107,6 +110,7 @@ pub(crate) fn set_links<S: Store>(
         (S.seen store.old) (S.seen store.new) pages.old pages.new) }
     ensures buffered { is_buffered (pages_of pages.old) block ≡ true → IsOk result }
     ensures cause { OnErr result (Rose (S.seen store.old).faults (S.seen store.new).faults) }
+    ensures commits { S.commits [] store.old store.new }
 {
     pages.set_word(store, block, 0, next)?;
     pages.set_word(store, block, 4, previous)?;

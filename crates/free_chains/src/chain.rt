@@ -55,6 +55,7 @@ impl Walk {
         ensures reads { (S.seen store.new).reads ≤ (S.seen store.old).reads + 1 }
         ensures few_reads { IsWalk blocks self.old → (S.seen store.new).reads + vec_len self.old.links
             ≤ (S.seen store.old).reads + blocks }
+        ensures commits { S.commits [] store.old store.new }
     {
         if at >= blocks {
             return Err(CheckFault::Damage(damage_at(DamageKind::ChainOut, at)));
@@ -97,6 +98,7 @@ pub fn walk_chain<S: Store>(
     ensures leaves { OnlyReads (is_ok result) name.now (S.seen store.old) (S.seen store.new) }
     ensures reads { IfOk result (λ walk. (S.seen store.new).reads ≤ (S.seen store.old).reads + vec_len walk.links) }
     ensures few_reads { (S.seen store.new).reads ≤ (S.seen store.old).reads + blocks }
+    ensures commits { S.commits [] store.old store.new }
 {
     let mut walk = Walk::new(alloc, blocks)?;
     let mut at = head;

@@ -1,6 +1,6 @@
 //! How many blocks are free.
 
-ghost use Rattle.std.specs.Prelude.{◌≡◌, ◌⊎◌, ◌+◌, ◌<◌, ◌≤◌, length, IfOk, IfErr, is_ok};
+ghost use Rattle.std.specs.Prelude.{◌≡◌, ◌⊎◌, ◌+◌, ◌<◌, ◌≤◌, length, IfOk, IfErr, is_ok, []};
 ghost use Rattle.quota_pages.specs.Pages.{HoldsAsBuffered, pages_of};
 ghost use Rattle.quota_pages.specs.Used.{IsKnown, LooksAtSome, shown_over};
 ghost use Rattle.free_chains.specs.ChainFault.{IfOut, IsChainFault};
@@ -39,6 +39,7 @@ pub fn count_free<S: Store>(
         → EndsBefore (shown_over (S.seen store.old) pages.old) heads.now most number)) }
     ensures named { IfErr result (IfOut (λ number. HoldsAsBuffered pages.new
         (λ shown. EndsBefore shown heads.now most number))) }
+    ensures commits { S.commits [] store.old store.new }
 {
     let mut met: ArrayVec<u32, 4> = ArrayVec::new();
     let mut at = heads.free;

@@ -45,6 +45,7 @@ pub fn enter_entry_list<S: Store>(
     ensures stays { OnErr result (heads.new ≡ heads.old) }
     ensures refused { IfErr result (IsChainFault heads.old.blocks (S.seen store.old).faults (S.seen store.new).faults
         (λ number. number ≡ heads.old.first)) }
+    ensures commits { S.commits [] store.old store.new }
 {
     let first = heads.first;
     if first >= heads.blocks {
@@ -89,6 +90,7 @@ pub fn leave_entry_list<S: Store>(
         → StopsLeaving (shown_over (S.seen store.old) pages.old) heads.old.blocks n number)) }
     ensures named { IfErr result (IfOut (λ number. (is_buffered (pages_of pages.new) n ≡ true)
         × HoldsAsBuffered pages.new (λ shown. StopsLeaving shown heads.old.blocks n number))) }
+    ensures commits { S.commits [] store.old store.new }
 {
     let next = link_at(pages, store, heads.blocks, n, 0)?;
     let previous = link_at(pages, store, heads.blocks, n, 4)?;
@@ -118,6 +120,7 @@ fn unlink<S: Store>(
         (S.seen store.old) (S.seen store.new) pages.old pages.new) }
     ensures kept { OnErr result (LooksAtSome S.tells false 2 (S.seen store.old) (S.seen store.new) pages.old pages.new) }
     ensures cause { OnErr result (Rose (S.seen store.old).faults (S.seen store.new).faults) }
+    ensures commits { S.commits [] store.old store.new }
 {
     bring(pages, store, previous)?;
     set_link(pages, store, next, 4, previous)?;

@@ -46,6 +46,7 @@ pub fn take_block<S: Store>(
     ensures named { IfErr result (IfOut (λ number.
         (heads.old.free < heads.old.blocks → is_buffered (pages_of pages.new) heads.old.free ≡ true)
         × HoldsAsBuffered pages.new (λ shown. StopsTaking shown heads.old number))) }
+    ensures commits { S.commits [] store.old store.new }
 {
     if heads.free == 0 {
         return Ok(take_new(pages, store, heads)?);
@@ -76,6 +77,7 @@ pub fn give_block<S: Store>(
         (S.seen store.old) (S.seen store.new) pages.old pages.new) }
     ensures stays { OnErr result (heads.new ≡ heads.old) }
     ensures cause { OnErr result (Rose (S.seen store.old).faults (S.seen store.new).faults) }
+    ensures commits { S.commits [] store.old store.new }
 {
     pages.blank(store, n)?;
     pages.set_word(store, n, 0, heads.free)?;
@@ -101,6 +103,7 @@ fn take_new<S: Store>(
     ensures kept { OnErr result (LooksAtSome S.tells false 1 (S.seen store.old) (S.seen store.new) pages.old pages.new) }
     ensures stays { OnErr result (heads.new ≡ heads.old) }
     ensures cause { OnErr result (Rose (S.seen store.old).faults (S.seen store.new).faults) }
+    ensures commits { S.commits [] store.old store.new }
 {
     let block = heads.blocks;
     pages.blank(store, block)?;
@@ -132,6 +135,7 @@ fn take_listed<S: Store>(
     ensures named { IfErr result (IfOut (λ number.
         (heads.old.free < heads.old.blocks → is_buffered (pages_of pages.new) heads.old.free ≡ true)
         × HoldsAsBuffered pages.new (λ shown. StopsTaking shown heads.old number))) }
+    ensures commits { S.commits [] store.old store.new }
 {
     let first = heads.free;
     if first >= heads.blocks {

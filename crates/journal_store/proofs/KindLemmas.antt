@@ -5,6 +5,7 @@ use Rattle.std.specs.Str.{bytes_eq}
 use Rattle.std.proofs.Math.Bool.{or-true}
 use Rattle.std.proofs.Math.Seq.{drop-append_seam}
 use Rattle.std.proofs.lemmas.Bool.{false≢true, leb-true}
+use Rattle.outside.specs.Replacement.{replacement_name}
 use Rattle.outside.proofs.WorldLemmas.{bytes_eq-same}
 use Rattle.edit_journal.specs.UndoName.{und_name, undo_name}
 use Rattle.journal_store.specs.Kinds.{ends_so, is_new, is_undo, kind_of}
@@ -77,3 +78,8 @@ new-apart name other plain new same = false≢true (sym plain ∙ ap is_new (sym
 pub plain-empty : kind_of [] ≡ Plain
 unfolding is_undo is_new
 plain-empty = refl
+
+-- a name with the ending of new files added is one of them
+pub replacement-is_new : (name base : List ℕ) → name ≡ replacement_name base → is_new name ≡ true
+unfolding is_new replacement_name
+replacement-is_new name base is = ap is_new is ∙ ends-added base (codes ".new")

@@ -2,6 +2,7 @@ pub mod BesideLemmas
 pub mod CallLemmas
 pub mod ChangeLemmas
 pub mod CommitLemmas
+pub mod CommitsLemmas
 pub mod HeldCommitLemmas
 pub mod HeldLemmas
 pub mod KindLemmas

@@ -1,3 +1,4 @@
+pub mod Commits
 pub mod JournalStore
 pub mod Kinds
 pub mod Overlay

@@ -6,12 +6,13 @@ use disk::Disk;
 use outside::StoreFault;
 
 impl<D: Disk> Journal<D> {
-    ghost use Rattle.std.specs.Prelude.{◌≡◌, ◌≢◌, ◌⊎◌, ◌↔◌, ◌^◌, ◌≤◌, ℕ, List, [], None, Some, length, option_map, take, false, true, IfOk, IsErr, IsSome, IsTrue, OnErr, OnOk, is_ok};
+    ghost use Rattle.std.specs.Prelude.{◌≡◌, ◌≢◌, ◌⊎◌, ◌↔◌, ◌^◌, ◌≤◌, ◌∷◌, ℕ, List, [], None, Some, length, option_map, take, false, true, IfOk, IsErr, IsSome, IsTrue, OnErr, OnOk, is_ok};
     ghost use Rattle.disk.specs.DiskSeen.{ChangesNothing, OnlyLeaves, Passes};
     ghost use Rattle.edit_journal.specs.Recovery.{IsSame, RecoversSame};
     ghost use Rattle.edit_journal.specs.Settled.{IsRecovered, KeepsOtherThree};
     ghost use Rattle.edit_journal.specs.Undo.{recovered};
     ghost use Rattle.edit_journal.specs.UndoName.{und_name, undo_name};
+    ghost use Rattle.journal_store.specs.Commits.{Commits};
     ghost use Rattle.journal_store.specs.JournalStore.{IsAbsent, IsPending, IsRefused, IsRenameRefused, IsReplaceRefused, IsWriteRefused, RecoversAsBeforeOr, disk_of, told_of};
     ghost use Rattle.journal_store.specs.Kinds.{is_new, kind_of};
     ghost use Rattle.journal_store.specs.Told.{LooksAt};
@@ -32,6 +33,7 @@ impl<D: Disk> Journal<D> {
         ensures refused { IsRefused self.old name.now → IsErr result }
         ensures cause { OnErr result (IsRefused self.old name.now ⊎ Rose (disk_of self.old).faults (disk_of self.new).faults) }
         ensures counted { (disk_of self.old).faults ≤ (disk_of self.new).faults }
+        ensures commits { IsTrue D.tells → Commits [] (disk_of self.old) (disk_of self.new) }
     {
         match kind_of(name) {
             NameKind::Barred => Err(StoreFault),
@@ -52,6 +54,7 @@ impl<D: Disk> Journal<D> {
         ensures refused { IsRefused self.old name.now → IsErr result }
         ensures cause { OnErr result (IsRefused self.old name.now ⊎ Rose (disk_of self.old).faults (disk_of self.new).faults) }
         ensures counted { (disk_of self.old).faults ≤ (disk_of self.new).faults }
+        ensures commits { IsTrue D.tells → Commits [] (disk_of self.old) (disk_of self.new) }
     {
         let plain = self.enter(name)?;
         if plain {
@@ -78,6 +81,7 @@ impl<D: Disk> Journal<D> {
         ensures refused { IsRefused self.old name.now → IsErr result }
         ensures cause { OnErr result (IsRefused self.old name.now ⊎ Rose (disk_of self.old).faults (disk_of self.new).faults) }
         ensures counted { (disk_of self.old).faults ≤ (disk_of self.new).faults }
+        ensures commits { IsTrue D.tells → Commits [] (disk_of self.old) (disk_of self.new) }
     {
         let plain = self.enter(name)?;
         if plain {
@@ -111,6 +115,7 @@ impl<D: Disk> Journal<D> {
             ⊎ (IsTrue D.tells → IsAbsent (told_of self.old).files name.now)
             ⊎ Rose (disk_of self.old).faults (disk_of self.new).faults) }
         ensures counted { (disk_of self.old).faults ≤ (disk_of self.new).faults }
+        ensures commits { IsTrue D.tells → Commits [] (disk_of self.old) (disk_of self.new) }
     {
         let plain = self.enter(name)?;
         if plain {
@@ -136,6 +141,7 @@ impl<D: Disk> Journal<D> {
         ensures cause { OnErr result (IsReplaceRefused self.old name.now
             ⊎ Rose (disk_of self.old).faults (disk_of self.new).faults) }
         ensures counted { (disk_of self.old).faults ≤ (disk_of self.new).faults }
+        ensures commits { IsTrue D.tells → is_new name.now ≡ true → Commits [] (disk_of self.old) (disk_of self.new) }
     {
         let plain = self.enter(name)?;
         if plain {
@@ -164,6 +170,8 @@ impl<D: Disk> Journal<D> {
         ensures refused { IsRefused self.old name.now → IsErr result }
         ensures cause { OnErr result (IsRefused self.old name.now ⊎ Rose (disk_of self.old).faults (disk_of self.new).faults) }
         ensures counted { (disk_of self.old).faults ≤ (disk_of self.new).faults }
+        ensures commits { IsTrue D.tells → Commits ((told_of self.new).files ∷ []) (disk_of self.old) (disk_of self.new) }
+        ensures beside { IsTrue D.tells → is_new name.now ≡ true → Commits [] (disk_of self.old) (disk_of self.new) }
     {
         let plain = self.enter(name)?;
         if !plain {
@@ -195,6 +203,8 @@ impl<D: Disk> Journal<D> {
         ensures cause { OnErr result (IsRenameRefused self.old from.now to.now
             ⊎ Rose (disk_of self.old).faults (disk_of self.new).faults) }
         ensures counted { (disk_of self.old).faults ≤ (disk_of self.new).faults }
+        ensures commits { IsTrue D.tells → (told_of self.old).unsynced from.now ≡ false
+            → Commits (with_new_name (told_of self.old).files from.now to.now ∷ []) (disk_of self.old) (disk_of self.new) }
     {
         if kind_of(from) != NameKind::New || kind_of(to) != NameKind::Plain {
             return Err(StoreFault);
@@ -228,6 +238,7 @@ impl<D: Disk> Journal<D> {
         ensures kept { OnErr result (self.new.ranges.items ≡ self.old.ranges.items) }
         ensures cause { OnErr result (Rose (disk_of self.old).faults (disk_of self.new).faults) }
         ensures counted { (disk_of self.old).faults ≤ (disk_of self.new).faults }
+        ensures commits { IsTrue D.tells → Commits ((told_of self.new).files ∷ []) (disk_of self.old) (disk_of self.new) }
     {
         self.hold(name)?;
         self.held_commit(name)?;
@@ -246,6 +257,7 @@ impl<D: Disk> Journal<D> {
         ensures refused { IsRefused self.old name.now → IsErr result }
         ensures cause { OnErr result (IsRefused self.old name.now ⊎ Rose (disk_of self.old).faults (disk_of self.new).faults) }
         ensures counted { (disk_of self.old).faults ≤ (disk_of self.new).faults }
+        ensures commits { IsTrue D.tells → Commits [] (disk_of self.old) (disk_of self.new) }
     {
         if kind_of(name) != NameKind::Plain {
             return Err(StoreFault);

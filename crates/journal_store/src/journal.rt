@@ -33,13 +33,14 @@ pub(crate) struct Journal<D: Disk> {
 }
 
 impl<D: Disk> Journal<D> {
-    ghost use Rattle.std.specs.Prelude.{◌≢◌, ◌⊎◌, ◌^◌, ℕ, List, [], None, Some, option_map, take, false, true, IfOk, IsErr, OnErr, OnOk, is_ok};
+    ghost use Rattle.std.specs.Prelude.{◌≢◌, ◌⊎◌, ◌^◌, ◌∷◌, ℕ, List, [], None, Some, option_map, take, false, true, IfOk, IsErr, OnErr, OnOk, is_ok};
     ghost use Rattle.std.specs.Str.{bytes_eq};
     ghost use Rattle.disk.specs.DiskSeen.{ChangesNothing, OnlyLeaves, Passes};
     ghost use Rattle.edit_journal.specs.Recovery.{IsSame, RecoversSame};
     ghost use Rattle.edit_journal.specs.Settled.{KeepsOtherThree};
     ghost use Rattle.edit_journal.specs.Undo.{recovered};
     ghost use Rattle.edit_journal.specs.UndoName.{und_name};
+    ghost use Rattle.journal_store.specs.Commits.{Commits};
     ghost use Rattle.journal_store.specs.JournalStore.{HasNoRoom, HoldsSame, IsSecond, KeepsAny, RecoversAsBeforeOr, disk_of, told_of};
     ghost use Rattle.journal_store.specs.Told.{LooksAt};
     ghost use Rattle.outside.specs.Count.{Rose};
@@ -87,6 +88,7 @@ impl<D: Disk> Journal<D> {
         ensures second { IsSecond self.old name.now → IsErr result }
         ensures cause { OnErr result (IsSecond self.old name.now ⊎ Rose (disk_of self.old).faults (disk_of self.new).faults) }
         ensures counted { (disk_of self.old).faults ≤ (disk_of self.new).faults }
+        ensures commits { IsTrue D.tells → Commits [] (disk_of self.old) (disk_of self.new) }
     {
         let named = self.is_named(name);
         if self.ready && named {
@@ -295,6 +297,8 @@ impl<D: Disk> Journal<D> {
         ensures refused { KeepsAny self.old → IsErr result }
         ensures cause { OnErr result (KeepsAny self.old ⊎ Rose (disk_of self.old).faults (disk_of self.new).faults) }
         ensures counted { (disk_of self.old).faults ≤ (disk_of self.new).faults }
+        ensures commits { IsTrue D.tells → (told_of self.old).unsynced from.now ≡ false
+            → Commits (with_new_name (told_of self.old).files from.now to.now ∷ []) (disk_of self.old) (disk_of self.new) }
     {
         if !self.ranges.is_empty() {
             return Err(StoreFault);

@@ -1,6 +1,6 @@
 //! A store over a disk.
 
-ghost use Rattle.std.specs.Prelude.{List, ℕ, ◌≡◌, ◌≢◌, ◌⊎◌, ◌↔◌, ◌^◌, ◌≤◌, [], None, Some, length, option_map, take, false, true, if◌then◌else◌, IfOk, IsErr, IsSome, IsTrue, OnErr, OnOk, is_ok};
+ghost use Rattle.std.specs.Prelude.{List, ℕ, ◌≡◌, ◌≢◌, ◌⊎◌, ◌↔◌, ◌^◌, ◌≤◌, ◌∷◌, [], None, Some, length, option_map, take, false, true, if◌then◌else◌, IfOk, IsErr, IsSome, IsTrue, OnErr, OnOk, is_ok};
 ghost use Rattle.disk.specs.DiskSeen.{OnlyLeaves, Passes};
 ghost use Rattle.edit_journal.specs.Recovery.{RecoversSame};
 ghost use Rattle.edit_journal.specs.Settled.{IsRecovered, KeepsOtherThree};
@@ -10,6 +10,7 @@ ghost use Rattle.journal_store.specs.Kinds.{is_new, kind_of};
 ghost use Rattle.journal_store.specs.Told.{told_files, told_names};
 ghost use Rattle.outside.specs.Count.{Rose, counted};
 ghost use Rattle.outside.specs.Frame.{ChangesOne, ChangesTwo, OnlyReads};
+ghost use Rattle.outside.specs.Replacement.{replacement_name};
 ghost use Rattle.outside.specs.Unsynced.{AddsNone, with_handed, with_name};
 ghost use Rattle.outside.specs.World.{bytes_from, with_bytes, with_file, with_new_name};
 
@@ -52,6 +53,7 @@ fn outcome<T>(faults: &mut u64, done: Result<T, StoreFault>) -> Result<T, StoreF
 }
 
 impl<D: Disk> JournalStore<D> {
+    ghost use Rattle.journal_store.specs.Commits.{Commits};
     ghost use Rattle.journal_store.specs.JournalStore.{IsAbsent, IsPending, IsRefused, IsRenameRefused, IsReplaceRefused, IsWriteRefused, KeepsSame, RecoversAsBeforeOr, disk_in, disk_seen, inside, store_seen};
 
     /// A store over this disk. It holds no name.
@@ -112,6 +114,8 @@ impl<D: Disk> JournalStore<D> {
         ensures only { OnErr result (Rose (disk_seen self.old).faults (disk_seen self.new).faults) }
         ensures own { (store_seen self.new).faults
             ≡ (if is_ok result then (store_seen self.old).faults else counted (store_seen self.old).faults) }
+        ensures commits { IsTrue D.tells
+            → Commits ((store_seen self.new).files ∷ []) (disk_seen self.old) (disk_seen self.new) }
     {
         let done = self.journal.commit(name);
         outcome(&mut self.faults, done)
@@ -140,6 +144,7 @@ impl<D: Disk> JournalStore<D> {
             ⊎ Rose (disk_seen self.old).faults (disk_seen self.new).faults) }
         ensures own { (store_seen self.new).faults
             ≡ (if is_ok result then (store_seen self.old).faults else counted (store_seen self.old).faults) }
+        ensures commits { IsTrue D.tells → Commits [] (disk_seen self.old) (disk_seen self.new) }
     {
         let done = self.journal.recover(name);
         outcome(&mut self.faults, done)
@@ -147,11 +152,19 @@ impl<D: Disk> JournalStore<D> {
 }
 
 impl<D: Disk> Store for JournalStore<D> {
+    ghost use Rattle.journal_store.specs.Commits.{Commits, commits_then, nothing_commits};
     ghost use Rattle.journal_store.specs.JournalStore.{IsAbsent, IsPending, IsRefused, IsRenameRefused, IsReplaceRefused, IsWriteRefused, KeepsSame, RecoversAsBeforeOr, disk_in, disk_seen, inside, store_seen};
 
     ghost tells = { D.tells };
 
     ghost seen = { store_seen };
+
+    ghost commits = { λ worlds old new. IsTrue D.tells → Commits worlds (disk_seen old) (disk_seen new) };
+
+    ghost commits_nothing = { λ worlds store told. nothing_commits worlds (disk_seen store) };
+
+    ghost commits_on = { λ one two first between last former latter told.
+        commits_then one two (disk_seen first) (disk_seen between) (disk_seen last) (former told) (latter told) };
 
     fn size(&mut self, name: &str) -> Result<Option<u64>, StoreFault>
         ensures found { IfOk result (λ found. IsTrue D.tells → found ≡ option_map length ((store_seen self.old).files name.now)) }
@@ -165,6 +178,7 @@ impl<D: Disk> Store for JournalStore<D> {
             ⊎ Rose (disk_seen self.old).faults (disk_seen self.new).faults) }
         ensures own { (store_seen self.new).faults
             ≡ (if is_ok result then (store_seen self.old).faults else counted (store_seen self.old).faults) }
+        ensures commits { IsTrue D.tells → Commits [] (disk_seen self.old) (disk_seen self.new) }
     {
         let done = self.journal.size(name);
         outcome(&mut self.faults, done)
@@ -187,6 +201,7 @@ impl<D: Disk> Store for JournalStore<D> {
             ⊎ Rose (disk_seen self.old).faults (disk_seen self.new).faults) }
         ensures own { (store_seen self.new).faults
             ≡ (if is_ok result then (store_seen self.old).faults else counted (store_seen self.old).faults) }
+        ensures commits { IsTrue D.tells → Commits [] (disk_seen self.old) (disk_seen self.new) }
     {
         self.reads = self.reads.saturating_add(1);
         let done = self.journal.read(name, at, buf);
@@ -216,6 +231,7 @@ impl<D: Disk> Store for JournalStore<D> {
             ⊎ Rose (disk_seen self.old).faults (disk_seen self.new).faults) }
         ensures own { (store_seen self.new).faults
             ≡ (if is_ok result then (store_seen self.old).faults else counted (store_seen self.old).faults) }
+        ensures commits { IsTrue D.tells → Commits [] (disk_seen self.old) (disk_seen self.new) }
     {
         self.writes = self.writes.saturating_add(1);
         let done = self.journal.write(name, at, bytes);
@@ -237,6 +253,8 @@ impl<D: Disk> Store for JournalStore<D> {
             ⊎ Rose (disk_seen self.old).faults (disk_seen self.new).faults) }
         ensures own { (store_seen self.new).faults
             ≡ (if is_ok result then (store_seen self.old).faults else counted (store_seen self.old).faults) }
+        ensures commits { (base : List ℕ) → name.now ≡ replacement_name base → IsTrue D.tells
+            → Commits [] (disk_seen self.old) (disk_seen self.new) }
     {
         let done = self.journal.create(name);
         outcome(&mut self.faults, done)
@@ -261,6 +279,10 @@ impl<D: Disk> Store for JournalStore<D> {
             ⊎ Rose (disk_seen self.old).faults (disk_seen self.new).faults) }
         ensures own { (store_seen self.new).faults
             ≡ (if is_ok result then (store_seen self.old).faults else counted (store_seen self.old).faults) }
+        ensures commits { IsTrue D.tells
+            → Commits ((store_seen self.new).files ∷ []) (disk_seen self.old) (disk_seen self.new) }
+        ensures beside { (base : List ℕ) → name.now ≡ replacement_name base → IsTrue D.tells
+            → Commits [] (disk_seen self.old) (disk_seen self.new) }
     {
         let done = self.journal.sync(name);
         outcome(&mut self.faults, done)
@@ -283,6 +305,8 @@ impl<D: Disk> Store for JournalStore<D> {
             ⊎ Rose (disk_seen self.old).faults (disk_seen self.new).faults) }
         ensures own { (store_seen self.new).faults
             ≡ (if is_ok result then (store_seen self.old).faults else counted (store_seen self.old).faults) }
+        ensures commits { (store_seen self.old).unsynced from.now ≡ false → IsTrue D.tells
+            → Commits (with_new_name (store_seen self.old).files from.now to.now ∷ []) (disk_seen self.old) (disk_seen self.new) }
     {
         let done = self.journal.rename(from, to);
         outcome(&mut self.faults, done)

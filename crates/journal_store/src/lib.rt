@@ -12,6 +12,7 @@ mod calls;
 mod journal;
 mod journal_store;
 mod kinds;
+pub mod laws;
 mod overlay;
 
 pub use journal_store::JournalStore;

@@ -135,6 +135,12 @@ impl Store for MemStore {
 
     ghost seen = { mem_store_seen };
 
+    ghost commits = { λ _ _ _. Unit {0} };
+
+    ghost commits_nothing = { λ _ _. tt };
+
+    ghost commits_on = { λ _ _ _ _ _ _ _. tt };
+
     fn size(&mut self, name: &str) -> Result<Option<u64>, StoreFault>
         ensures planned { IsErr result
             ↔ Contains (mem_store_plan self.old).failing (counted (mem_store_plan self.old).calls) }

@@ -1,4 +1,5 @@
 pub mod ChangesLemmas
+pub mod CommittedLemmas
 pub mod EditsOneLemmas
 pub mod LoadLemmas
 pub mod LooksUpLemmas

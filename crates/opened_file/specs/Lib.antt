@@ -1,4 +1,5 @@
 pub mod Changes
+pub mod Committed
 pub mod EditsOne
 pub mod FileChange
 pub mod FileUse

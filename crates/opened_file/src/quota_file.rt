@@ -1,4 +1,4 @@
-ghost use Rattle.std.specs.Prelude.{◌≡◌, ◌+◌, ◌^◌, ◌<◌, ◌≤◌, ℕ, List, Option, None, Some, IsTrue, IfErr, IfOk, IfSome, IsSomeAnd};
+ghost use Rattle.std.specs.Prelude.{◌≡◌, ◌+◌, ◌^◌, ◌<◌, ◌≤◌, ℕ, List, Option, None, Some, IsTrue, IfErr, IfOk, IfSome, IsSomeAnd, []};
 ghost use Rattle.std.specs.FinMap.{get};
 ghost use Rattle.quota_types.specs.declared.damage.Damage.{Damage};
 ghost use Rattle.quota_types.specs.declared.file_kind.Format.{Format};
@@ -6,6 +6,7 @@ ghost use Rattle.quota_types.specs.Kept.{IsKept};
 ghost use Rattle.quota_types.specs.Range.{grace_unfit};
 ghost use Rattle.quota_types.specs.Rec.{IsNull};
 ghost use Rattle.opened_file.specs.Changes.{Changes, file_at, laws_of};
+ghost use Rattle.opened_file.specs.Committed.{CommitsOnce, StandsChanged};
 ghost use Rattle.opened_file.specs.FileChange.{FileChange, Put, Remove, SetGrace};
 ghost use Rattle.opened_file.specs.LooksUp.{LooksUp};
 ghost use Rattle.opened_file.specs.Passing.{first_after, passed_up_to};
@@ -170,7 +171,8 @@ pub trait QuotaFile<S: Store> {
         ensures looks { LooksUp Some (laws_of S.tells stands_for makes may_leave lacks_room may_refuse
             change_reads change_writes done_writes)
             (file_at (holds self.old store.old) (seen self.old) (S.seen store.old))
-            (file_at (holds self.new store.new) (seen self.new) (S.seen store.new)) (get_reads (seen self.old).format) result };
+            (file_at (holds self.new store.new) (seen self.new) (S.seen store.new)) (get_reads (seen self.old).format) result }
+        ensures commits { S.commits [] store.old store.new };
 
     /// The least identifier after another one, or the least of all, with its record; `None` where there is none.
     /// Whatever the store tells, an identifier that is answered comes after the one that was given and is below 2^32,
@@ -194,7 +196,8 @@ pub trait QuotaFile<S: Store> {
             ((S.seen store.old).files (seen self.old).name)) result }
         ensures passing { (value : QuotaValue) → holds self.old store.old value → (S.seen store.new).reads
             ≤ (S.seen store.old).reads + passing_reads (seen self.old) ((S.seen store.old).files (seen self.old).name)
-            (first_after after) (passed_up_to result) };
+            (first_after after) (passed_up_to result) }
+        ensures commits { S.commits [] store.old store.new };
 
     /// Gives an identifier this record, in place of the one that it may have. All other records stay. The record limits
     /// or counts something, and the format keeps it as it is. What was written is synced then.
@@ -210,7 +213,10 @@ pub trait QuotaFile<S: Store> {
         ensures changes { Changes (Put id rec) (laws_of S.tells stands_for makes may_leave lacks_room may_refuse
             change_reads change_writes done_writes)
             (file_at (holds self.old store.old) (seen self.old) (S.seen store.old))
-            (file_at (holds self.new store.new) (seen self.new) (S.seen store.new)) result };
+            (file_at (holds self.new store.new) (seen self.new) (S.seen store.new)) result }
+        ensures commits { CommitsOnce (λ worlds. S.commits worlds store.old store.new) (StandsChanged (Put id rec)
+            (holds self.old store.old) (stands_for (seen self.old).format) ((S.seen store.new).files (seen self.old).name))
+            (S.seen store.new).files };
 
     /// Takes an identifier's record away. All other records stay. Where it has none nothing is written, and nothing but a
     /// fault of the store refuses it. What was written is synced then. `Full` never comes.
@@ -225,7 +231,10 @@ pub trait QuotaFile<S: Store> {
         ensures changes { Changes (Remove id) (laws_of S.tells stands_for makes may_leave lacks_room may_refuse
             change_reads change_writes done_writes)
             (file_at (holds self.old store.old) (seen self.old) (S.seen store.old))
-            (file_at (holds self.new store.new) (seen self.new) (S.seen store.new)) result };
+            (file_at (holds self.new store.new) (seen self.new) (S.seen store.new)) result }
+        ensures commits { CommitsOnce (λ worlds. S.commits worlds store.old store.new) (StandsChanged (Remove id)
+            (holds self.old store.old) (stands_for (seen self.old).format) ((S.seen store.new).files (seen self.old).name))
+            (S.seen store.new).files };
 
     /// Sets both grace periods, for which the format has room. All records stay. What was written is synced then.
     /// `Full` never comes.
@@ -240,7 +249,10 @@ pub trait QuotaFile<S: Store> {
         ensures changes { Changes (SetGrace grace) (laws_of S.tells stands_for makes may_leave lacks_room may_refuse
             change_reads change_writes done_writes)
             (file_at (holds self.old store.old) (seen self.old) (S.seen store.old))
-            (file_at (holds self.new store.new) (seen self.new) (S.seen store.new)) result };
+            (file_at (holds self.new store.new) (seen self.new) (S.seen store.new)) result }
+        ensures commits { CommitsOnce (λ worlds. S.commits worlds store.old store.new) (StandsChanged (SetGrace grace)
+            (holds self.old store.old) (stands_for (seen self.old).format) ((S.seen store.new).files (seen self.old).name))
+            (S.seen store.new).files };
 
     /// What an opened file with its store holds rests on the named file, and on no other file of the store.
     ghost rests_on_named: { (file : Self) (one other : S) (value : QuotaValue)

@@ -1,4 +1,4 @@
-ghost use Rattle.std.specs.Prelude.{◌≡◌, ◌+◌, ◌^◌, ◌≤◌, length, false, None, Some, IsTrue, IfOk, IfErr, OnOk, OnErr};
+ghost use Rattle.std.specs.Prelude.{◌≡◌, ◌+◌, ◌^◌, ◌≤◌, length, false, None, Some, IsTrue, IfOk, IfErr, OnOk, OnErr, [], ◌∷◌, ℕ, List};
 ghost use Rattle.std.specs.String.{string_bytes};
 ghost use Rattle.outside.specs.Count.{Rose};
 ghost use Rattle.outside.specs.Frame.{ChangesOne, ReplacesOne, replaced_names};
@@ -70,6 +70,8 @@ pub fn replace<S: Store>(
     ensures leaves { ReplacesOne name.now (S.seen store.old) (S.seen store.new) }
     ensures reads { (S.seen store.new).reads ≡ (S.seen store.old).reads }
     ensures writes { (S.seen store.new).writes ≤ (S.seen store.old).writes + pieces_of (length bytes.now) }
+    ensures commits { IsTrue S.tells
+        → S.commits (replaced_files (S.seen store.old).files name.now bytes.now ∷ []) store.old store.new }
 {
     let new_name = name_of_new(alloc, name)?;
     write_new(store, new_name.as_str(), bytes)?;
@@ -101,6 +103,7 @@ fn write_new<S: Store>(store: &mut S, name: &str, bytes: &[u8]) -> Result<(), St
     ensures cause { OnErr result (Rose (S.seen store.old).faults (S.seen store.new).faults) }
     ensures leaves { ChangesOne name.now (S.seen store.old) (S.seen store.new) }
     ensures writes { (S.seen store.new).writes ≤ (S.seen store.old).writes + pieces_of (length bytes.now) }
+    ensures commits { (base : List ℕ) → name.now ≡ replacement_name base → S.commits [] store.old store.new }
 {
     store.create(name)?;
     let mut at = 0;

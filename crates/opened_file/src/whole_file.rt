@@ -1,4 +1,4 @@
-ghost use Rattle.std.specs.Prelude.{◌≡◌, ◌+◌, ◌≤◌, ◌++◌, length, min, vec_len, Some, IsTrue, IfOk, IfErr, OnOk, is_ok};
+ghost use Rattle.std.specs.Prelude.{◌≡◌, ◌+◌, ◌≤◌, ◌++◌, length, min, vec_len, Some, IsTrue, IfOk, IfErr, OnOk, is_ok, []};
 ghost use Rattle.outside.specs.Count.{Rose, counted};
 ghost use Rattle.outside.specs.Frame.{OnlyReads};
 ghost use Rattle.opened_file.specs.Load.{IsLoadFault, IsReadFault};
@@ -58,6 +58,7 @@ pub fn load<S: Store>(
     ensures leaves { OnlyReads (is_ok result) name.now (S.seen store.old) (S.seen store.new) }
     ensures reads { IsTrue S.tells → (S.seen store.new).reads
         ≤ (S.seen store.old).reads + pieces_of (length (file_of (S.seen store.old).files name.now)) }
+    ensures commits { S.commits [] store.old store.new }
 {
     let Some(size) = store.size(name)? else {
         return Err(LoadFault::NoFile);
@@ -91,6 +92,7 @@ fn append_block<S: Store>(
     ensures refused { IfErr result (IsReadFault (S.seen store.old).faults (S.seen store.new).faults) }
     ensures leaves { OnlyReads (is_ok result) name.now (S.seen store.old) (S.seen store.new) }
     ensures reads { (S.seen store.new).reads ≡ counted (S.seen store.old).reads }
+    ensures commits { S.commits [] store.old store.new }
 {
     let mut block = [0u8; 1024];
     let wanted = most.min(1024);

@@ -1,5 +1,9 @@
 -- What is said of an opened file of one format is said of it as one of any.
-use Rattle.std.proofs.Common.{◌≡◌, ◌<◌, ◌≤◌, ℕ, Bool, Result, refl, sym, ap, subst, ◌∙◌, arith, true≢false, IsTrue, List, Option, Some}
+use Rattle.quota_v1.specs.FlatFile.{FlatStandsFor}
+use Rattle.tree_file.specs.Opened.{HoldsTree}
+use Rattle.std.specs.Prelude.{IsSomeAnd}
+use Rattle.opened_file.specs.Committed.{StandsChanged}
+use Rattle.std.proofs.Common.{◌≡◌, ◌<◌, ◌≤◌, ℕ, Bool, Result, refl, sym, ap, subst, ◌∙◌, arith, true≢false, IsTrue, List, Option, Some, None}
 use Rattle.quota_types.specs.Format.{IsTreeFormat}
 use Rattle.quota_types.specs.declared.file_kind.Format.{Format}
 use Rattle.quota_types.specs.declared.file_kind.Format.TheVariants.{V1 as Flat, V2R0, V2R1}
@@ -19,11 +23,11 @@ use Rattle.quota_pages.specs.Pages.{name_of}
 use Rattle.tree_file.specs.Room.{blocks_wanted}
 use Rattle.tree_file.specs.TreeChange.{TreeLeaves, most_blocks, tree_at, tree_change_reads, tree_change_writes, tree_done_writes, tree_laws}
 use Rattle.tree_file.specs.declared.opened_tree.TreeFile.{TreeFile}
-use Rattle.quota_v1.specs.Opened.{flat_at, flat_laws, most_next_reads}
+use Rattle.quota_v1.specs.Opened.{flat_at, flat_laws, most_next_reads, HoldsFlat}
 use Rattle.quota_v1.specs.declared.flat_file.V1File.{V1File}
 use Rattle.quota_map.specs.declared.any_file.AnyFile.{AnyFile}
 use Rattle.quota_map.specs.declared.any_file.AnyFile.TheVariants.{V1, Tree}
-use Rattle.quota_map.specs.AnyFile.{AnyLeaves, any_at, any_change_reads, any_change_writes, any_done_writes, any_get_reads, any_laws, any_next_reads, any_seen, done_writes_of, reads_of_change, reads_of_get, reads_of_next, writes_of_change}
+use Rattle.quota_map.specs.AnyFile.{AnyLeaves, any_at, any_change_reads, any_change_writes, any_done_writes, any_get_reads, any_laws, any_next_reads, any_seen, done_writes_of, reads_of_change, reads_of_get, reads_of_next, writes_of_change, HoldsAny}
 use Rattle.quota_map.specs.Rests.{stands_as_tree}
 use Rattle.quota_map.specs.StandsFor.{StandsForAs}
 use Rattle.std.specs.String.{string_bytes}
@@ -245,3 +249,25 @@ pub tree_in_place : (self : AnyFile) (file : TreeFile) (tells : Bool) (old new :
     → StaysInPlace tells (name_of file.pages) old new result → StaysInPlace tells (any_seen self).name old new result
 tree_in_place self file tells old new result is stays =
     subst (λ (f : AnyFile). StaysInPlace tells (any_seen f).name old new result) (sym is) stays
+
+-- of a file that stands for something as one of its format does, as one of any
+some_stands : (after : Option (List ℕ)) (one other : List ℕ → Type 0) → ((bytes : List ℕ) → one bytes → other bytes) → IsSomeAnd after one → IsSomeAnd after other
+some_stands None one other then is = is
+some_stands (Some bytes) one other then is = then bytes is
+
+-- a flat file stands for what a change makes of what was held
+pub flat_stands_changed : (self : AnyFile) (file : V1File) (tells : Bool) (old : World) (change : FileChange) (after : Option (List ℕ)) → self ≡ V1 file
+    → StandsChanged change (HoldsFlat tells (old (string_bytes file.name)) file.len file.times file.window) FlatStandsFor after
+    → StandsChanged change (HoldsAny tells old self) (StandsForAs (any_seen self).format) after
+flat_stands_changed self file tells old change after is stands =
+    subst (λ (f : AnyFile). StandsChanged change (HoldsAny tells old f) (StandsForAs (any_seen f).format) after) (sym is) (λ value held. stands value held)
+
+-- and a tree file
+pub tree_stands_changed : (self : AnyFile) (file : TreeFile) (tells : Bool) (old : World) (change : FileChange) (after : Option (List ℕ)) → self ≡ Tree file → IsTreeFormat file.header.format
+    → StandsChanged change (HoldsTree tells (old (name_of file.pages)) file.header file.coming file.limit) TreeStandsFor after
+    → StandsChanged change (HoldsAny tells old self) (StandsForAs (any_seen self).format) after
+tree_stands_changed self file tells old change after is other stands =
+    subst (λ (f : AnyFile). StandsChanged change (HoldsAny tells old f) (StandsForAs (any_seen f).format) after) (sym is)
+    (λ value held.
+    some_stands after (λ bytes. TreeStandsFor bytes (changed_value change value)) (λ bytes. StandsForAs file.header.format bytes (changed_value change value))
+    (λ bytes. stands_tree file.header.format bytes (changed_value change value) other) (stands value held))

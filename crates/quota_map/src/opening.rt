@@ -1,4 +1,4 @@
-ghost use Rattle.std.specs.Prelude.{◌≡◌, ◌+◌, ◌≤◌, Ok, IsTrue, IfOk, IfErr, OnOk, is_ok};
+ghost use Rattle.std.specs.Prelude.{◌≡◌, ◌+◌, ◌≤◌, Ok, IsTrue, IfOk, IfErr, OnOk, is_ok, []};
 ghost use Rattle.outside.specs.Frame.{OnlyReads};
 ghost use Rattle.quota_value.specs.QuotaValue.{QuotaValue};
 ghost use Rattle.file_blocks.specs.Block.{file_of};
@@ -42,6 +42,7 @@ pub fn open_file<S: Store>(
     ensures leaves { OnlyReads (is_ok result) name.now (S.seen store.old) (S.seen store.new) }
     ensures reads { IsTrue S.tells → (S.seen store.new).reads ≤ (S.seen store.old).reads
         + opening_reads format (file_of (S.seen store.old).files name.now) }
+    ensures commits { S.commits [] store.old store.new }
 {
     if asks_flat(format) {
         return Ok(AnyFile::V1(open_v1(alloc, store, name)?));

@@ -1,4 +1,4 @@
-ghost use Rattle.std.specs.Prelude.{◌≡◌, ◌+◌, ◌*◌, ◌^◌, ◌<◌, ◌≤◌, IsTrue, All, IfOk, length};
+ghost use Rattle.std.specs.Prelude.{◌≡◌, ◌+◌, ◌*◌, ◌^◌, ◌<◌, ◌≤◌, IsTrue, All, IfOk, length, []};
 ghost use Rattle.std.specs.FinMap.{entries};
 ghost use Rattle.std.specs.List.Sorted.{IsStrictlyIncreasing};
 ghost use Rattle.quota_types.specs.Kept.{IsKept};
@@ -41,6 +41,7 @@ pub fn read_all<S: Store>(
     ensures few { (value : QuotaValue) → HoldsAny S.tells (S.seen store.old).files file.old value
         → (S.seen store.new).reads ≤ (S.seen store.old).reads
         + reads_over (any_passing_reads (any_seen file.old) ((S.seen store.old).files (any_seen file.old).name)) (length (entries value.records)) }
+    ensures commits { S.commits [] store.old store.new }
 {
     let mut list = Vec::new(alloc);
     let mut after = None;

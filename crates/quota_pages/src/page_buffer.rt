@@ -1,4 +1,4 @@
-ghost use Rattle.std.specs.Prelude.{◌≡◌, ◌≤◌, IsTrue, length, is_ok};
+ghost use Rattle.std.specs.Prelude.{◌≡◌, ◌≤◌, IsTrue, length, is_ok, []};
 ghost use Rattle.quota_pages.specs.Held.{pages_in};
 ghost use Rattle.quota_pages.specs.Page.{are_distinct};
 
@@ -87,6 +87,7 @@ impl Pages {
             then (S.seen store.old).reads else counted (S.seen store.old).reads) }
         ensures cause { OnErr result (Rose (S.seen store.old).faults (S.seen store.new).faults) }
         ensures leaves { OnlyReads (is_ok result) (name_of self.old) (S.seen store.old) (S.seen store.new) }
+        ensures commits { S.commits [] store.old store.new }
     {
         let place = self.bring(store, n)?;
         Ok(self.held.block(place))
@@ -111,6 +112,7 @@ impl Pages {
             then (S.seen store.old).reads else counted (S.seen store.old).reads) }
         ensures cause { OnErr result (Rose (S.seen store.old).faults (S.seen store.new).faults) }
         ensures leaves { OnlyReads (is_ok result) (name_of self.old) (S.seen store.old) (S.seen store.new) }
+        ensures commits { S.commits [] store.old store.new }
     {
         let place = self.bring(store, n)?;
         Ok(self.held.lend(place))
@@ -133,6 +135,7 @@ impl Pages {
         ensures brought { OnOk result (is_buffered (pages_of self.new) n ≡ true) }
         ensures buffered { is_buffered (pages_of self.old) n ≡ true → (IsOk result) × (store.new ≡ store.old) }
         ensures cause { OnErr result (Rose (S.seen store.old).faults (S.seen store.new).faults) }
+        ensures commits { S.commits [] store.old store.new }
     {
         let block = self.peek(store, n)?;
         Ok(le32(block, at))
@@ -162,6 +165,7 @@ impl Pages {
         ensures brought { OnOk result (is_buffered (pages_of self.new) n ≡ true) }
         ensures buffered { is_buffered (pages_of self.old) n ≡ true → (IsOk result) × (store.new ≡ store.old) }
         ensures cause { OnErr result (Rose (S.seen store.old).faults (S.seen store.new).faults) }
+        ensures commits { S.commits [] store.old store.new }
     {
         let block = self.page(store, n)?;
         set_le32(block, at, value);
@@ -185,6 +189,7 @@ impl Pages {
         ensures brought { OnOk result (is_buffered (pages_of self.new) n ≡ true) }
         ensures buffered { is_buffered (pages_of self.old) n ≡ true → (IsOk result) × (store.new ≡ store.old) }
         ensures cause { OnErr result (Rose (S.seen store.old).faults (S.seen store.new).faults) }
+        ensures commits { S.commits [] store.old store.new }
     {
         self.page(store, n)?.fill(0);
         Ok(())
@@ -213,6 +218,7 @@ impl Pages {
         ensures name { name_of self.new ≡ name_of self.old }
         ensures empty { OnOk result (pages_of self.new ≡ []) }
         ensures kept { OnErr result (pages_of self.new ≡ pages_of self.old) }
+        ensures commits { S.commits [] store.old store.new }
     {
         write_pages(store, self.name.as_str(), &self.held)?;
         self.clear();
@@ -238,6 +244,7 @@ impl Pages {
             then (S.seen store.old).reads else counted (S.seen store.old).reads) }
         ensures cause { OnErr result (Rose (S.seen store.old).faults (S.seen store.new).faults) }
         ensures leaves { OnlyReads (is_ok result) (name_of self.old) (S.seen store.old) (S.seen store.new) }
+        ensures commits { S.commits [] store.old store.new }
     {
         match self.held.place_of(number) {
             Some(place) => Ok(place),
@@ -255,6 +262,7 @@ impl Pages {
         ensures reads { (S.seen store.new).reads ≡ counted (S.seen store.old).reads }
         ensures cause { OnErr result (Rose (S.seen store.old).faults (S.seen store.new).faults) }
         ensures leaves { OnlyReads (is_ok result) (name_of self.old) (S.seen store.old) (S.seen store.new) }
+        ensures commits { S.commits [] store.old store.new }
     {
         let mut block = [0; 1024];
         read_block(store, self.name.as_str(), number, &mut block)?;

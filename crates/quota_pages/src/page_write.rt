@@ -31,6 +31,7 @@ pub(crate) fn write_pages<S: Store>(
     ensures idle { is_some_lent (pages_in held.now.heads.items held.now.blocks.items) ≡ false
         → (IsOk result) × (store.new ≡ store.old) }
     ensures leaves { ChangesOne name.now (S.seen store.old) (S.seen store.new) }
+    ensures commits { S.commits [] store.old store.new }
 {
     for place in 0..held.count() {
         let head = held.head(place);
@@ -59,6 +60,7 @@ fn write_page<S: Store>(
     ensures unsynced { OnOk result (IsTrue S.tells → (S.seen store.new).unsynced
         ≡ (if lent then with_name (S.seen store.old).unsynced name.now true else (S.seen store.old).unsynced)) }
     ensures idle { lent ≡ false → (IsOk result) × (store.new ≡ store.old) }
+    ensures commits { S.commits [] store.old store.new }
 {
     if !lent {
         return Ok(());

@@ -1,4 +1,4 @@
-ghost use Rattle.std.specs.Prelude.{◌≡◌, ◌+◌, ◌<◌, ◌≤◌, length, min, take, true, false, slice_get, IfErr, IfOk, OnErr, OnOk, is_ok};
+ghost use Rattle.std.specs.Prelude.{◌≡◌, ◌+◌, ◌<◌, ◌≤◌, length, min, take, true, false, slice_get, IfErr, IfOk, OnErr, OnOk, is_ok, []};
 ghost use Rattle.file_blocks.specs.Block.{word_at};
 ghost use Rattle.quota_types.specs.declared.damage.DamageKind.TheVariants.{RefOut};
 ghost use Rattle.quota_pages.specs.Page.{is_buffered};
@@ -42,6 +42,7 @@ pub(crate) fn reference_in<S: Store>(
         × HoldsAsBuffered pages.new (λ shown. blocks ≤ word_at shown block digit))) }
     ensures looked { LooksAtSome S.tells (is_ok result) (missing (pages_of pages.old) block) (S.seen store.old) (S.seen store.new) pages.old pages.new }
     ensures brought { OnOk result (missing (pages_of pages.new) block ≡ 0) }
+    ensures commits { S.commits [] store.old store.new }
 {
     let reference = pages.word(store, block, 4 * usize::from(digit))?;
     if reference < blocks {
@@ -85,6 +86,7 @@ pub fn find_path<S: Store>(
         (S.seen store.old) (S.seen store.new) pages.old pages.new) }
     ensures kept { OnErr result (LooksAtSome S.tells false 4 (S.seen store.old) (S.seen store.new) pages.old pages.new) }
     ensures buffered { IfOk result (λ path. AreBuffered (pages_of pages.new) (take 4 path.found.items)) }
+    ensures commits { S.commits [] store.old store.new }
 {
     let mut found = ArrayVec::new();
     found.push(ROOT);
@@ -128,6 +130,7 @@ pub fn leaf<S: Store>(
     ensures named { IfErr result (IfDamaged (λ damage. HoldsAsBuffered pages.new
         (λ shown. IsOutOnWay shown blocks id damage.block))) }
     ensures looked { LooksAtSome S.tells (is_ok result) 4 (S.seen store.old) (S.seen store.new) pages.old pages.new }
+    ensures commits { S.commits [] store.old store.new }
 {
     let mut block = ROOT;
     for digit in digits(id) {

@@ -1,4 +1,4 @@
-ghost use Rattle.std.specs.Prelude.{◌≡◌, ◌⊎◌, ◌+◌, ◌-◌, ◌*◌, ◌^◌, ◌<◌, ◌≤◌, ℕ, List, suc, length, true, IfErr, IfNone, IfOk, IfSome, OnOk, Some, is_ok};
+ghost use Rattle.std.specs.Prelude.{◌≡◌, ◌⊎◌, ◌+◌, ◌-◌, ◌*◌, ◌^◌, ◌<◌, ◌≤◌, ℕ, List, suc, length, true, IfErr, IfNone, IfOk, IfSome, OnOk, Some, is_ok, []};
 ghost use Rattle.std.specs.List.{flat_map};
 ghost use Rattle.std.specs.Option.{option_map};
 ghost use Rattle.file_blocks.specs.Block.{block_of, word_at};
@@ -50,6 +50,7 @@ fn step<S: Store>(
         → blocks ≤ word_at (shown_over (S.seen store.old) pages.old) path.block digit))) }
     ensures looked { LooksAtSome S.tells (is_ok result) (missing (pages_of pages.old) path.block) (S.seen store.old) (S.seen store.new) pages.old pages.new }
     ensures brought { OnOk result (missing (pages_of pages.new) path.block ≡ 0) }
+    ensures commits { S.commits [] store.old store.new }
 {
     let block = reference_in(pages, store, blocks, path.block, digit)?;
     if block == 0 {
@@ -130,6 +131,7 @@ fn first_step<S: Store>(
         × (blocks ≤ word_at (shown_over (S.seen store.old) pages.old) path.block digit)))) }
     ensures looked { LooksAtSome S.tells (is_ok result) (missing (pages_of pages.old) path.block) (S.seen store.old) (S.seen store.new) pages.old pages.new }
     ensures brought { OnOk result (missing (pages_of pages.new) path.block ≡ 0) }
+    ensures commits { S.commits [] store.old store.new }
 {
     let block = pages.peek(store, path.block)?;
     Ok(first_in(block, blocks, path, first)?)
@@ -161,6 +163,7 @@ fn least_below<S: Store>(
         → IsBelowRoot (shown_over (S.seen store.old) pages.old) blocks to_go path
         → IsWayFault (shown_over (S.seen store.old) pages.old) blocks damage))) }
     ensures looked { LooksAtSome S.tells (is_ok result) to_go (S.seen store.old) (S.seen store.new) pages.old pages.new }
+    ensures commits { S.commits [] store.old store.new }
 {
     if to_go == 0 {
         return Ok(path);
@@ -203,6 +206,7 @@ fn least_past<S: Store>(
     ensures looked { LooksAtSome S.tells (is_ok result) to_go (S.seen store.old) (S.seen store.new) pages.old pages.new }
     ensures none { IfOk result (λ found. IfNone found
         (LooksAtSome S.tells true 0 (S.seen store.old) (S.seen store.new) pages.old pages.new)) }
+    ensures commits { S.commits [] store.old store.new }
 {
     match first_step(pages, store, blocks, path, u32::from(digit) + 1)? {
         Some(next) => Ok(Some(least_below(pages, store, blocks, next, to_go)?)),
@@ -243,6 +247,7 @@ fn first_below<S: Store>(
     ensures looked { LooksAtSome S.tells (is_ok result) (2 * length digits.now - 1) (S.seen store.old) (S.seen store.new) pages.old pages.new }
     ensures none { IfOk result (λ found. IfNone found
         (LooksAtSome S.tells true (length digits.now) (S.seen store.old) (S.seen store.new) pages.old pages.new)) }
+    ensures commits { S.commits [] store.old store.new }
 {
     let Some((digit, rest)) = digits.split_first() else {
         return Ok(Some(path));
@@ -279,6 +284,7 @@ fn first_leaf_from<S: Store>(
         (λ damage. (missing (pages_of pages.new) damage.block ≡ 0)
         × (IsKnown S.tells (S.seen store.old) pages.old → IsWayFault (shown_over (S.seen store.old) pages.old) blocks damage))) }
     ensures looked { LooksAtSome S.tells (is_ok result) 7 (S.seen store.old) (S.seen store.new) pages.old pages.new }
+    ensures commits { S.commits [] store.old store.new }
 {
     let root = TreePath {
         number: 0,
@@ -334,6 +340,7 @@ pub fn next_leaf<S: Store>(
         × (IsKnown S.tells (S.seen store.old) pages.old
         → IsWayFault (shown_over (S.seen store.old) pages.old) blocks damage))) }
     ensures looked { LooksAtSome S.tells (is_ok result) 7 (S.seen store.old) (S.seen store.new) pages.old pages.new }
+    ensures commits { S.commits [] store.old store.new }
 {
     let Some(from) = id_after(after) else {
         return Ok(None);

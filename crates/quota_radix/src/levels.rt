@@ -36,6 +36,7 @@ pub(crate) fn next_level<S: Store>(
         → IsLevelDefect (file_of (S.seen store.old).files name.now) blocks (blocks_of level.now) damage)) }
     ensures leaves { OnlyReads (is_ok result) name.now (S.seen store.old) (S.seen store.new) }
     ensures reads { (S.seen store.new).reads ≤ (S.seen store.old).reads + length level.now }
+    ensures commits { S.commits [] store.old store.new }
 {
     let mut next = Vec::new(alloc);
     let mut block = [0u8; 1024];

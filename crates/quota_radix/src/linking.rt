@@ -61,6 +61,7 @@ pub fn link<S: Store>(
     ensures few { AreBuffered (pages_of pages.old) (changed_blocks path.now.found.items fresh.now)
         → length (pages_of pages.new) ≤ length (pages_of pages.old) }
     ensures cause { OnErr result (Rose (S.seen store.old).faults (S.seen store.new).faults) }
+    ensures commits { S.commits [] store.old store.new }
 {
     let way = whole_way(path, fresh, leaf_block);
     let first = path.found.len() - 1;
@@ -98,6 +99,7 @@ pub(crate) fn bring_in<S: Store>(
     ensures few { AreBuffered (pages_of pages.old) numbers.now
         → length (pages_of pages.new) ≤ length (pages_of pages.old) }
     ensures cause { OnErr result (Rose (S.seen store.old).faults (S.seen store.new).faults) }
+    ensures commits { S.commits [] store.old store.new }
 {
     for number in numbers {
         pages.word(store, *number, 0)?;
@@ -127,6 +129,7 @@ fn set_refs<S: Store>(
         → LeadsAlong way.now first id (shown_over (S.seen store.old) pages.old) (shown_over (S.seen store.new) pages.new) }
     ensures lends { LendsSome S.tells true 0 (take (4 - first) (drop first way.now))
         (S.seen store.old) (S.seen store.new) pages.old pages.new }
+    ensures commits { S.commits [] store.old store.new }
 {
     let digits = digits(id);
     for place in first..4 {

@@ -1,4 +1,4 @@
-ghost use Rattle.std.specs.Prelude.{◌≡◌, ◌≤◌, ◌+◌, ◌*◌, ◌^◌, ◌⊎◌, ◌++◌, ℕ, List, length, All, IsTrue, OnOk, IfOk, IfErr, is_ok};
+ghost use Rattle.std.specs.Prelude.{◌≡◌, ◌≤◌, ◌+◌, ◌*◌, ◌^◌, ◌⊎◌, ◌++◌, ℕ, List, length, All, IsTrue, OnOk, IfOk, IfErr, is_ok, []};
 ghost use Rattle.std.specs.List.{flat_map};
 ghost use Rattle.outside.specs.Frame.{OnlyReads};
 ghost use Rattle.file_blocks.specs.BlockSet.{AreFlagsOf};
@@ -48,6 +48,7 @@ pub fn find_leaves<S: Store>(
         → AreMarkedReads blocks met.new.flags.items numbers (S.seen store.old).reads (S.seen store.new).reads) }
     ensures few_reads { (numbers : List ℕ) → AreFlagsOf blocks met.old.flags.items numbers
         → (S.seen store.new).reads + length numbers ≤ (S.seen store.old).reads + blocks }
+    ensures commits { S.commits [] store.old store.new }
 {
     let root = [TreePath {
         number: 0,
@@ -86,6 +87,7 @@ fn go_down<S: Store>(
     ensures reads { (S.seen store.new).reads ≤ (S.seen store.old).reads + length level.now }
     ensures few_reads { (numbers : List ℕ) → AreFlagsOf blocks met.old.flags.items numbers
         → (S.seen store.new).reads + length numbers ≤ (S.seen store.old).reads + blocks }
+    ensures commits { S.commits [] store.old store.new }
 {
     mark_all(met, level)?;
     next_level(alloc, store, name, blocks, level)

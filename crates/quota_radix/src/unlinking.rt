@@ -60,6 +60,7 @@ pub fn unlink<S: Store>(
     ensures buffered { AreBuffered (pages_of pages.old) (take 4 path.now.found.items)
         → (IsOk result) × (store.new ≡ store.old) }
     ensures cause { OnErr result (Rose (S.seen store.old).faults (S.seen store.new).faults) }
+    ensures commits { S.commits [] store.old store.new }
 {
     let way = path.found.as_slice();
     bring_in(pages, store, &way[..4])?;
@@ -98,6 +99,7 @@ fn clear_refs<S: Store>(
     ensures lends { IfOk result (λ emptied. LendsSome S.tells true 0
         (emptied.items ++ slice_index way.now (3 - array_vec_len emptied) ∷ [])
         (S.seen store.old) (S.seen store.new) pages.old pages.new) }
+    ensures commits { S.commits [] store.old store.new }
 {
     let digits = digits(id);
     let mut emptied = ArrayVec::new();
@@ -129,6 +131,7 @@ fn is_without_refs<S: Store>(
     ensures empty { IfOk result (λ empty. IsKnown S.tells (S.seen store.old) pages.old
         → (IsTrue empty ↔ IsEmpty (shown_over (S.seen store.old) pages.old) number)) }
     ensures looked { LooksAtSome S.tells true 0 (S.seen store.old) (S.seen store.new) pages.old pages.new }
+    ensures commits { S.commits [] store.old store.new }
 {
     let block = pages.peek(store, number)?;
     Ok(has_no_refs(block))

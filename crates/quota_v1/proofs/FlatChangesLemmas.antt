@@ -1,5 +1,5 @@
 -- A flat file of which one record was written for a change of it.
-use Rattle.std.proofs.Common.{◌≡◌, ◌⊎◌, ℕ, ◌+◌, ◌*◌, ◌≤◌, ◌%◌, max, None, Bool, false, IfErr, List, [], length, Option, Some, Result, Ok, Err, inl, inr, refl, sym, ap, subst, ◌∙◌, arith}
+use Rattle.std.proofs.Common.{◌≡◌, ◌⊎◌, IsTrue, ℕ, ◌+◌, ◌*◌, ◌≤◌, ◌%◌, max, None, Bool, false, IfErr, List, [], length, Option, Some, Result, Ok, Err, inl, inr, refl, sym, ap, subst, ◌∙◌, arith}
 use Rattle.std.specs.Prelude.{IsSomeAnd}
 use Rattle.file_blocks.specs.Block.{bytes_of}
 use Rattle.outside.specs.Frame.{OnlyReads}
@@ -113,6 +113,14 @@ module _ (change : FileChange) (tells : Bool) (so : (before after : List ℕ) �
 
   wanted : IsBusy → IsWanted change (flat_laws tells) before
   wanted busy = record { busy = busy; room = λ needs value blocks limit held lacks. lacks }
+
+  -- the named file, once it was made so, stands for the changed value
+  pub flat_stands : WritesRight → (IsTrue tells → MakesOne so name old.files new.files) → (value : QuotaValue) → HoldsFlat tells (old.files name) len times window value
+      → IsSomeAnd (new.files name) (λ bytes. FlatStandsFor bytes (changed_value change value))
+  flat_stands right made value held =
+      let after = made held.told in
+      subst (λ (n : Option (List ℕ)). IsSomeAnd n (λ bytes. FlatStandsFor bytes (changed_value change value))) (sym (named_after so name old.files new.files after))
+      ((right_of right value held after).change_of.stands value held.stands)
 
   -- it was done
   pub flat_done : {E : Type 0} (told told' : Unit {0}) → ChangesFile {E = E} tells so name old new (Ok told) → IsBusy → WritesRight

@@ -1,4 +1,4 @@
-ghost use Rattle.std.specs.Prelude.{◌≡◌, ◌+◌, ◌%◌, ◌≤◌, true, Ok, IsTrue, IfOk, IfErr, IsSomeAnd, length, is_ok};
+ghost use Rattle.std.specs.Prelude.{◌≡◌, ◌+◌, ◌%◌, ◌≤◌, true, Ok, IsTrue, IfOk, IfErr, IsSomeAnd, length, is_ok, []};
 ghost use Rattle.quota_types.specs.declared.file_kind.Kind.{Kind};
 ghost use Rattle.quota_types.specs.declared.file_kind.Format.TheVariants.{V1};
 ghost use Rattle.outside.specs.Frame.{OnlyReads};
@@ -37,6 +37,7 @@ pub fn open_v1<S: Store>(alloc: Global, store: &mut S, name: &str) -> Result<V1F
         ((S.seen store.old).files name.now)) }
     ensures leaves { OnlyReads (is_ok result) name.now (S.seen store.old) (S.seen store.new) }
     ensures reads { (S.seen store.new).reads ≤ (S.seen store.old).reads + 1 }
+    ensures commits { S.commits [] store.old store.new }
 {
     let own_name = match String::from_str(alloc, name) {
         Ok(own_name) => own_name,
@@ -69,6 +70,7 @@ fn accepted_len<S: Store>(store: &mut S, name: &str) -> Result<u64, OpenFault>
         ((S.seen store.old).files name.now)) }
     ensures leaves { OnlyReads (is_ok result) name.now (S.seen store.old) (S.seen store.new) }
     ensures reads { (S.seen store.new).reads ≡ (S.seen store.old).reads }
+    ensures commits { S.commits [] store.old store.new }
 {
     let len = match store.size(name) {
         Ok(Some(len)) => len,

@@ -1,4 +1,5 @@
-ghost use Rattle.std.specs.Prelude.{◌≡◌, ◌≢◌, ◌⊎◌, ◌+◌, ◌-◌, ◌*◌, ◌^◌, ◌<◌, ◌≤◌, ℕ, List, Ok, Err, Some, length, min, IfErr, IfOk, IfSome, IsTrue, OnErr, OnOk, is_ok};
+ghost use Rattle.std.specs.Prelude.{◌≡◌, ◌≢◌, ◌⊎◌, ◌+◌, ◌-◌, ◌*◌, ◌^◌, ◌<◌, ◌≤◌, ℕ, List, Ok, Err, Some, length, min, IfErr, IfOk, IfSome, IsTrue, OnErr, OnOk, is_ok, [], ◌∷◌};
+ghost use Rattle.opened_file.specs.Committed.{CommitsOnce};
 ghost use Rattle.file_blocks.specs.Block.{file_of};
 ghost use Rattle.outside.specs.Count.{Rose, counted};
 ghost use Rattle.outside.specs.Frame.{ChangesOne, IsSynced, OnlyReads};
@@ -8,7 +9,7 @@ ghost use Rattle.quota_types.specs.Range.{unfit};
 ghost use Rattle.quota_types.specs.declared.file_kind.Format.TheVariants.{V1};
 ghost use Rattle.quota_v1.specs.Change.{FlatGraced, MayRefuse};
 ghost use Rattle.quota_v1.specs.FlatFile.{flat_record};
-ghost use Rattle.quota_v1.specs.Slot.{AreFrom, ChangesFile, IsRecordFault, PutsRecord};
+ghost use Rattle.quota_v1.specs.Slot.{AreFrom, ChangesFile, IsRecordFault, PutsRecord, MakesOne};
 ghost use Rattle.quota_v1.specs.View.{IsFlatDefect, flat_limit};
 
 use crate::flat_change::{TIMES, write_times};
@@ -35,6 +36,7 @@ pub(crate) fn read_from<S: Store>(
     ensures cause { OnErr result (Rose (S.seen store.old).faults (S.seen store.new).faults) }
     ensures leaves { OnlyReads (is_ok result) name.now (S.seen store.old) (S.seen store.new) }
     ensures reads { (S.seen store.new).reads ≡ counted (S.seen store.old).reads }
+    ensures commits { S.commits [] store.old store.new }
 {
     let count = store.read(name, at, buf)?;
     buf[count..].fill(0);
@@ -62,6 +64,7 @@ pub(crate) fn read_record<S: Store>(
     ensures may { IfErr result MayRefuse }
     ensures leaves { OnlyReads (is_ok result) name.now (S.seen store.old) (S.seen store.new) }
     ensures reads { (S.seen store.new).reads ≤ (S.seen store.old).reads + 1 }
+    ensures commits { S.commits [] store.old store.new }
 {
     let at = RECORD as u64 * u64::from(id);
     if len < at + RECORD as u64 {
@@ -107,6 +110,8 @@ fn write_synced<S: Store>(
     ensures leaves { ChangesOne name.now (S.seen store.old) (S.seen store.new) }
     ensures writes { (S.seen store.new).writes ≤ (S.seen store.old).writes + 1 }
     ensures rose { Rose (S.seen store.old).writes (S.seen store.new).writes }
+    ensures commits { CommitsOnce (λ worlds. S.commits worlds store.old store.new) (IsTrue S.tells
+        → (S.seen store.new).files ≡ with_bytes (S.seen store.old).files name.now at bytes.now) (S.seen store.new).files }
 {
     store.write(name, at, bytes)?;
     store.sync(name)
@@ -130,6 +135,8 @@ pub(crate) fn write_record<S: Store>(
     ensures changes { ChangesFile S.tells (PutsRecord id rec.now times) name.now
         (S.seen store.old) (S.seen store.new) result }
     ensures reads { (S.seen store.new).reads ≡ (S.seen store.old).reads }
+    ensures commits { CommitsOnce (λ worlds. S.commits worlds store.old store.new) (IsTrue S.tells
+        → MakesOne (PutsRecord id rec.now times) name.now (S.seen store.old).files (S.seen store.new).files) (S.seen store.new).files }
 {
     let times = times_in(id, rec, times);
     let bytes = record_bytes(rec, times);
@@ -163,6 +170,8 @@ pub(crate) fn write_grace<S: Store>(
     grace: Grace,
 ) -> Result<(), StoreFault>
     ensures changes { ChangesFile S.tells (FlatGraced grace) name.now (S.seen store.old) (S.seen store.new) result }
+    ensures commits { CommitsOnce (λ worlds. S.commits worlds store.old store.new) (IsTrue S.tells
+        → MakesOne (FlatGraced grace) name.now (S.seen store.old).files (S.seen store.new).files) (S.seen store.new).files }
 {
     let mut bytes = [0; RECORD];
     read_from(store, name, 0, &mut bytes)?;

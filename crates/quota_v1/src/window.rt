@@ -1,4 +1,4 @@
-ghost use Rattle.std.specs.Prelude.{◌≡◌, ◌⊎◌, ◌+◌, ◌*◌, ◌%◌, ◌<◌, ◌≤◌, true, false, ℕ, List, Option, Some, length, IfErr, IfOk, IfSome, IsTrue, OnErr, OnOk, is_ok};
+ghost use Rattle.std.specs.Prelude.{◌≡◌, ◌⊎◌, ◌+◌, ◌*◌, ◌%◌, ◌<◌, ◌≤◌, true, false, ℕ, List, Option, Some, length, IfErr, IfOk, IfSome, IsTrue, OnErr, OnOk, is_ok, []};
 ghost use Rattle.file_blocks.specs.Block.{file_of};
 ghost use Rattle.outside.specs.Count.{Rose};
 ghost use Rattle.outside.specs.Frame.{OnlyReads};
@@ -65,6 +65,7 @@ impl Window {
         ensures cause { OnErr result (Rose (S.seen store.old).faults (S.seen store.new).faults) }
         ensures leaves { OnlyReads (is_ok result) name.now (S.seen store.old) (S.seen store.new) }
         ensures reads { (S.seen store.new).reads ≤ (S.seen store.old).reads + 1 }
+        ensures commits { S.commits [] store.old store.new }
     {
         if self.has(id) {
             return Ok(());
@@ -119,6 +120,7 @@ impl Window {
         ensures reads { (S.seen store.new).reads ≤ (S.seen store.old).reads + window_reads from records }
         ensures near { IfOk result (λ found. IfSome found (λ entry. (S.seen store.new).reads
             ≤ (S.seen store.old).reads + window_reads from (entry.id + 1))) }
+        ensures commits { S.commits [] store.old store.new }
     {
         let mut next = from;
         while next < records {

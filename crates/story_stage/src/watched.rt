@@ -101,6 +101,12 @@ impl Store for Watched {
 
     ghost seen = { λ s. mem_store_seen s.store };
 
+    ghost commits = { λ _ _ _. Unit {0} };
+
+    ghost commits_nothing = { λ _ _. tt };
+
+    ghost commits_on = { λ _ _ _ _ _ _ _. tt };
+
     fn size(&mut self, name: &str) -> Result<Option<u64>, StoreFault> {
         self.diary.note(&["size ", name]);
         self.store.size(name)

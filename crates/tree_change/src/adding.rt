@@ -1,6 +1,6 @@
 //! A data block that is added for a record.
 
-ghost use Rattle.std.specs.Prelude.{◌≡◌, ◌+◌, ◌≤◌, length, IfErr, IfOk, OnErr, OnOk, ⊤, is_ok};
+ghost use Rattle.std.specs.Prelude.{◌≡◌, ◌+◌, ◌≤◌, length, IfErr, IfOk, OnErr, OnOk, ⊤, is_ok, []};
 ghost use Rattle.quota_types.specs.Format.{IsTreeFormat};
 ghost use Rattle.quota_types.specs.Kept.{IsKept};
 ghost use Rattle.quota_pages.specs.Pages.{pages_of};
@@ -44,6 +44,7 @@ pub fn add_block<S: Store>(
     ensures stays { OnErr result (heads.new ≡ heads.old) }
     ensures refused { IfErr result (IsTakeFault (S.seen store.old).faults (S.seen store.new).faults
         (IsKnown S.tells (S.seen store.old) pages.old) (shown_over (S.seen store.old) pages.old) heads.old limit 1) }
+    ensures commits { S.commits [] store.old store.new }
 {
     let mut now = *heads;
     let block = take_one(pages, store, &mut now, limit)?;

@@ -97,6 +97,7 @@ fn clear_at<S: Store>(
     ensures lends { OnOk result (LendsOne S.tells block (S.seen store.old) (S.seen store.new) pages.old pages.new) }
     ensures kept { OnErr result (LooksAtOne S.tells block (S.seen store.old) (S.seen store.new) pages.old pages.new) }
     ensures cause { OnErr result (Rose (S.seen store.old).faults (S.seen store.new).faults) }
+    ensures commits { S.commits [] store.old store.new }
 {
     let bytes = pages.page(store, block)?;
     Ok(clear_in(format, bytes, place))
@@ -126,6 +127,7 @@ pub fn clear_record<S: Store>(
     ensures kept { OnErr result (LooksAtSome S.tells false 1 (S.seen store.old) (S.seen store.new) pages.old pages.new) }
     ensures refused { IfErr result (IsStepFault (S.seen store.old).faults (S.seen store.new).faults
         (OfShown S.tells (S.seen store.old) pages.old (λ file. record_in format (block_of file block) id ≡ None))) }
+    ensures commits { S.commits [] store.old store.new }
 {
     let place = place_of(pages, store, format, block, id)?;
     Ok(clear_at(pages, store, format, block, place)?)

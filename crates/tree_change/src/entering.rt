@@ -1,6 +1,6 @@
 //! A record that is entered in a data block that has room.
 
-ghost use Rattle.std.specs.Prelude.{◌≡◌, ◌≢◌, ◌⊎◌, ◌+◌, ◌<◌, ◌≤◌, length, true, false, IfErr, IfOk, OnErr, OnOk, is_ok};
+ghost use Rattle.std.specs.Prelude.{◌≡◌, ◌≢◌, ◌⊎◌, ◌+◌, ◌<◌, ◌≤◌, length, true, false, IfErr, IfOk, OnErr, OnOk, is_ok, []};
 ghost use Rattle.quota_types.specs.Format.{IsTreeFormat};
 ghost use Rattle.quota_types.specs.Kept.{IsKept};
 ghost use Rattle.entry_codec.specs.Entry.{entries_per_block, is_unused};
@@ -43,6 +43,7 @@ fn place_in<S: Store>(
     ensures refused { IfErr result (IsStepFault (S.seen store.old).faults (S.seen store.new).faults
         (OfShown S.tells (S.seen store.old) pages.old
         (λ file. (blocks ≤ block) ⊎ (has_unused format (block_of file block) ≡ false)))) }
+    ensures commits { S.commits [] store.old store.new }
 {
     if block >= blocks {
         return Err(ChangeFault::Damage(damage_at(DamageKind::ChainOut, block)));
@@ -81,6 +82,7 @@ pub fn enter_record<S: Store>(
     ensures stays { OnErr result (heads.new ≡ heads.old) }
     ensures refused { IfErr result (IsStepFault (S.seen store.old).faults (S.seen store.new).faults
         (OfShown S.tells (S.seen store.old) pages.old (λ file. IsNoTree format file heads.old))) }
+    ensures commits { S.commits [] store.old store.new }
 {
     let block = heads.first;
     let place = place_in(pages, store, format, heads.blocks, block)?;

@@ -46,6 +46,7 @@ pub(crate) fn take_one<S: Store>(
     ensures refused { IfErr result (IsTakeFault (S.seen store.old).faults (S.seen store.new).faults
         (IsKnown S.tells (S.seen store.old) pages.old) (shown_over (S.seen store.old) pages.old) heads.old limit 1) }
     ensures full { IfErr result (TellsOneMore heads.old limit) }
+    ensures commits { S.commits [] store.old store.new }
 {
     if heads.free == 0 && heads.blocks >= limit {
         return Err(ChangeFault::Full {
@@ -85,6 +86,7 @@ pub fn take_fresh<S: Store>(
     ensures refused { IfErr result (IsTakeFault (S.seen store.old).faults (S.seen store.new).faults
         (IsKnown S.tells (S.seen store.old) pages.old) (shown_over (S.seen store.old) pages.old) heads.old limit count) }
     ensures full { IfErr result (TellsOneMore heads.old limit) }
+    ensures commits { S.commits [] store.old store.new }
 {
     let mut now = *heads;
     let mut fresh = ArrayVec::new();

@@ -62,6 +62,7 @@ pub fn set_heads<S: Store>(
     ensures lends { OnOk result (LendsOne S.tells 0 (S.seen store.old) (S.seen store.new) pages.old pages.new) }
     ensures kept { OnErr result (LooksAtOne S.tells 0 (S.seen store.old) (S.seen store.new) pages.old pages.new) }
     ensures cause { OnErr result (Rose (S.seen store.old).faults (S.seen store.new).faults) }
+    ensures commits { S.commits [] store.old store.new }
 {
     let block = pages.page(store, 0)?;
     write_in(heads, block);
@@ -95,6 +96,7 @@ pub(crate) fn renew_heads<S: Store>(
     ensures idle { HasHeads header.now heads.now → pages_of pages.new ≡ pages_of pages.old }
     ensures uses { Uses S.tells (is_ok result) 1 (S.seen store.old) (S.seen store.new) pages.old pages.new }
     ensures cause { OnErr result (Rose (S.seen store.old).faults (S.seen store.new).faults) }
+    ensures commits { S.commits [] store.old store.new }
 {
     if has_heads(header, heads) {
         return Ok(());

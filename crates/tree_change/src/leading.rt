@@ -1,6 +1,6 @@
 //! A way to a leaf that is awaited.
 
-ghost use Rattle.std.specs.Prelude.{◌≡◌, ◌≢◌, ◌+◌, ◌-◌, ◌≤◌, length, slice_index, IfErr, OnErr, OnOk, is_ok};
+ghost use Rattle.std.specs.Prelude.{◌≡◌, ◌≢◌, ◌+◌, ◌-◌, ◌≤◌, length, slice_index, IfErr, OnErr, OnOk, is_ok, []};
 ghost use Rattle.arrayvec.specs.ArrayVec.{array_vec_len};
 ghost use Rattle.quota_pages.specs.Pages.{pages_of};
 ghost use Rattle.quota_pages.specs.Used.{IsKnown, Uses, shown_over};
@@ -50,6 +50,7 @@ pub fn lead_to<S: Store>(
     ensures refused { IfErr result (IsTakeFault (S.seen store.old).faults (S.seen store.new).faults
         (IsKnown S.tells (S.seen store.old) pages.old)
         (shown_over (S.seen store.old) pages.old) heads.old limit (4 - array_vec_len path.now.found)) }
+    ensures commits { S.commits [] store.old store.new }
 {
     let mut now = *heads;
     let lacking = 4 - path.found.len();

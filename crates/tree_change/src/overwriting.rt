@@ -57,6 +57,7 @@ pub(crate) fn place_of<S: Store>(
     ensures brought { OnOk result (is_buffered (pages_of pages.new) block ≡ true) }
     ensures refused { IfErr result (IsStepFault (S.seen store.old).faults (S.seen store.new).faults
         (OfShown S.tells (S.seen store.old) pages.old (λ file. record_in format (block_of file block) id ≡ None))) }
+    ensures commits { S.commits [] store.old store.new }
 {
     let bytes = pages.peek(store, block)?;
     match find_place(format, bytes, id) {
@@ -93,6 +94,7 @@ fn rewrite_record<S: Store>(
     ensures lends { OnOk result (LendsOne S.tells block (S.seen store.old) (S.seen store.new) pages.old pages.new) }
     ensures kept { OnErr result (LooksAtOne S.tells block (S.seen store.old) (S.seen store.new) pages.old pages.new) }
     ensures cause { OnErr result (Rose (S.seen store.old).faults (S.seen store.new).faults) }
+    ensures commits { S.commits [] store.old store.new }
 {
     let bytes = pages.page(store, block)?;
     put_over(format, bytes, place, id, rec);
@@ -124,6 +126,7 @@ pub fn overwrite_record<S: Store>(
     ensures refused { IfErr result (IsStepFault (S.seen store.old).faults (S.seen store.new).faults
         (OfShown S.tells (S.seen store.old) pages.old (λ file. (heads : Heads)
         → leaf_block file heads.blocks id ≡ Some block → IsNoCompleteTree format file heads))) }
+    ensures commits { S.commits [] store.old store.new }
 {
     let place = place_of(pages, store, format, block, id)?;
     rewrite_record(pages, store, format, block, place, id, rec)?;

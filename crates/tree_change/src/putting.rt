@@ -1,6 +1,6 @@
 //! A record that is put into a tree file.
 
-ghost use Rattle.std.specs.Prelude.{◌≡◌, ◌≢◌, ◌+◌, ◌-◌, ◌*◌, ◌≤◌, length, slice_index, IfErr, IfOk, IsSome, OnErr, OnOk, ⊤, is_ok};
+ghost use Rattle.std.specs.Prelude.{◌≡◌, ◌≢◌, ◌+◌, ◌-◌, ◌*◌, ◌≤◌, length, slice_index, IfErr, IfOk, IsSome, OnErr, OnOk, ⊤, is_ok, []};
 ghost use Rattle.std.specs.FinMap.{get};
 ghost use Rattle.arrayvec.specs.ArrayVec.{array_vec_len};
 ghost use Rattle.quota_types.specs.Format.{IsTreeFormat};
@@ -61,6 +61,7 @@ fn enter_data<S: Store>(
     ensures refused { IfErr result (IsEnterFault (S.seen store.old).faults (S.seen store.new).faults
         (IsKnown S.tells (S.seen store.old) pages.old) format
         (shown_over (S.seen store.old) pages.old) heads.old limit (data_wanted heads.old)) }
+    ensures commits { S.commits [] store.old store.new }
 {
     if heads.first == 0 {
         add_block(pages, store, heads, limit, format, id, rec)
@@ -108,6 +109,7 @@ fn put_new<S: Store>(
     ensures full { IfErr result (IfFull (EndsEarly (shown_over (S.seen store.old) pages.old) heads.old.blocks id path.now.found.items
         → OfEachTree S.tells format (S.seen store.old) pages.old heads.old (λ _ _.
         lent_count (pages_of pages.new) ≡ lent_count (pages_of pages.old)))) }
+    ensures commits { S.commits [] store.old store.new }
 {
     let mut now = *heads;
     let lacking = 4 - path.found.len();
@@ -155,6 +157,7 @@ pub fn put_in<S: Store>(
         IsSome (get records id) → PutsOverOne (pages_of pages.old) (pages_of pages.new) heads.old heads.new)) }
     ensures full { IfErr result (IfFull (OfEachTree S.tells format (S.seen store.old) pages.old heads.old (λ _ _.
         lent_count (pages_of pages.new) ≡ lent_count (pages_of pages.old)))) }
+    ensures commits { S.commits [] store.old store.new }
 {
     let path = find_path(pages, store, heads.blocks, id)?;
     match path.leaf() {

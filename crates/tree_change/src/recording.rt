@@ -62,6 +62,7 @@ pub fn put_record<S: Store>(
     ensures full { IfErr result (IfFull (OfEachValue S.tells (S.seen store.old) pages.old header.now (λ _.
         lent_count (pages_of pages.new) ≡ 0))) }
     ensures uses { Uses S.tells (is_ok result) 12 (S.seen store.old) (S.seen store.new) pages.old pages.new }
+    ensures commits { S.commits [] store.old store.new }
 {
     let mut heads = heads_in(header);
     put_in(pages, store, &mut heads, limit, header.format, id, rec)?;

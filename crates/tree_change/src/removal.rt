@@ -53,6 +53,7 @@ fn take_out<S: Store>(
     ensures refused { IfErr result (IsChangeFault (S.seen store.old).faults (S.seen store.new).faults
         (OfShown S.tells (S.seen store.old) pages.old (λ file. HasNoWay format path.now.found.items id file heads.old))
         (λ _ _. ⊥)) }
+    ensures commits { S.commits [] store.old store.new }
 {
     let mut now = *heads;
     unlink_leaf(pages, store, &mut now, path, id)?;
@@ -90,6 +91,7 @@ fn remove_found<S: Store>(
     ensures refused { IfErr result (IsChangeFault (S.seen store.old).faults (S.seen store.new).faults
         (path.now.found.items ≡ blocks_on_way (shown_over (S.seen store.old) pages.old) header.now.blocks id
         → OfEachValue S.tells (S.seen store.old) pages.old header.now (λ _. ⊥)) (λ _ _. ⊥)) }
+    ensures commits { S.commits [] store.old store.new }
 {
     let mut heads = heads_in(header);
     take_out(pages, store, &mut heads, header.format, path, id)?;
@@ -130,6 +132,7 @@ pub fn remove_record<S: Store>(
     ensures refused { IfErr result (IsChangeFault (S.seen store.old).faults (S.seen store.new).faults
         (OfEachValue S.tells (S.seen store.old) pages.old header.now (λ _. ⊥)) (λ _ _. ⊥)) }
     ensures uses { Uses S.tells (is_ok result) 12 (S.seen store.old) (S.seen store.new) pages.old pages.new }
+    ensures commits { S.commits [] store.old store.new }
 {
     let path = find_path(pages, store, header.blocks, id)?;
     if path.found.len() < 5 {

@@ -41,6 +41,7 @@ fn leave_list<S: Store>(
     ensures refused { IfErr result (IsStepFault (S.seen store.old).faults (S.seen store.new).faults
         (OfShown S.tells (S.seen store.old) pages.old (λ file. (format : QuotaFormat)
         → IsNoTreeMisplacing format file heads.old block))) }
+    ensures commits { S.commits [] store.old store.new }
 {
     leave_entry_list(pages, store, heads, block)?;
     Ok(())
@@ -68,6 +69,7 @@ fn enter_list<S: Store>(
     ensures refused { IfErr result (IsStepFault (S.seen store.old).faults (S.seen store.new).faults
         (OfShown S.tells (S.seen store.old) pages.old (λ file. (format : QuotaFormat)
         → IsNoTreeOf format file heads.old))) }
+    ensures commits { S.commits [] store.old store.new }
 {
     enter_entry_list(pages, store, heads, block)?;
     Ok(())
@@ -97,6 +99,7 @@ fn give_up<S: Store>(
     ensures refused { IfErr result (IsStepFault (S.seen store.old).faults (S.seen store.new).faults
         (OfShown S.tells (S.seen store.old) pages.old (λ file. (format : QuotaFormat)
         → IsNoTreeMisplacing format file heads.old block))) }
+    ensures commits { S.commits [] store.old store.new }
 {
     let mut now = *heads;
     leave_list(pages, store, &mut now, block)?;
@@ -131,6 +134,7 @@ pub fn remove_entry<S: Store>(
     ensures stays { OnErr result (heads.new ≡ heads.old) }
     ensures refused { IfErr result (IsStepFault (S.seen store.old).faults (S.seen store.new).faults
         (OfShown S.tells (S.seen store.old) pages.old (λ file. AwaitsInNoTree format file heads.old id block))) }
+    ensures commits { S.commits [] store.old store.new }
 {
     match clear_record(pages, store, format, block, id)? {
         Cleared::Last => give_up(pages, store, heads, block),

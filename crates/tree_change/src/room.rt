@@ -1,6 +1,6 @@
 //! Whether a tree file has room for more blocks.
 
-ghost use Rattle.std.specs.Prelude.{◌≡◌, ◌+◌, ◌<◌, ◌≤◌, ℕ, List, length, IfErr, OnOk, is_ok};
+ghost use Rattle.std.specs.Prelude.{◌≡◌, ◌+◌, ◌<◌, ◌≤◌, ℕ, List, length, IfErr, OnOk, is_ok, []};
 ghost use Rattle.quota_types.specs.declared.file_kind.Format.{Format};
 ghost use Rattle.quota_pages.specs.Pages.{pages_of};
 ghost use Rattle.quota_pages.specs.Used.{LooksAtSome};
@@ -37,6 +37,7 @@ pub fn has_room<S: Store>(
         (λ blocks most. (most ≡ limit) × (limit < blocks)
         × OfShown S.tells (S.seen store.old) pages.old (λ file. NeedsBlocks file heads.now need blocks))) }
     ensures looked { LooksAtSome S.tells (is_ok result) need (S.seen store.old) (S.seen store.new) pages.old pages.new }
+    ensures commits { S.commits [] store.old store.new }
 {
     let free = count_free(pages, store, heads, need)?;
     let blocks = u64::from(heads.blocks) + u64::from(need - free);

@@ -1,6 +1,6 @@
 //! A leaf that is taken away from the tree, before its entry is.
 
-ghost use Rattle.std.specs.Prelude.{◌≡◌, ◌+◌, ◌≤◌, length, take, true, OnErr, OnOk, is_ok};
+ghost use Rattle.std.specs.Prelude.{◌≡◌, ◌+◌, ◌≤◌, length, take, true, OnErr, OnOk, is_ok, []};
 ghost use Rattle.arrayvec.specs.ArrayVec.{array_vec_len};
 ghost use Rattle.outside.specs.Count.{Rose};
 ghost use Rattle.quota_pages.specs.Pages.{pages_of};
@@ -44,6 +44,7 @@ pub fn unlink_leaf<S: Store>(
         (S.seen store.old) (S.seen store.new) pages.old pages.new }
     ensures stays { OnErr result (heads.new ≡ heads.old) }
     ensures cause { OnErr result (Rose (S.seen store.old).faults (S.seen store.new).faults) }
+    ensures commits { S.commits [] store.old store.new }
 {
     let emptied = unlink(pages, store, heads.blocks, path, id)?;
     give_all(pages, store, heads, emptied.as_slice())
@@ -69,6 +70,7 @@ pub(crate) fn give_all<S: Store>(
     ensures uses { Uses S.tells (is_ok result) 0 (S.seen store.old) (S.seen store.new) pages.old pages.new }
     ensures stays { OnErr result (heads.new ≡ heads.old) }
     ensures cause { OnErr result (Rose (S.seen store.old).faults (S.seen store.new).faults) }
+    ensures commits { S.commits [] store.old store.new }
 {
     let mut now = *heads;
     for block in given {

@@ -67,6 +67,7 @@ pub fn write_record<S: Store>(
     ensures kept { OnErr result (LooksAtOne S.tells block (S.seen store.old) (S.seen store.new) pages.old pages.new) }
     ensures brought { OnOk result (is_buffered (pages_of pages.new) block ≡ true) }
     ensures cause { OnErr result (Rose (S.seen store.old).faults (S.seen store.new).faults) }
+    ensures commits { S.commits [] store.old store.new }
 {
     let bytes = pages.page(store, block)?;
     Ok(put_counted(format, bytes, place, id, rec))

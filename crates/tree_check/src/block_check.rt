@@ -1,4 +1,4 @@
-ghost use Rattle.std.specs.Prelude.{◌≡◌, ◌≢◌, ◌+◌, ◌≤◌, IsTrue, OnOk, IfOk, IfErr, is_ok};
+ghost use Rattle.std.specs.Prelude.{◌≡◌, ◌≢◌, ◌+◌, ◌≤◌, IsTrue, OnOk, IfOk, IfErr, is_ok, []};
 ghost use Rattle.file_blocks.specs.Block.{block_of, file_of};
 ghost use Rattle.file_blocks.specs.CheckFault.{IsCheckFault};
 ghost use Rattle.outside.specs.Frame.{OnlyReads};
@@ -33,6 +33,7 @@ pub(crate) fn check_block<S: Store>(
         (used_ids format (block_of (file_of (S.seen store.old).files name.now) number)) ids.now damage)) }
     ensures leaves { OnlyReads (is_ok result) name.now (S.seen store.old) (S.seen store.new) }
     ensures reads { (S.seen store.new).reads ≤ (S.seen store.old).reads + 1 }
+    ensures commits { S.commits [] store.old store.new }
 {
     read_block(store, name, number, block)?;
     Ok(compare_entries(format, number, block, ids)?)

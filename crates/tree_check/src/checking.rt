@@ -53,6 +53,7 @@ pub fn check<S: Store>(
         → (value : QuotaValue) → ¬ TreeStandsFor (file_of (S.seen store.old).files name.now) value) }
     ensures leaves { OnlyReads (is_ok result) name.now (S.seen store.old) (S.seen store.new) }
     ensures reads { (S.seen store.new).reads ≤ (S.seen store.old).reads + 2 * header.now.blocks }
+    ensures commits { S.commits [] store.old store.new }
 {
     check_length(store, name, header.blocks)?;
     let roles = check_roles(alloc, store, name, header.blocks, header.free)?;
@@ -76,6 +77,7 @@ pub fn check_length<S: Store>(store: &mut S, name: &str, blocks: u32) -> Result<
         → IsLengthDefect (file_of (S.seen store.old).files name.now) blocks damage)) }
     ensures leaves { OnlyReads (is_ok result) name.now (S.seen store.old) (S.seen store.new) }
     ensures reads { (S.seen store.new).reads ≡ (S.seen store.old).reads }
+    ensures commits { S.commits [] store.old store.new }
 {
     let size = store.size(name)?.unwrap_or(0);
     if blocks > 2 && size < 1024 * u64::from(blocks) {

@@ -45,6 +45,7 @@ pub(crate) fn check_data<S: Store>(
         (leading_ids (groups_of blocks leaves.now) damage.block) damage.block damage)) }
     ensures leaves { OnlyReads (is_ok result) name.now (S.seen store.old) (S.seen store.new) }
     ensures reads { (S.seen store.new).reads ≤ (S.seen store.old).reads + led_blocks (groups_of blocks leaves.now) }
+    ensures commits { S.commits [] store.old store.new }
 {
     let mut room = BlockSet::new(alloc, blocks)?;
     let mut ids = Vec::new(alloc);
@@ -92,6 +93,7 @@ fn check_group<S: Store>(
         → IsDataDefect format (file_of (S.seen store.old).files name.now) ids.now number damage)) }
     ensures leaves { OnlyReads (is_ok result) name.now (S.seen store.old) (S.seen store.new) }
     ensures reads { (S.seen store.new).reads ≤ (S.seen store.old).reads + (if nat_le 1 (length ids.now) then 1 else 0) }
+    ensures commits { S.commits [] store.old store.new }
 {
     if ids.is_empty() {
         return Ok(());

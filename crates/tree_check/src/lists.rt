@@ -1,4 +1,4 @@
-ghost use Rattle.std.specs.Prelude.{◌≡◌, ◌≢◌, ◌+◌, ◌≤◌, length, IsTrue, OnOk, IfErr, is_ok};
+ghost use Rattle.std.specs.Prelude.{◌≡◌, ◌≢◌, ◌+◌, ◌≤◌, length, IsTrue, OnOk, IfErr, is_ok, []};
 ghost use Rattle.quota_types.specs.Format.{IsTreeFormat};
 ghost use Rattle.quota_types.specs.declared.file_kind.Format.TheVariants.{V1};
 ghost use Rattle.outside.specs.Frame.{OnlyReads};
@@ -47,6 +47,7 @@ pub(crate) fn check_lists<S: Store>(
     ensures leaves { OnlyReads (is_ok result) name.now (S.seen store.old) (S.seen store.new) }
     ensures reads { (S.seen store.new).reads ≤ (S.seen store.old).reads + header.now.blocks
         + led_blocks (groups_of header.now.blocks by_block.now) }
+    ensures commits { S.commits [] store.old store.new }
 {
     let blocks = header.blocks;
     let listed = walk_chain(alloc, store, name, blocks, header.first)?;

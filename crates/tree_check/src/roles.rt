@@ -1,4 +1,4 @@
-ghost use Rattle.std.specs.Prelude.{◌≡◌, ◌+◌, ◌*◌, ◌≤◌, map, IsTrue, IfOk, IfErr, vec_len, is_ok};
+ghost use Rattle.std.specs.Prelude.{◌≡◌, ◌+◌, ◌*◌, ◌≤◌, map, IsTrue, IfOk, IfErr, vec_len, is_ok, []};
 ghost use Rattle.outside.specs.Frame.{OnlyReads};
 ghost use Rattle.file_blocks.specs.CheckFault.{IsCheckFault};
 ghost use Rattle.file_blocks.specs.Block.{file_of};
@@ -48,6 +48,7 @@ pub(crate) fn check_roles<S: Store>(
     ensures reads { IfOk result (λ roles. (S.seen store.new).reads
         + led_blocks (groups_of blocks roles.leaves.items) ≤ (S.seen store.old).reads + blocks) }
     ensures few_reads { (S.seen store.new).reads ≤ (S.seen store.old).reads + 2 * blocks }
+    ensures commits { S.commits [] store.old store.new }
 {
     let mut met = BlockSet::new(alloc, blocks)?;
     met.insert(HEADER);

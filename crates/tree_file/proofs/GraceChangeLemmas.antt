@@ -110,7 +110,8 @@ module _ (grace : Grace) (name : List ℕ) (old new : World) (file : List ℕ) (
     others = subst (KeepsOthers name old) (sym graces.files) (KeepsOthers-with_file old name (Some graces.after));
   }
 
-  stands_graced : (value : QuotaValue) → TreeStandsFor file value → IsSomeAnd (new name) (λ bytes. TreeStandsFor bytes (with_grace value grace))
+  -- it stands for the value with these grace periods
+  pub stands_graced : (value : QuotaValue) → TreeStandsFor file value → IsSomeAnd (new name) (λ bytes. TreeStandsFor bytes (with_grace value grace))
   stands_graced value stands =
       subst (λ (after : Option (List ℕ)). IsSomeAnd after (λ bytes. TreeStandsFor bytes (with_grace value grace))) (sym named) (graced_stands grace file graces.after value graced_file stands)
 

@@ -116,7 +116,8 @@ module _ (tells : Bool) (change : FileChange) (limit : ℕ) (name : List ℕ) (b
       others = (done holds.told).others;
     }
 
-    stands_so : (value : QuotaValue) → held value → IsSomeAnd (new name) (λ bytes. TreeStandsFor bytes (changed_value change value))
+    -- and it stands for the changed value
+    pub stands_so : (value : QuotaValue) → held value → IsSomeAnd (new name) (λ bytes. TreeStandsFor bytes (changed_value change value))
     stands_so value holds = after_some (new name) (λ bytes. TreeStandsFor bytes (changed_value change value)) (is_made value holds) (made value holds).stands
 
     pub holds_so : (none : Coming) → ((records : Records) → HoldsComing records none) → (value : QuotaValue) → held value

@@ -1,4 +1,5 @@
-ghost use Rattle.std.specs.Prelude.{◌≡◌, ◌+◌, ◌≤◌, [], IsTrue, OnErr, OnOk};
+ghost use Rattle.std.specs.Prelude.{◌≡◌, ◌+◌, ◌≤◌, [], IsTrue, OnErr, OnOk, ◌∷◌};
+ghost use Rattle.opened_file.specs.Committed.{CommitsOnce};
 ghost use Rattle.outside.specs.Count.{Rose};
 ghost use Rattle.outside.specs.Frame.{ChangesOne, IsSynced};
 ghost use Rattle.file_blocks.specs.Block.{file_of};
@@ -31,6 +32,8 @@ pub(crate) fn finish<S: Store>(pages: &mut Pages, store: &mut S) -> Result<(), S
     ensures written { StaysUnlessWritten (S.seen store.old) (S.seen store.new) }
     ensures name { name_of pages.new ≡ name_of pages.old }
     ensures empty { pages_of pages.new ≡ [] }
+    ensures commits { CommitsOnce (λ worlds. S.commits worlds store.old store.new) (IsTrue S.tells
+        → (S.seen store.new).files ≡ flushed_files (S.seen store.old).files (name_of pages.old) (pages_of pages.old)) (S.seen store.new).files }
 {
     let flushed = pages.flush(store);
     pages.clear();

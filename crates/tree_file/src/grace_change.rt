@@ -1,4 +1,5 @@
 ghost use Rattle.std.specs.Prelude.{◌≡◌, ◌+◌, ◌∷◌, ◌^◌, ◌<◌, ◌≤◌, [], length, true, false, IsTrue, OnErr, OnOk};
+ghost use Rattle.opened_file.specs.Committed.{CommitsOnce};
 ghost use Rattle.outside.specs.Count.{Rose};
 ghost use Rattle.outside.specs.Frame.{IsSynced};
 ghost use Rattle.opened_file.specs.EditsOne.{EditsOne};
@@ -57,6 +58,7 @@ fn lend_periods<S: Store>(pages: &mut Pages, store: &mut S, grace: Grace) -> Res
     ensures kept { OnErr result (LooksAtSome S.tells false 1
         (S.seen store.old) (S.seen store.new) pages.old pages.new) }
     ensures cause { OnErr result (Rose (S.seen store.old).faults (S.seen store.new).faults) }
+    ensures commits { S.commits [] store.old store.new }
 {
     let block = pages.page(store, HEADER)?;
     set_periods(block, grace);
@@ -91,6 +93,8 @@ pub(crate) fn set_grace_in<S: Store>(
     ensures writes { (S.seen store.new).writes ≤ (S.seen store.old).writes + 1 }
     ensures name { name_of pages.new ≡ name_of pages.old }
     ensures empty { pages_of pages.new ≡ [] }
+    ensures commits { CommitsOnce (λ worlds. S.commits worlds store.old store.new) (IsTrue S.tells
+        → GracesFile grace (name_of pages.old) (S.seen store.old).files (S.seen store.new).files) (S.seen store.new).files }
 {
     match lend_periods(pages, store, grace) {
         Ok(()) => finish(pages, store),

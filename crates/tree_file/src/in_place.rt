@@ -1,6 +1,8 @@
 //! Records that are put into a tree file, and taken out of one, where they stand.
 
-ghost use Rattle.std.specs.Prelude.{◌≡◌, ◌+◌, ◌<◌, ◌≤◌, [], ℕ, None, Some, is_none, true, IfErr, IfOk, IfSome, IsSome, IsTrue, OnOk};
+ghost use Rattle.std.specs.Prelude.{◌≡◌, ◌+◌, ◌<◌, ◌≤◌, [], ℕ, None, Some, is_none, true, IfErr, IfOk, IfSome, IsSome, IsTrue, OnOk, ◌∷◌};
+ghost use Rattle.free_chains.specs.declared.heads.Heads.{Heads};
+ghost use Rattle.opened_file.specs.Committed.{CommitsOnce};
 ghost use Rattle.std.specs.FinMap.{get};
 ghost use Rattle.entry_codec.specs.Header.{header_of};
 ghost use Rattle.file_blocks.specs.Block.{file_of};
@@ -70,6 +72,9 @@ pub(crate) fn put_in<S: Store>(
     ensures writes { (S.seen store.new).writes ≤ (S.seen store.old).writes + 12 }
     ensures name { name_of pages.new ≡ name_of pages.old }
     ensures empty { pages_of pages.new ≡ [] }
+    ensures commits { CommitsOnce (λ worlds. S.commits worlds store.old store.new) (IsTrue S.tells → (heads : Heads)
+        × WritesSo (MayChange limit (Put id rec.now) header.now heads) (name_of pages.old) (S.seen store.old).files
+        (S.seen store.new).files) (S.seen store.new).files }
 {
     match put_record(pages, store, header, limit, id, rec) {
         Ok(heads) => {
@@ -122,6 +127,9 @@ pub(crate) fn remove_in<S: Store>(
     ensures writes { (S.seen store.new).writes ≤ (S.seen store.old).writes + 8 }
     ensures name { name_of pages.new ≡ name_of pages.old }
     ensures empty { pages_of pages.new ≡ [] }
+    ensures commits { CommitsOnce (λ worlds. S.commits worlds store.old store.new) (IsTrue S.tells → (heads : Heads)
+        × WritesSo (MayChange header.now.blocks (Remove id) header.now heads) (name_of pages.old) (S.seen store.old).files
+        (S.seen store.new).files) (S.seen store.new).files }
 {
     match remove_record(pages, store, header, id) {
         Ok(Some(heads)) => {

@@ -1,4 +1,4 @@
-ghost use Rattle.std.specs.Prelude.{◌≡◌, ◌+◌, ◌^◌, ◌<◌, ◌≤◌, length, true, None, Some, IfErr, IfOk, IfSome, is_ok};
+ghost use Rattle.std.specs.Prelude.{◌≡◌, ◌+◌, ◌^◌, ◌<◌, ◌≤◌, length, true, None, Some, IfErr, IfOk, IfSome, is_ok, []};
 ghost use Rattle.std.specs.FinMap.{get};
 ghost use Rattle.entry_codec.specs.Header.{AreOf, header_of};
 ghost use Rattle.file_blocks.specs.Block.{block_of};
@@ -46,6 +46,7 @@ fn record_at<S: Store>(
     ensures named { IfErr result (IfDamaged (λ damage. HoldsAsBuffered pages.new
         (λ shown. IsLeafFault format shown leaf damage))) }
     ensures looked { LooksAtSome S.tells (is_ok result) 1 (S.seen store.old) (S.seen store.new) pages.old pages.new }
+    ensures commits { S.commits [] store.old store.new }
 {
     let block = pages.peek(store, leaf.block)?;
     match find_record(format, block, leaf.number) {
@@ -91,6 +92,7 @@ pub(crate) fn record_of<S: Store>(
         (λ shown. AreOf header.now (header_of shown)
         → IsTreeDefect header.now.format shown (header_of shown) damage))) }
     ensures looked { LooksAtSome S.tells (is_ok result) 5 (S.seen store.old) (S.seen store.new) pages.old pages.new }
+    ensures commits { S.commits [] store.old store.new }
 {
     let Some(block) = leaf(pages, store, header.blocks, id)? else {
         return Ok(None);
@@ -140,6 +142,7 @@ pub(crate) fn next_record<S: Store>(
         → IsTreeDefect header.now.format (shown_over (S.seen store.old) pages.old)
         (header_of (shown_over (S.seen store.old) pages.old)) damage))) }
     ensures looked { LooksAtSome S.tells (is_ok result) 8 (S.seen store.old) (S.seen store.new) pages.old pages.new }
+    ensures commits { S.commits [] store.old store.new }
 {
     *coming = Coming::none();
     let Some((id, block)) = next_leaf(pages, store, header.blocks, after)? else {

@@ -1,4 +1,4 @@
-ghost use Rattle.std.specs.Prelude.{◌≡◌, ◌≢◌, ◌+◌, ◌*◌, ◌<◌, ◌≤◌, ℕ, List, Option, true, None, Ok, Some, IsTrue, IfErr, IfOk, IfSome, IsSome, IsSomeAnd, OnOk, is_ok, max};
+ghost use Rattle.std.specs.Prelude.{◌≡◌, ◌≢◌, ◌+◌, ◌*◌, ◌<◌, ◌≤◌, ℕ, List, Option, true, None, Ok, Some, IsTrue, IfErr, IfOk, IfSome, IsSome, IsSomeAnd, OnOk, is_ok, max, []};
 ghost use Rattle.entry_codec.specs.Header.{AreOf, header_of};
 ghost use Rattle.quota_types.specs.Format.{IsTreeFormat};
 ghost use Rattle.quota_types.specs.Range.{grace_unfit};
@@ -50,7 +50,8 @@ pub fn open_tree<S: Store>(
         → IsTreeView ((S.seen store.old).files name.now) kind format limit (Ok value)
         → ⟦<TreeFile as QuotaFile<S>>⟧.holds file store.new value) }
     ensures fresh { IfOk result (λ file. ⟦<TreeFile as QuotaFile<S>>⟧.seen file ≡ record {
-      name = name.now;
+      name = name.now
+    ensures commits { S.commits [] store.old store.new };
       format = (⟦<TreeFile as QuotaFile<S>>⟧.seen file).format;
       usable = true;
       limit = limit;
@@ -90,6 +91,7 @@ fn first_block<S: Store>(store: &mut S, name: &str) -> Result<[u8; BLOCK], OpenF
         ((S.seen store.old).files name.now) kind asked limit fault) }
     ensures leaves { OnlyReads (is_ok result) name.now (S.seen store.old) (S.seen store.new) }
     ensures reads { (S.seen store.new).reads ≤ (S.seen store.old).reads + 1 }
+    ensures commits { S.commits [] store.old store.new }
 {
     match store.size(name) {
         Ok(Some(_)) => {}

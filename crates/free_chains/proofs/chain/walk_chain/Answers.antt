@@ -1,4 +1,4 @@
-use Rattle.std.proofs.Common.{arith}
+use Rattle.std.proofs.Common.{arith, rules, []}
 use Rattle.std.proofs.lemmas.List.{length-map}
 use Rattle.free_chains.specs.declared.link.Link.{Link}
 use Rattle.free_chains.proofs.WalkLemmas.{walk_few, walk_fits}
@@ -14,3 +14,12 @@ pub returns-clause-few_reads : goal.returns-clause-few_reads
 returns-clause-few_reads g c =
     let kept = c.loop-at.invariant in
     omega (arith, kept.reads, walk_few c.args.blocks c.loop-at.walk kept.is_walk, c.loop-at.walk.links.ok.0)
+
+pub loop-at-preserved : goal.loop-at-preserved
+loop-at-preserved g c = record {
+  is_walk = search rules;
+  links = search rules;
+  leaves = search rules;
+  reads = search rules;
+  commits = g.S.Store.commits_on [] [] _ _ _ c.loop-at.invariant.commits c.go_to.ensures.commits;
+}

@@ -1,4 +1,4 @@
-use Rattle.std.proofs.Common.{◌+◌, ◌-◌, ◌≤◌, vec_len, IsTrue, true}
+use Rattle.std.proofs.Common.{◌+◌, ◌-◌, ◌≤◌, vec_len, IsTrue, true, []}
 use Rattle.outside.specs.Frame.{OnlyReads}
 use Rattle.file_blocks.specs.Block.{bytes_of}
 use Rattle.free_chains.specs.Walk.{AreLinksTo, IsWalk}
@@ -15,4 +15,5 @@ invariant-loop-at g l =
       links : IsTrue S.tells → AreLinksTo (bytes_of ((S.seen l.fn.store).files l.name)) l.head l.walk.links.items l.at;
       leaves : OnlyReads true l.name (S.seen l.fn.store) (S.seen l.store);
       reads : (S.seen l.store).reads ≤ (S.seen l.fn.store).reads + vec_len l.walk.links;
+      commits : S.commits [] l.fn.store l.store;
     }

@@ -68,6 +68,7 @@ loop-count-preserved g c =
           c.if-at-eq0.false c.if-at-heads.false
           (ap (λ (xs : List ℕ). list_any (λ (other : ℕ). other == c.loop-count.at) xs) (sym c.as_slice.ensures.value) ∙ sym c.contains.ensures.value ∙ c.if-contains.false) c.push.ensures.items refl
           (c.in_ok-at.ensures.held file clean);
+      commits = g.S.Store.commits_on [] [] _ _ _ c.loop-count.invariant.commits c.word.ensures.commits;
     }
 
 pub returns-clause-count : goal.returns-clause-count

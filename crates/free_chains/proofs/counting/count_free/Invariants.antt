@@ -1,4 +1,4 @@
-use Rattle.std.proofs.Common.{◌≡◌, ◌+◌, ◌≤◌, true, length}
+use Rattle.std.proofs.Common.{◌≡◌, ◌+◌, ◌≤◌, true, length, []}
 use Rattle.quota_pages.specs.Pages.{HoldsAsBuffered, pages_of}
 use Rattle.quota_pages.specs.Used.{IsKnown, LooksAtSome, missing_among, shown_over}
 use Rattle.free_chains.proofs.CountLemmas.{IsBegun}
@@ -13,4 +13,5 @@ invariant-loop-count g l =
       looked : LooksAtSome S.tells true l.count (S.seen l.fn.store) (S.seen l.store) l.fn.pages l.pages;
       begun : IsKnown S.tells (S.seen l.fn.store) l.fn.pages → IsBegun (shown_over (S.seen l.fn.store) l.fn.pages) l.heads.blocks l.heads.free l.met.items l.at;
       held : HoldsAsBuffered l.pages (λ shown. IsBegun shown l.heads.blocks l.heads.free l.met.items l.at);
+      commits : S.commits [] l.fn.store l.store;
     }

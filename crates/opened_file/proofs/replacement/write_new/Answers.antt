@@ -1,4 +1,4 @@
-use Rattle.std.proofs.Common.{◌+◌, ◌≤◌, ℕ, length, IsTrue, sym, subst, ◌∙◌, arith}
+use Rattle.std.proofs.Common.{◌+◌, ◌≤◌, ℕ, [], length, IsTrue, sym, subst, ◌∙◌, arith}
 use Rattle.opened_file.specs.Replace.{pieces_of}
 use Rattle.outside.proofs.FrameLemmas.{changes_one-then}
 use Rattle.opened_file.proofs.ReplaceLemmas.{piece-counted, piece-whole, with_bytes-piece}
@@ -18,6 +18,7 @@ loop-at-preserved g c =
       writes = subst (λ (w : ℕ). w ≤ (g.S.Store.seen c.args.store.now).writes + pieces_of c.min-end.result) (sym wrote.writes)
           (piece-counted c.loop-at.at c.min-end.result (length c.args.bytes.now) _ _ (omega arith) (omega arith) kept.whole kept.writes);
       leaves = changes_one-then _ _ _ _ kept.leaves wrote.leaves;
+      commits = λ base new. g.S.Store.commits_on [] [] _ _ _ (kept.commits base new) wrote.commits;
     }
 
 pub returns-clause-synced : goal.returns-clause-synced

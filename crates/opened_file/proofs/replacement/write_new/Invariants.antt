@@ -1,6 +1,7 @@
-use Rattle.std.proofs.Common.{◌≡◌, ◌⊎◌, ◌+◌, ◌-◌, ◌%◌, ◌≤◌, length, take, true, Some, IsTrue}
+use Rattle.std.proofs.Common.{◌≡◌, ◌⊎◌, ◌+◌, ◌-◌, ◌%◌, ◌≤◌, ℕ, List, [], length, take, true, Some, IsTrue}
 use Rattle.outside.specs.Frame.{ChangesOne}
 use Rattle.opened_file.specs.Replace.{pieces_of}
+use Rattle.outside.specs.Replacement.{replacement_name}
 use Rattle.outside.specs.Unsynced.{with_name}
 use Rattle.outside.specs.World.{with_file}
 use Rattle.opened_file.proofs.replacement.write_new.Given as goal
@@ -18,4 +19,5 @@ invariant-loop-at g l =
       whole : (l.at % 1024 ≡ 0) ⊎ (l.at ≡ length l.bytes);
       writes : (S.seen l.store).writes ≤ (S.seen l.fn.store).writes + pieces_of l.at;
       leaves : ChangesOne l.name (S.seen l.fn.store) (S.seen l.store);
+      commits : (base : List ℕ) → l.name ≡ replacement_name base → S.commits [] l.fn.store l.store;
     }

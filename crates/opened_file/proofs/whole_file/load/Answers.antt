@@ -1,4 +1,4 @@
-use Rattle.std.proofs.Common.{◌≡◌, ◌+◌, ◌-◌, ◌<◌, ◌≤◌, ◌∙◌, ap, sym, subst, min, vec_len, IsTrue, List, ℕ, Option, arith}
+use Rattle.std.proofs.Common.{◌≡◌, ◌+◌, ◌-◌, ◌<◌, ◌≤◌, [], ◌∙◌, ap, sym, subst, min, vec_len, IsTrue, List, ℕ, Option, arith}
 use Rattle.opened_file.specs.Replace.{pieces_of}
 use Rattle.outside.proofs.FrameLemmas.{only_reads-then}
 use Rattle.opened_file.proofs.ReplaceLemmas.{piece-counted, piece-whole}
@@ -25,4 +25,5 @@ loop-bytes-preserved g c =
           subst (λ (r : ℕ). r ≤ (g.S.Store.seen c.args.store.now).reads + pieces_of (vec_len c.append_block.new.bytes)) (sym appends.reads)
           (piece-counted at _ size _ _ below (ends told) (kept.whole told) (kept.reads told));
       leaves = only_reads-then _ _ _ _ kept.leaves appends.leaves;
+      commits = g.S.Store.commits_on [] [] _ _ _ kept.commits appends.commits;
     }

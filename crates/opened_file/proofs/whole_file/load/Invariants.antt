@@ -1,4 +1,4 @@
-use Rattle.std.proofs.Common.{◌≡◌, ◌⊎◌, ◌+◌, ◌-◌, ◌%◌, ◌≤◌, true, vec_len, IsTrue}
+use Rattle.std.proofs.Common.{◌≡◌, ◌⊎◌, ◌+◌, ◌-◌, ◌%◌, ◌≤◌, [], true, vec_len, IsTrue}
 use Rattle.outside.specs.Frame.{OnlyReads}
 use Rattle.opened_file.specs.Replace.{pieces_of}
 use Rattle.opened_file.proofs.LoadLemmas.{IsBegun}
@@ -16,4 +16,5 @@ invariant-loop-bytes g l =
       whole : IsTrue S.tells → (vec_len l.bytes % 1024 ≡ 0) ⊎ (vec_len l.bytes ≡ l.len);
       reads : IsTrue S.tells → (S.seen l.store).reads ≤ (S.seen l.fn.store).reads + pieces_of (vec_len l.bytes);
       leaves : OnlyReads true l.name (S.seen l.fn.store) (S.seen l.store);
+      commits : S.commits [] l.fn.store l.store;
     }

@@ -31,6 +31,7 @@ loop-list-init g c =
       usable = c.requires;
       few = omega (arith, ap length none);
       up = looks_up-within Some laws at at 0 _ (Ok (tt {0})) (omega arith) (looks_up-none Some laws at (tt {0}));
+      commits = g.S.Store.commits_nothing [] _;
     }
 
 pub loop-list-preserved : goal.loop-list-preserved
@@ -66,6 +67,7 @@ loop-list-preserved g c =
       few = more_few c.loop-list.after entry.id (length c.loop-list.list.items) _ so_far.few is_after is_narrow long;
       up = looks_up-answer Some Some _ _ _ _ _ (Ok (tt {0})) tt
           (looks_up-more Some Some _ _ _ _ any_next_reads (length c.loop-list.list.items) (length c.push.new.self.items) (tt {0}) _ long so_far.up found.looks);
+      commits = g.S.Store.commits_on [] [] _ _ _ c.loop-list.invariant.commits found.commits;
     }
 
 pub returns-clause-records : goal.returns-clause-records

@@ -1,4 +1,4 @@
-use Rattle.std.proofs.Common.{◌+◌, ◌*◌, ◌^◌, ◌<◌, ◌≤◌, IsTrue, length, Ok, Some}
+use Rattle.std.proofs.Common.{◌+◌, ◌*◌, ◌^◌, ◌<◌, ◌≤◌, IsTrue, length, Ok, Some, []}
 use Rattle.std.specs.List.{All}
 use Rattle.quota_types.specs.Kept.{IsKept}
 use Rattle.quota_types.specs.declared.record.Entry.{Entry}
@@ -25,6 +25,7 @@ invariant-loop-list g l =
       few : length l.list.items + ids_after l.after ≤ 2 ^ 32;
       up : LooksUp Some (any_laws S.tells) (any_at S.tells (S.seen l.fn.store) l.fn.file) (any_at S.tells (S.seen l.store) l.file)
           (any_next_reads (any_seen l.fn.file) ((S.seen l.fn.store).files (any_seen l.fn.file).name) * length l.list.items) (Ok (tt {0}));
+      commits : S.commits [] l.fn.store l.store;
     }
 
 abbrev pub decreases-loop-list : goal.decreases-loop-list

@@ -1,4 +1,4 @@
-use Rattle.std.proofs.Common.{◌≡◌, ◌+◌, List, inl, inr, take, refl, sym, ap, ◌∙◌, arith}
+use Rattle.std.proofs.Common.{◌≡◌, ◌+◌, List, [], inl, inr, take, refl, sym, ap, ◌∙◌, arith}
 use Rattle.std.proofs.lemmas.Bool.{cases_Bool, false≢true}
 use Rattle.std.proofs.lemmas.List.{take_all}
 use Rattle.outside.proofs.FrameLemmas.{changes_one-none, changes_one-then}
@@ -10,7 +10,7 @@ use Rattle.quota_pages.proofs.HeldLemmas.{length-pages_in, no_page, page_at, pag
 use Rattle.quota_pages.proofs.page_write.write_pages.Goals as goal
 
 pub loop-place-init : goal.loop-place-init
-loop-place-init g c = record { files = λ told. sym (flushed-nil _ _); writes = refl; unsynced = λ told. sym (names-nil _ _); idle = λ none. refl; leaves = changes_one-none _ _ }
+loop-place-init g c = record { files = λ told. sym (flushed-nil _ _); writes = refl; unsynced = λ told. sym (names-nil _ _); idle = λ none. refl; leaves = changes_one-none _ _; commits = g.S.Store.commits_nothing [] _ }
 
 pub loop-place-preserved : goal.loop-place-preserved
 loop-place-preserved g c =
@@ -26,6 +26,7 @@ loop-place-preserved g c =
       unsynced = λ told. names-more _ _ _ c.args.name.now pages place page no_page at.0 at.1 (kept.unsynced told) (wrote.unsynced told);
       idle = λ none. (wrote.idle (lent-none pages place page no_page none at.0 at.1)).1 ∙ kept.idle none;
       leaves = changes_one-then _ _ _ _ kept.leaves wrote.leaves;
+      commits = g.S.Store.commits_on [] [] _ _ _ kept.commits wrote.commits;
     }
 
 pub returns-in_err-write_page-clause-fault : goal.returns-in_err-write_page-clause-fault

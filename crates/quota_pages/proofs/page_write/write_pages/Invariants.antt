@@ -1,4 +1,4 @@
-use Rattle.std.proofs.Common.{◌≡◌, false, take, IsTrue}
+use Rattle.std.proofs.Common.{◌≡◌, false, [], take, IsTrue}
 use Rattle.outside.specs.Frame.{ChangesOne}
 use Rattle.quota_pages.specs.Flushed.{counted_by, flushed_files, flushed_names}
 use Rattle.quota_pages.specs.Held.{pages_in}
@@ -15,4 +15,5 @@ invariant-loop-place g l =
       unsynced : IsTrue S.tells → (S.seen l.store).unsynced ≡ flushed_names (S.seen l.fn.store).unsynced l.name (take l.place pages);
       idle : is_some_lent pages ≡ false → l.store ≡ l.fn.store;
       leaves : ChangesOne l.name (S.seen l.fn.store) (S.seen l.store);
+      commits : S.commits [] l.fn.store l.store;
     }

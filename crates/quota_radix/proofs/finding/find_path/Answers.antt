@@ -51,6 +51,7 @@ loop-digit-init g c =
       held = λ file clean. along_start _ c.args.blocks c.args.id _ first;
       few = λ known. omega arith;
       looked = looks_none g.S.Store.tells _ _;
+      commits = g.S.Store.commits_nothing [] _;
     }
 
 pub reference_in-requires : goal.reference_in-requires
@@ -111,6 +112,7 @@ loop-digit-preserved g c =
       few = λ known. first_looked (pages_of c.args.pages.now) (pages_of c.loop-digit.pages) (pages_of c.reference_in.new.pages) _ c.args.blocks c.args.id index c.loop-digit.block c.loop-digit.found.items (kept.along known)
           kept.looked.stay (kept.few known) read.looked.few;
       looked = looks_more (index + 1) (omega (arith, missing-few (pages_of c.loop-digit.pages) c.loop-digit.block)) (looks_then kept.looked read.looked);
+      commits = g.S.Store.commits_on [] [] _ _ _ c.loop-digit.invariant.commits read.commits;
     }
 
 pub returns-then-block-eq0-clause-found : goal.returns-then-block-eq0-clause-found

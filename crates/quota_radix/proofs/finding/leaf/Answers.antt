@@ -19,6 +19,7 @@ loop-digit-init g c = record {
   held = λ file clean. (1 ∷ [], along_start _ c.args.blocks c.args.id (1 ∷ []) refl);
   few = λ known. omega arith;
   looked = (looks_none _ _ _);
+  commits = g.S.Store.commits_nothing [] _;
 }
 
 pub reference_in-requires : goal.reference_in-requires
@@ -79,6 +80,7 @@ loop-digit-preserved g c =
       few = λ known. first_looked (pages_of c.args.pages.now) (pages_of c.loop-digit.pages) (pages_of c.reference_in.new.pages) _ c.args.blocks c.args.id index c.loop-digit.block (kept.along known).0 (kept.along known).1
           kept.looked.stay (kept.few known) read.looked.few;
       looked = looks_within kept.looked read.looked (omega (arith, missing-few (pages_of c.loop-digit.pages) c.loop-digit.block));
+      commits = g.S.Store.commits_on [] [] _ _ _ c.loop-digit.invariant.commits read.commits;
     }
 
 pub returns-then-block-eq0-clause-found : goal.returns-then-block-eq0-clause-found

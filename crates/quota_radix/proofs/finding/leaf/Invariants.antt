@@ -1,4 +1,4 @@
-use Rattle.std.proofs.Common.{true, ◌+◌, ◌≤◌, List, ℕ, length}
+use Rattle.std.proofs.Common.{true, ◌+◌, ◌≤◌, List, ℕ, length, []}
 use Rattle.quota_pages.specs.Pages.{HoldsAsBuffered, pages_of}
 use Rattle.quota_pages.specs.Used.{IsKnown, LooksAtSome, missing_among, shown_over}
 use Rattle.quota_radix.proofs.AlongLemmas.{IsAlong}
@@ -15,4 +15,5 @@ invariant-loop-digit g l =
       few : IsKnown S.tells (S.seen l.fn.store) l.fn.pages
           → length (pages_of l.pages) ≤ length (pages_of l.fn.pages) + missing_among (pages_of l.fn.pages) (first_on_way (shown_over (S.seen l.fn.store) l.fn.pages) l.blocks l.id l.digit-index);
       looked : LooksAtSome S.tells true l.digit-index (S.seen l.fn.store) (S.seen l.store) l.fn.pages l.pages;
+      commits : S.commits [] l.fn.store l.store;
     }

@@ -1,4 +1,4 @@
-use Rattle.std.proofs.Common.{ℕ, List, arith}
+use Rattle.std.proofs.Common.{ℕ, List, arith, []}
 use Rattle.std.proofs.lemmas.Result.{err_from_is_err_and}
 use Rattle.std.proofs.lemmas.List.Elements.{All-more}
 use Rattle.outside.proofs.FrameLemmas.{only_reads-then}
@@ -30,4 +30,5 @@ loop-path-preserved g c =
       within = λ bound within. adds.within bound (within c.loop-path.path-index _ c.loop-path-test.true).0 (kept.within bound within);
       leaves = only_reads-then _ _ _ _ kept.leaves read.leaves;
       reads = omega (arith, read.reads, kept.reads);
+      commits = g.S.Store.commits_on [] [] _ _ _ c.loop-path.invariant.commits read.commits;
     }

@@ -1,4 +1,4 @@
-use Rattle.std.proofs.Common.{◌≡◌, ℕ, ◌+◌, ◌*◌, ◌≤◌, IsTrue, take, true}
+use Rattle.std.proofs.Common.{◌≡◌, ℕ, ◌+◌, ◌*◌, ◌≤◌, IsTrue, take, true, []}
 use Rattle.std.specs.Prelude.{All}
 use Rattle.std.specs.List.{flat_map}
 use Rattle.outside.specs.Frame.{OnlyReads}
@@ -19,4 +19,5 @@ invariant-loop-path g l =
       within : (bound : ℕ) → AreWithin l.blocks bound l.level → AreWithin l.blocks (256 * bound) l.next.items;
       leaves : OnlyReads true l.name (S.seen l.fn.store) (S.seen l.store);
       reads : (S.seen l.store).reads ≤ (S.seen l.fn.store).reads + l.path-index;
+      commits : S.commits [] l.fn.store l.store;
     }

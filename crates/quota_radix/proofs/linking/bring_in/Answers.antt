@@ -1,4 +1,4 @@
-use Rattle.std.proofs.Common.{◌≡◌, ℕ, ◌+◌, ◌<◌, ◌≤◌, Bool, List, true, length, get_or, take, refl, zero-le, sym, subst, ◌∙◌, arith}
+use Rattle.std.proofs.Common.{◌≡◌, ℕ, ◌+◌, ◌<◌, ◌≤◌, Bool, List, true, length, get_or, take, refl, zero-le, sym, subst, ◌∙◌, arith, []}
 use Rattle.std.proofs.lemmas.Bool.{false≢true}
 use Rattle.std.proofs.lemmas.Result.{err_from_is_err_and}
 use Rattle.std.proofs.lemmas.List.{take_all}
@@ -32,6 +32,7 @@ loop-number-init g c = record {
   brought = λ number stands. absurd (omega (arith, stands));
   buffered = λ all. refl;
   few = λ all. omega arith;
+  commits = g.S.Store.commits_nothing [] _;
 }
 
 pub word-requires-clause-room : goal.word-requires-clause-room
@@ -57,6 +58,7 @@ loop-number-preserved g c =
       brought = buffered_more (pages_of c.word.new.self) numbers index low (λ n stands. word.looked.stay n (kept.brought n stands)) word.brought;
       buffered = λ all. (word.buffered (there all)).1 ∙ kept.buffered all;
       few = λ all. omega (arith, word.looked.few, missing-there (pages_of c.loop-number.pages) number (there all), kept.few all);
+      commits = g.S.Store.commits_on [] [] _ _ _ c.loop-number.invariant.commits word.commits;
     }
 
 pub returns-clause-brought : goal.returns-clause-brought

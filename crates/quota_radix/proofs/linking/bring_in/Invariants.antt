@@ -1,4 +1,4 @@
-use Rattle.std.proofs.Common.{true, ◌≡◌, ◌≤◌, length, take}
+use Rattle.std.proofs.Common.{true, ◌≡◌, ◌≤◌, length, take, []}
 use Rattle.quota_pages.specs.Pages.{pages_of}
 use Rattle.quota_pages.specs.Used.{LooksAtSome, missing_among}
 use Rattle.quota_radix.specs.Link.{AreBuffered}
@@ -12,4 +12,5 @@ invariant-loop-number g l =
       brought : AreBuffered (pages_of l.pages) (take l.number-index l.numbers);
       buffered : AreBuffered (pages_of l.fn.pages) l.numbers → l.store ≡ l.fn.store;
       few : AreBuffered (pages_of l.fn.pages) l.numbers → length (pages_of l.pages) ≤ length (pages_of l.fn.pages);
+      commits : S.commits [] l.fn.store l.store;
     }

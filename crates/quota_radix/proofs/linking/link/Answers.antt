@@ -1,4 +1,4 @@
-use Rattle.std.proofs.Common.{true, ◌≡◌, ℕ, suc, ◌+◌, ◌-◌, ◌<◌, ◌≤◌, ◌^◌, List, length, get_or, sym, ap, subst, ◌∙◌, arith, rules}
+use Rattle.std.proofs.Common.{true, ◌≡◌, ℕ, suc, ◌+◌, ◌-◌, ◌<◌, ◌≤◌, ◌^◌, List, length, get_or, sym, ap, subst, ◌∙◌, arith, rules, []}
 use Rattle.std.proofs.lemmas.Bool.{false≢true}
 use Rattle.std.proofs.lemmas.Result.{err_from_is_err_and}
 use Rattle.quota_pages.specs.Pages.{pages_of}
@@ -66,6 +66,7 @@ returns g c =
       buffered = λ all. (set.done, set.store ∙ (c.in_ok-bring_in.ensures.buffered (there all)).1);
       few = λ all. omega (arith, set.lends.few, c.in_ok-bring_in.ensures.few (there all));
       cause = search rules;
+      commits = g.S.Store.commits_on [] [] _ _ _ c.bring_in.ensures.commits set.commits;
     }
 
 -- where each block is buffered, bringing them in is not refused

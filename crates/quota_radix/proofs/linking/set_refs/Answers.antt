@@ -36,6 +36,7 @@ loop-place-preserved g c =
           (ap (λ (n : ℕ). 4 * n) (c.from.ensures ∙ ap (λ (ds : List ℕ). get_or ds place 0) c.digits-digits.ensures.digits ∙ digit_there c.args.id place few))
           (ap (λ (k : ℕ). get_or way k 0) next)
           (set.set (kept.lends.known known)) (shown_over-lends set.lends);
+      commits = g.S.Store.commits_on [] [] _ _ _ c.loop-place.invariant.commits set.commits;
     }
 
 pub returns-clause-lends : goal.returns-clause-lends

@@ -1,4 +1,4 @@
-use Rattle.std.proofs.Common.{true, ◌≡◌, ℕ, suc, ◌-◌, ◌*◌, ◌<◌, ◌≤◌, get_or}
+use Rattle.std.proofs.Common.{true, ◌≡◌, ℕ, suc, ◌-◌, ◌*◌, ◌<◌, ◌≤◌, get_or, []}
 use Rattle.quota_pages.specs.Used.{HasWord, IsKnown, LendsSome, shown_over}
 use Rattle.quota_radix.specs.Link.{AreDistinct}
 use Rattle.quota_radix.specs.Way.{digit_on_way}
@@ -15,4 +15,5 @@ invariant-loop-place g l =
           → (digits : ℕ) → l.first ≤ digits → digits < l.place
           → HasWord (get_or l.way digits 0) (4 * digit_on_way l.id digits) (get_or l.way (suc digits) 0)
           (shown_over (S.seen l.fn.store) l.fn.pages) (shown_over (S.seen l.store) l.pages);
+      commits : S.commits [] l.fn.store l.store;
     }

@@ -34,6 +34,7 @@ loop-count-preserved g c =
       items = c.push.ensures.items ∙ ap (λ (xs : List ℕ). xs ++ block ∷ []) kept.items ∙ sym (lowest_more way count few);
       cleared = cleared_next way c.args.id count few (cleared_looks one seen.looked)
           (λ known. subst (λ (file : List ℕ). IsEmpty file block) (sym (shown_over-looks seen.looked)) ((seen.empty (one.lends.known known)).0 c.if-not-branch.false));
+      commits = g.S.Store.commits_on [] [] _ _ _ (g.S.Store.commits_on [] [] _ _ _ c.loop-count.invariant.commits set.commits) seen.commits;
     }
 
 -- what is left has references
@@ -70,6 +71,7 @@ returns-then-not-branch g c =
           ∙ (seen.empty (one.lends.known known)).1 (subst (λ (file : List ℕ). IsEmpty file block) (shown_over-looks seen.looked) empty))));
       lends = subst (λ (numbers : List ℕ). LendsSome S.tells true 0 numbers (S.seen c.args.store.now) (S.seen c.is_without_refs.new.store) c.args.pages.now c.is_without_refs.new.pages)
           (ap (λ (xs : List ℕ). xs ++ block ∷ []) (sym kept.items) ∙ ap (λ (k : ℕ). c.loop-count.emptied.items ++ get_or way (3 - k) 0 ∷ []) is) all.lends;
+      commits = g.S.Store.commits_on [] [] _ _ _ (g.S.Store.commits_on [] [] _ _ _ kept.commits set.commits) seen.commits;
     }
 
 -- all three were emptied
@@ -99,4 +101,5 @@ returns g c =
       left = λ known low. absurd (omega (arith, low, is));
       lends = subst (λ (numbers : List ℕ). LendsSome S.tells true 0 numbers (S.seen c.args.store.now) (S.seen c.set_word-2.new.store) c.args.pages.now c.set_word-2.new.self)
           (ap (λ (xs : List ℕ). xs ++ get_or way 0 0 ∷ []) (ap (lowest_blocks way) (sym count_is) ∙ sym kept.items) ∙ ap (λ (k : ℕ). c.loop-count.emptied.items ++ get_or way (3 - k) 0 ∷ []) (sym is)) all.lends;
+      commits = g.S.Store.commits_on [] [] _ _ _ kept.commits set.commits;
     }

@@ -49,6 +49,7 @@ loop-preserved g c =
       uses = uses_then kept.uses (uses_of_lends took.lends);
       taken = λ known. subst (λ (xs : List ℕ). TakesFresh xs (shown_over (g.S.Store.seen c.args.store.now) c.args.pages.now) (shown_over (g.S.Store.seen c.take_one.new.store) c.take_one.new.pages) c.args.heads.now c.take_one.new.heads) (sym items)
           (takes_one_more fresh _ _ _ c.args.heads.now c.loop.now c.take_one.new.heads block (shown_over-lends took.lends) (kept.taken known) (took.taken (kept.uses.known known)));
+      commits = g.S.Store.commits_on [] [] _ _ _ c.loop.invariant.commits took.commits;
     }
 
 pub returns-in_err-block-clause-full : goal.returns-in_err-block-clause-full

@@ -1,4 +1,4 @@
-use Rattle.std.proofs.Common.{◌≡◌, ◌≢◌, ◌≤◌, max, true, length}
+use Rattle.std.proofs.Common.{◌≡◌, ◌≢◌, ◌≤◌, max, true, length, []}
 use Rattle.std.specs.Prelude.{⊤}
 use Rattle.quota_types.specs.Times.{times}
 use Rattle.quota_pages.specs.Pages.{pages_of}
@@ -22,4 +22,5 @@ invariant-loop g l =
       uses : Uses S.tells true l.counter (S.seen l.fn.store) (S.seen l.store) l.fn.pages l.pages;
       taken : IsKnown S.tells (S.seen l.fn.store) l.fn.pages
           → TakesFresh l.fresh.items (shown_over (S.seen l.fn.store) l.fn.pages) (shown_over (S.seen l.store) l.pages) l.fn.heads l.now;
+      commits : S.commits [] l.fn.store l.store;
     }

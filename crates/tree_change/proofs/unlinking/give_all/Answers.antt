@@ -18,6 +18,7 @@ loop-block-init g c = record {
   lends = lends_among c.args.given.now (λ number stands. absurd (omega (arith, stands))) (lends_of_looks (looks_none {ok = true} g.S.Store.tells _ _));
   uses = uses_none g.S.Store.tells _ _;
   gives = λ known. gives_none c.args.given.now _ c.args.heads.now;
+  commits = g.S.Store.commits_nothing [] _;
 }
 
 pub give_block-requires : goal.give_block-requires
@@ -48,6 +49,7 @@ loop-block-preserved g c =
       uses = uses_there (get_or given index 0) (still_there c.args.pages.now c.loop-block.pages given index kept.uses c.requires.buffered c.loop-block-test.true) kept.uses (uses_of_lends gave.lends);
       gives = λ known. gives_more given index _ _ _ c.args.heads.now c.loop-block.now c.give_block.new.heads c.loop-block-test.true
           (shown_over-lends gave.lends) (gave.given (kept.uses.known known)) gave.head (kept.gives known);
+      commits = g.S.Store.commits_on [] [] _ _ _ c.loop-block.invariant.commits gave.commits;
     }
 
 pub returns-clause-given : goal.returns-clause-given

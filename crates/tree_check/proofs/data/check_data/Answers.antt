@@ -17,6 +17,7 @@ loop-block-init g c = record {
   room = λ told. c.in_ok-room.ensures;
   leaves = search rules;
   reads = omega arith;
+  commits = g.S.Store.commits_nothing [] _;
 }
 
 pub loop-block-preserved : goal.loop-block-preserved
@@ -42,6 +43,7 @@ loop-block-preserved g c =
         led_more groups block [] (omega (arith, length_groups c.args.blocks c.args.leaves.now, inside)),
         ap {B = ℕ} (λ (ids : List ℕ). cond (nat_le 1 (length ids)) 1 0) group,
       );
+      commits = g.S.Store.commits_on [] [] _ _ _ c.loop-block.invariant.commits found.commits;
     }
 
 pub returns-clause-room : goal.returns-clause-room

@@ -1,4 +1,4 @@
-use Rattle.std.proofs.Common.{ℕ, ◌+◌, ◌<◌, ◌≤◌, take, IsTrue, true}
+use Rattle.std.proofs.Common.{ℕ, ◌+◌, ◌<◌, ◌≤◌, take, IsTrue, true, []}
 use Rattle.outside.specs.Frame.{OnlyReads}
 use Rattle.file_blocks.specs.BlockSet.{AreFlagsOf}
 use Rattle.file_blocks.specs.Block.{bytes_of}
@@ -18,4 +18,5 @@ invariant-loop-block g l =
           → AreFlagsOf l.blocks l.room.flags.items (rooms l.format (bytes_of ((S.seen l.fn.store).files l.name)) (groups_of l.blocks l.leaves) l.block);
       leaves : OnlyReads true l.name (S.seen l.fn.store) (S.seen l.store);
       reads : (S.seen l.store).reads ≤ (S.seen l.fn.store).reads + led_blocks (take l.block (groups_of l.blocks l.leaves));
+      commits : S.commits [] l.fn.store l.store;
     }

@@ -1,4 +1,4 @@
-use Rattle.std.proofs.Common.{◌≡◌, length, List, inl, inr, sym, ap, ◌∙◌, arith}
+use Rattle.std.proofs.Common.{◌≡◌, length, List, inl, inr, sym, ap, ◌∙◌, arith, []}
 use Rattle.std.proofs.lemmas.Bool.{cases_Bool}
 use Rattle.std.proofs.lemmas.List.{take_all}
 use Rattle.outside.specs.Seen.{StoreSeen}
@@ -44,3 +44,11 @@ returns-clause-written g c =
           let same : S.seen c.flush-flushed.new.store ≡ S.seen c.args.store.now = ap S.seen (c.in_ok-flushed.ensures.idle none).1 in
           inl (synced.files ∙ ap (λ (seen : StoreSeen). seen.files) same, synced.writes ∙ ap (λ (seen : StoreSeen). seen.writes) same)
     ]
+
+pub returns-in_err-flushed-clause-commits : goal.returns-in_err-flushed-clause-commits
+returns-in_err-flushed-clause-commits g c =
+    inl c.flush-flushed.ensures.commits
+
+pub returns-clause-commits : goal.returns-clause-commits
+returns-clause-commits g c =
+    inr (g.S.Store.commits_on [] _ _ _ _ c.flush-flushed.ensures.commits c.sync.ensures.commits, λ told. c.sync.ensures.leaves.files ∙ c.in_ok-flushed.ensures.flushed told)

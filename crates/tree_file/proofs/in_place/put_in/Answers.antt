@@ -1,4 +1,4 @@
-use Rattle.std.proofs.Common.{◌+◌, ◌≤◌, true, inr, arith}
+use Rattle.std.proofs.Common.{◌+◌, ◌≤◌, true, inr, arith, inl}
 use Rattle.std.specs.Prelude.{IsSome}
 use Rattle.std.specs.FinMap.{get}
 use Rattle.std.proofs.lemmas.Result.{err_from_is_err_and}
@@ -10,6 +10,7 @@ use Rattle.tree_file.proofs.GraceChangeLemmas.{known_empty}
 use Rattle.opened_file.proofs.EditsOneLemmas.{edits_one-read}
 use Rattle.quota_pages.specs.Pages.{name_of}
 use Rattle.tree_file.proofs.TornLemmas.{edits_flushed}
+use Rattle.opened_file.proofs.CommittedLemmas.{once_behind}
 use Rattle.tree_file.proofs.in_place.put_in.Goals as goal
 
 pub returns-in_ok-finish-in-Ok-clause-done : goal.returns-in_ok-finish-in-Ok-clause-done
@@ -63,3 +64,29 @@ returns-in_err-finish-in-Ok-clause-leaves g c =
 
 pub returns-in-Err-clause-leaves : goal.returns-in-Err-clause-leaves
 returns-in-Err-clause-leaves g c = edits_one-read (name_of c.args.pages.now) (g.S.Store.seen c.args.store.now) (g.S.Store.seen c.put_record.new.store) c.in-Err.ensures.uses.leaves
+
+pub returns-in_ok-finish-in-Ok-clause-commits : goal.returns-in_ok-finish-in-Ok-clause-commits
+returns-in_ok-finish-in-Ok-clause-commits g c =
+    let S = g.S.Store in
+    let put = c.in-Ok.ensures in
+    once_behind S.commits S.commits_on _ _ _ _ _ _ c.put_record.ensures.commits c.finish.ensures.commits
+    (λ flushed told. (c.in-Ok.heads, written S.tells true 12 (S.seen c.args.store.now) (S.seen c.put_record.new.store) c.args.pages.now c.put_record.new.pages c.requires.empty put.uses
+    (MayChange c.args.limit (Put c.args.id c.args.rec.now) c.args.header.now c.in-Ok.heads)
+    (λ of value stands. put_changes c.args.limit c.args.id c.args.rec.now value _ _ c.in-Ok.heads (omega arith) stands put.few.1
+    (put.shown (known_empty S.tells (S.seen c.args.store.now) c.args.pages.now c.requires.empty told) of value stands))
+    (S.seen c.finish.new.store).files (flushed told)))
+
+pub returns-in_err-finish-in-Ok-clause-commits : goal.returns-in_err-finish-in-Ok-clause-commits
+returns-in_err-finish-in-Ok-clause-commits g c =
+    let S = g.S.Store in
+    let put = c.in-Ok.ensures in
+    once_behind S.commits S.commits_on _ _ _ _ _ _ c.put_record.ensures.commits c.finish.ensures.commits
+    (λ flushed told. (c.in-Ok.heads, written S.tells true 12 (S.seen c.args.store.now) (S.seen c.put_record.new.store) c.args.pages.now c.put_record.new.pages c.requires.empty put.uses
+    (MayChange c.args.limit (Put c.args.id c.args.rec.now) c.args.header.now c.in-Ok.heads)
+    (λ of value stands. put_changes c.args.limit c.args.id c.args.rec.now value _ _ c.in-Ok.heads (omega arith) stands put.few.1
+    (put.shown (known_empty S.tells (S.seen c.args.store.now) c.args.pages.now c.requires.empty told) of value stands))
+    (S.seen c.finish.new.store).files (flushed told)))
+
+pub returns-in-Err-clause-commits : goal.returns-in-Err-clause-commits
+returns-in-Err-clause-commits g c =
+    inl c.put_record.ensures.commits

@@ -5,6 +5,7 @@ use Rattle.edit_journal.specs.UndoName.{und_name, undo_name}
 use Rattle.journal_store.specs.Kinds.{kind_of}
 use Rattle.journal_store.proofs.CallLemmas.{others-entered, others-then, stops-entered, stops-then, with_name-keeps}
 use Rattle.journal_store.proofs.LookLemmas.{looks-less, looks-then}
+use Rattle.journal_store.proofs.CommitsLemmas.{commits_any, commits_before, commits_synced}
 use Rattle.journal_store.proofs.journal.Journal.commit.Goals as goal
 
 pub hold-requires : goal.hold-requires
@@ -49,3 +50,19 @@ returns-clause-others g c told =
 pub returns-clause-done : goal.returns-clause-done
 returns-clause-done g c told =
     subst (λ (w : World). IsRecovered c.args.name.now (undo_name c.args.name.now) (w c.args.name.now) (g.D.Disk.seen c.held_commit.new.self.disk)) (c.in_ok-hold.ensures.leaves told).files (c.in_ok-held_commit.ensures.done told)
+
+pub returns-in_err-hold-clause-commits : goal.returns-in_err-hold-clause-commits
+returns-in_err-hold-clause-commits g c told =
+    commits_any _ _ _ (c.hold.ensures.commits told)
+
+pub returns-in_err-held_commit-clause-commits : goal.returns-in_err-held_commit-clause-commits
+returns-in_err-held_commit-clause-commits g c told =
+    let plain = ap kind_of (sym c.requires.0) ∙ c.args.self.now.plain in
+    commits_before _ _ _ _ (c.in_ok-hold.ensures.commits told)
+    (commits_synced _ c.args.name.now _ plain (ap (λ (w : World). w c.args.name.now) (c.held_commit.ensures.leaves told).files) _ _ (c.held_commit.ensures.stops told) (c.held_commit.ensures.others told))
+
+pub returns-clause-commits : goal.returns-clause-commits
+returns-clause-commits g c told =
+    let plain = ap kind_of (sym c.requires.0) ∙ c.args.self.now.plain in
+    commits_before _ _ _ _ (c.in_ok-hold.ensures.commits told)
+    (commits_synced _ c.args.name.now _ plain (ap (λ (w : World). w c.args.name.now) (c.held_commit.ensures.leaves told).files) _ _ (c.held_commit.ensures.stops told) (c.held_commit.ensures.others told))

@@ -5,6 +5,8 @@ use Rattle.edit_journal.specs.Spans.{spans_of}
 use Rattle.journal_store.proofs.BesideLemmas.{held-beside, names-beside, put-beside, recovered-beside, same_told}
 use Rattle.journal_store.proofs.CallLemmas.{with_name-keeps}
 use Rattle.journal_store.proofs.KindLemmas.{is_new_name, is_plain}
+use Rattle.std.proofs.lemmas.Bool.{false≢true}
+use Rattle.journal_store.proofs.CommitsLemmas.{commits_before, commits_new}
 use Rattle.journal_store.proofs.journal.Journal.create.Goals as goal
 
 pub returns-then-plain-clause-unsynced : goal.returns-then-plain-clause-unsynced
@@ -48,3 +50,19 @@ returns-clause-unsynced g c told =
     let new = is_new_name c.args.name.now (c.in_ok-plain.ensures.new c.if-plain.false) in
     names-beside _ _ self.name.bytes c.args.name.now (spans_of self.ranges.items) true plain new (c.in-Ok.ensures.unsynced told)
     ∙ with_name-keeps _ _ c.args.name.now true (c.in_ok-plain.ensures.leaves told).unsynced
+
+pub returns-in_err-held_create-clause-commits : goal.returns-in_err-held_create-clause-commits
+returns-in_err-held_create-clause-commits g c told is =
+    absurd (false≢true (sym (is_plain c.args.name.now (c.in_ok-plain.ensures.plain c.if-plain.true)).new ∙ is))
+
+pub returns-then-plain-clause-commits : goal.returns-then-plain-clause-commits
+returns-then-plain-clause-commits g c told is =
+    absurd (false≢true (sym (is_plain c.args.name.now (c.in_ok-plain.ensures.plain c.if-plain.true)).new ∙ is))
+
+pub returns-in_default-clause-commits : goal.returns-in_default-clause-commits
+returns-in_default-clause-commits g c told is =
+    commits_before [] _ _ _ (c.in_ok-plain.ensures.commits told) (commits_new (CutShort 0) c.args.name.now (is_new_name c.args.name.now (c.in_ok-plain.ensures.new c.if-plain.false)) _ _ c.create.ensures.leaves)
+
+pub returns-clause-commits : goal.returns-clause-commits
+returns-clause-commits g c told is =
+    commits_before [] _ _ _ (c.in_ok-plain.ensures.commits told) (commits_new (CutShort 0) c.args.name.now (is_new_name c.args.name.now (c.in_ok-plain.ensures.new c.if-plain.false)) _ _ c.create.ensures.leaves)

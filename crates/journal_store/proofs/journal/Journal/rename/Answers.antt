@@ -1,7 +1,10 @@
-use Rattle.std.proofs.Common.{IsSome, refl, sym, ap, ◌∙◌, subst}
+use Rattle.std.proofs.Common.{IsSome, refl, sym, ap, ◌∙◌, subst, rules, []}
 use Rattle.outside.specs.World.{World, with_new_name}
 use Rattle.outside.proofs.FrameLemmas.{adds_none-then}
 use Rattle.journal_store.proofs.CallLemmas.{with_handed-keeps}
+use Rattle.std.specs.Prelude.{◌∷◌}
+use Rattle.journal_store.specs.Commits.{Commits}
+use Rattle.journal_store.proofs.CommitsLemmas.{commits_any, commits_before}
 use Rattle.journal_store.proofs.journal.Journal.rename.Goals as goal
 
 pub returns-clause-ok : goal.returns-clause-ok
@@ -17,3 +20,21 @@ pub returns-clause-absent : goal.returns-clause-absent
 returns-clause-absent g c told absent =
     adds_none-then _ _ _ ((c.in_ok-hold.ensures.leaves told).synced refl)
     (c.in_ok-held_rename.ensures.absent told (ap (λ (w : World). w c.args.from.now) (c.in_ok-hold.ensures.leaves told).files ∙ absent))
+
+pub returns-in_err-hold-clause-commits : goal.returns-in_err-hold-clause-commits
+returns-in_err-hold-clause-commits g c told synced =
+    commits_any _ _ _ (c.hold.ensures.commits told)
+
+pub returns-in_err-held_rename-clause-commits : goal.returns-in_err-held_rename-clause-commits
+returns-in_err-held_rename-clause-commits g c told synced =
+    let looks = c.in_ok-hold.ensures.leaves told in
+    subst (λ (w : World). Commits (with_new_name w c.args.from.now c.args.to.now ∷ []) (g.D.Disk.seen c.args.self.now.disk) (g.D.Disk.seen c.held_rename.new.self.disk)) looks.files
+    (commits_before _ _ _ _ (c.hold.ensures.commits told)
+    (c.held_rename.ensures.commits told (looks.unsynced c.args.from.now c.requires ∙ synced)))
+
+pub returns-clause-commits : goal.returns-clause-commits
+returns-clause-commits g c told synced =
+    let looks = c.in_ok-hold.ensures.leaves told in
+    subst (λ (w : World). Commits (with_new_name w c.args.from.now c.args.to.now ∷ []) (g.D.Disk.seen c.args.self.now.disk) (g.D.Disk.seen c.held_rename.new.self.disk)) looks.files
+    (commits_before _ _ _ _ (c.hold.ensures.commits told)
+    (c.held_rename.ensures.commits told (looks.unsynced c.args.from.now c.requires ∙ synced)))

@@ -1,4 +1,4 @@
-use Rattle.std.proofs.Common.{is_ok, rules, false, ap, ◌∙◌, subst}
+use Rattle.std.proofs.Common.{is_ok, rules, false, ap, ◌∙◌, subst, [], sym}
 use Rattle.outside.specs.World.{World}
 use Rattle.edit_journal.specs.Settled.{IsRecovered}
 use Rattle.edit_journal.specs.Spans.{spans_of}
@@ -7,6 +7,8 @@ use Rattle.journal_store.proofs.BesideLemmas.{names-beside}
 use Rattle.journal_store.proofs.CallLemmas.{others-entered, others-then, stops-entered, stops-looked, stops-then, with_name-keeps}
 use Rattle.journal_store.proofs.KindLemmas.{is_new_name, is_plain}
 use Rattle.journal_store.proofs.LookLemmas.{looks-less, looks-then}
+use Rattle.std.proofs.lemmas.Bool.{false≢true}
+use Rattle.journal_store.proofs.CommitsLemmas.{commits_any, commits_before, commits_nothing, commits_same, commits_synced}
 use Rattle.journal_store.proofs.journal.Journal.sync.Goals as goal
 
 pub returns-in_err-plain-clause-stops : goal.returns-in_err-plain-clause-stops
@@ -89,3 +91,61 @@ returns-clause-others g c told plain =
 pub returns-clause-done : goal.returns-clause-done
 returns-clause-done g c told plain =
     subst (λ (w : World). IsRecovered c.args.name.now (undo_name c.args.name.now) (w c.args.name.now) (g.D.Disk.seen c.held_commit.new.self.disk)) (c.in_ok-plain.ensures.leaves told).files (c.in_ok-held_commit.ensures.done told)
+
+pub returns-in_err-plain-clause-others : goal.returns-in_err-plain-clause-others
+returns-in_err-plain-clause-others g c told plain =
+    others-entered c.args.name.now (undo_name c.args.name.now) (und_name c.args.name.now) _ _ (c.enter.ensures.stops told plain)
+
+pub returns-in_err-plain-clause-commits : goal.returns-in_err-plain-clause-commits
+returns-in_err-plain-clause-commits g c told =
+    commits_any _ _ _ (c.enter.ensures.commits told)
+
+pub returns-in_default-clause-commits : goal.returns-in_default-clause-commits
+returns-in_default-clause-commits g c told =
+    commits_any _ _ _ (commits_before [] _ _ _ (c.in_ok-plain.ensures.commits told) (commits_nothing _ _ c.sync.ensures.leaves))
+
+pub returns-in_default-clause-beside : goal.returns-in_default-clause-beside
+returns-in_default-clause-beside g c told is =
+    commits_before [] _ _ _ (c.in_ok-plain.ensures.commits told) (commits_nothing _ _ c.sync.ensures.leaves)
+
+pub returns-then-not-plain-clause-commits : goal.returns-then-not-plain-clause-commits
+returns-then-not-plain-clause-commits g c told =
+    commits_any _ _ _ (commits_before [] _ _ _ (c.in_ok-plain.ensures.commits told) (commits_nothing _ _ c.sync.ensures.leaves))
+
+pub returns-then-not-plain-clause-beside : goal.returns-then-not-plain-clause-beside
+returns-then-not-plain-clause-beside g c told is =
+    commits_before [] _ _ _ (c.in_ok-plain.ensures.commits told) (commits_nothing _ _ c.sync.ensures.leaves)
+
+pub returns-in_err-held_sync-clause-commits : goal.returns-in_err-held_sync-clause-commits
+returns-in_err-held_sync-clause-commits g c told =
+    commits_any _ _ _ (commits_before [] _ _ _ (c.in_ok-plain.ensures.commits told) (commits_same _ _ c.held_sync.ensures.stops))
+
+pub returns-in_err-held_sync-clause-beside : goal.returns-in_err-held_sync-clause-beside
+returns-in_err-held_sync-clause-beside g c told is =
+    commits_before [] _ _ _ (c.in_ok-plain.ensures.commits told) (commits_same _ _ c.held_sync.ensures.stops)
+
+pub returns-then-is_empty-clause-commits : goal.returns-then-is_empty-clause-commits
+returns-then-is_empty-clause-commits g c told =
+    commits_any _ _ _ (commits_before [] _ _ _ (c.in_ok-plain.ensures.commits told) (commits_same _ _ c.held_sync.ensures.stops))
+
+pub returns-then-is_empty-clause-beside : goal.returns-then-is_empty-clause-beside
+returns-then-is_empty-clause-beside g c told is =
+    commits_before [] _ _ _ (c.in_ok-plain.ensures.commits told) (commits_same _ _ c.held_sync.ensures.stops)
+
+pub returns-in_err-held_commit-clause-commits : goal.returns-in_err-held_commit-clause-commits
+returns-in_err-held_commit-clause-commits g c told =
+    commits_before _ _ _ _ (c.in_ok-plain.ensures.commits told)
+    (commits_synced _ c.args.name.now _ (c.in_ok-plain.ensures.plain c.if-not-plain.false) (ap (λ (w : World). w c.args.name.now) (c.held_commit.ensures.leaves told).files) _ _ (c.held_commit.ensures.stops told) (c.held_commit.ensures.others told))
+
+pub returns-in_err-held_commit-clause-beside : goal.returns-in_err-held_commit-clause-beside
+returns-in_err-held_commit-clause-beside g c told is =
+    absurd (false≢true (sym (is_plain c.args.name.now (c.in_ok-plain.ensures.plain c.if-not-plain.false)).new ∙ is))
+
+pub returns-clause-commits : goal.returns-clause-commits
+returns-clause-commits g c told =
+    commits_before _ _ _ _ (c.in_ok-plain.ensures.commits told)
+    (commits_synced _ c.args.name.now _ (c.in_ok-plain.ensures.plain c.if-not-plain.false) (ap (λ (w : World). w c.args.name.now) (c.held_commit.ensures.leaves told).files) _ _ (c.held_commit.ensures.stops told) (c.held_commit.ensures.others told))
+
+pub returns-clause-beside : goal.returns-clause-beside
+returns-clause-beside g c told is =
+    absurd (false≢true (sym (is_plain c.args.name.now (c.in_ok-plain.ensures.plain c.if-not-plain.false)).new ∙ is))

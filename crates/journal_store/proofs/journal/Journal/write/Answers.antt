@@ -1,4 +1,4 @@
-use Rattle.std.proofs.Common.{inl, inr, ⊎_elim, List, ℕ, Option, IsSome, length, true, sym, ap, ◌∙◌, subst}
+use Rattle.std.proofs.Common.{inl, inr, ⊎_elim, List, ℕ, Option, IsSome, length, true, sym, ap, ◌∙◌, subst, []}
 use Rattle.outside.specs.World.{World, with_bytes}
 use Rattle.outside.proofs.FrameLemmas.{keeps_others-then}
 use Rattle.disk.specs.Steps.{IsOutside, Torn}
@@ -8,6 +8,7 @@ use Rattle.journal_store.specs.Told.{Told}
 use Rattle.journal_store.proofs.BesideLemmas.{held-beside, names-beside, recovered-beside, same_told, written-beside}
 use Rattle.journal_store.proofs.CallLemmas.{names-made, stops-looked, with_name-keeps}
 use Rattle.journal_store.proofs.KindLemmas.{is_new_name, is_plain}
+use Rattle.journal_store.proofs.CommitsLemmas.{commits_before, commits_new, commits_same}
 use Rattle.journal_store.proofs.journal.Journal.write.Goals as goal
 
 pub returns-in_err-keep-clause-names : goal.returns-in_err-keep-clause-names
@@ -71,3 +72,21 @@ returns-clause-unsynced g c told =
     let new = is_new_name c.args.name.now (c.in_ok-plain.ensures.new c.if-plain.false) in
     names-beside _ _ self.name.bytes c.args.name.now (spans_of self.ranges.items) true plain new (c.in-Ok.ensures.unsynced told)
     ∙ with_name-keeps _ _ c.args.name.now true (c.in_ok-plain.ensures.leaves told).unsynced
+
+pub returns-in_err-keep-clause-commits : goal.returns-in_err-keep-clause-commits
+returns-in_err-keep-clause-commits g c told =
+    commits_before [] _ _ _ (c.in_ok-plain.ensures.commits told) (commits_same _ _ c.keep.ensures.stops)
+
+pub returns-then-plain-clause-commits : goal.returns-then-plain-clause-commits
+returns-then-plain-clause-commits g c told =
+    commits_before [] _ _ _ (c.in_ok-plain.ensures.commits told) (commits_same _ _ c.keep.ensures.stops)
+
+pub returns-in_default-clause-commits : goal.returns-in_default-clause-commits
+returns-in_default-clause-commits g c told =
+    commits_before [] _ _ _ (c.in_ok-plain.ensures.commits told)
+    (commits_new (Torn (IsOutside c.args.at (length c.args.bytes.now))) c.args.name.now (is_new_name c.args.name.now (c.in_ok-plain.ensures.new c.if-plain.false)) _ _ c.write.ensures.leaves)
+
+pub returns-clause-commits : goal.returns-clause-commits
+returns-clause-commits g c told =
+    commits_before [] _ _ _ (c.in_ok-plain.ensures.commits told)
+    (commits_new (Torn (IsOutside c.args.at (length c.args.bytes.now))) c.args.name.now (is_new_name c.args.name.now (c.in_ok-plain.ensures.new c.if-plain.false)) _ _ c.write.ensures.leaves)

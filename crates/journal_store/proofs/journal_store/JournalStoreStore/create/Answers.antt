@@ -4,6 +4,7 @@ use Rattle.outside.proofs.WorldLemmas.{KeepsOthers-with_file}
 use Rattle.journal_store.specs.JournalStore.{told_of}
 use Rattle.journal_store.specs.Told.{Told}
 use Rattle.journal_store.proofs.SeenLemmas.{by_result, changes_one-seen, keeps-either}
+use Rattle.journal_store.proofs.KindLemmas.{replacement-is_new}
 use Rattle.journal_store.proofs.journal_store.JournalStoreStore.create.Goals as goal
 
 pub returns-clause-leaves : goal.returns-clause-leaves
@@ -16,3 +17,7 @@ returns-clause-leaves g c =
     (λ ok. keeps-either old.files new.files (with_file old.files c.args.name.now (Some [])) c.args.name.now (KeepsOthers-with_file old.files c.args.name.now _) (inr (ok told)))
     (λ fault. keeps-either old.files new.files (with_file old.files c.args.name.now (Some [])) c.args.name.now (KeepsOthers-with_file old.files c.args.name.now _) (fault told)))
     c.create-done.ensures.names c.outcome.ensures.later refl
+
+pub returns-clause-commits : goal.returns-clause-commits
+returns-clause-commits g c base is told =
+    c.create-done.ensures.commits told (replacement-is_new c.args.name.now base is)

@@ -2,6 +2,7 @@ use Rattle.std.proofs.Common.{Bool, is_ok, refl, sym, ap, subst}
 use Rattle.journal_store.specs.JournalStore.{told_of}
 use Rattle.journal_store.specs.Told.{LooksAt}
 use Rattle.journal_store.proofs.SeenLemmas.{counted-rose, only_reads-seen}
+use Rattle.journal_store.proofs.KindLemmas.{replacement-is_new}
 use Rattle.journal_store.proofs.journal_store.JournalStoreStore.sync.Goals as goal
 
 pub returns-clause-leaves : goal.returns-clause-leaves
@@ -10,3 +11,7 @@ returns-clause-leaves g c =
     (λ told.
     subst (λ (b : Bool). LooksAt b c.args.name.now (told_of c.args.self.now.journal) (told_of c.sync-done.new.self)) (ap (λ r. is_ok r) (sym c.outcome.ensures.same)) (c.sync-done.ensures.leaves told))
     c.outcome.ensures.later refl (counted-rose c.outcome.result _ _ c.outcome.ensures.err)
+
+pub returns-clause-beside : goal.returns-clause-beside
+returns-clause-beside g c base is told =
+    c.sync-done.ensures.beside told (replacement-is_new c.args.name.now base is)

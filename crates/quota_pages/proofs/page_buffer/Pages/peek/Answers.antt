@@ -18,5 +18,6 @@ returns g c =
         reads = brought.reads;
         cause = tt;
         leaves = brought.leaves;
+        commits = brought.commits;
       },
     )

@@ -1,10 +1,12 @@
-use Rattle.std.proofs.Common.{◌≡◌, None, sym, ◌∙◌, arith}
+use Rattle.std.proofs.Common.{◌≡◌, None, inl, sym, subst, ◌∙◌, arith}
 use Rattle.std.specs.String.{string_bytes}
 use Rattle.opened_file.specs.FileChange.{Remove}
 use Rattle.quota_v1.specs.FlatFile.{unless_zeros}
-use Rattle.quota_v1.specs.Slot.{PutsRecord}
+use Rattle.outside.specs.World.{World}
+use Rattle.opened_file.proofs.CommittedLemmas.{once_behind}
+use Rattle.quota_v1.specs.Slot.{MakesOne, PutsRecord}
 use Rattle.quota_v1.proofs.ChangedLemmas.{changes_after_read}
-use Rattle.quota_v1.proofs.FlatChangesLemmas.{flat_done, flat_torn, remove_right, stays_done, stays_failed}
+use Rattle.quota_v1.proofs.FlatChangesLemmas.{flat_done, flat_stands, flat_torn, remove_right, stays_done, stays_failed}
 use Rattle.quota_v1.proofs.LooksLemmas.{forgotten, removes_none, removes_refused}
 use Rattle.quota_v1.proofs.MakesLemmas.{value_found}
 use Rattle.quota_v1.specs.Place.{block_time_start, inode_time_start, record_start}
@@ -48,6 +50,12 @@ returns-in-Ok g c =
           (λ value held after puts.
           remove_right c.args.id c.default.result c.in-Ok-Some.field-0-0 was.len was.times was.window c.forget.new.self held.file after none
           (sym c.in-Ok-Some.field-0-is ∙ read.found held.told held.file held.there (sym held.agrees.long)) c.forget.ensures held.few held.stands.whole held.agrees puts);
+      commits = once_behind S.commits S.commits_on _ _ _ _ _ _ read.commits did.commits
+          (λ made. flat_stands (Remove c.args.id) S.tells (PutsRecord c.args.id c.default.result was.times) old new (string_bytes was.name) was.opened was.len was.len was.times was.times was.window c.forget.new.self
+          (λ value held after puts.
+          remove_right c.args.id c.default.result c.in-Ok-Some.field-0-0 was.len was.times was.window c.forget.new.self held.file after none
+          (sym c.in-Ok-Some.field-0-is ∙ read.found held.told held.file held.there (sym held.agrees.long)) c.forget.ensures held.few held.stands.whole held.agrees puts)
+          (λ told. subst (λ (files : World). MakesOne (PutsRecord c.args.id c.default.result was.times) (string_bytes was.name) files new.files) read.leaves.files (made told)));
     }
 
 pub returns-in-Err-write_record-clause-in_place : goal.returns-in-Err-write_record-clause-in_place
@@ -81,3 +89,27 @@ returns-in-Err-write_record-clause-changes g c =
     remove_right c.args.id c.default.result c.in-Ok-Some.field-0-0 was.len was.times was.window c.forget.new.self held.file after none
     (sym c.in-Ok-Some.field-0-is ∙ read.found held.told held.file held.there (sym held.agrees.long)) c.forget.ensures held.few held.stands.whole held.agrees puts)
     c.refused-in-Err-write_record.ensures.counted
+
+pub returns-in-Err-write_record-clause-commits : goal.returns-in-Err-write_record-clause-commits
+unfolding record_start block_time_start inode_time_start
+returns-in-Err-write_record-clause-commits g c =
+    let S = g.S.Store in
+    let was = c.args.self.now in
+    let old = S.seen c.args.store.now in
+    let new = S.seen c.write_record.new.store in
+    let read = rw c.as_str.ensures.value at c.in-Ok-Some.ensures in
+    let did = rw c.as_str-2.ensures.value at c.in-Err-write_record.ensures in
+    let zeros = c.default.ensures in
+    let none : unless_zeros c.default.result ≡ None = rw (zeros.0, zeros.1.0, zeros.1.1.0, zeros.1.1.1.0, zeros.1.1.1.1.0, zeros.1.1.1.1.1.0, zeros.1.1.1.1.1.1.0, zeros.1.1.1.1.1.1.1) in
+    once_behind S.commits S.commits_on _ _ _ _ _ _ read.commits did.commits
+          (λ made. flat_stands (Remove c.args.id) S.tells (PutsRecord c.args.id c.default.result was.times) old new (string_bytes was.name) was.opened was.len was.len was.times was.times was.window c.forget.new.self
+          (λ value held after puts.
+          remove_right c.args.id c.default.result c.in-Ok-Some.field-0-0 was.len was.times was.window c.forget.new.self held.file after none
+          (sym c.in-Ok-Some.field-0-is ∙ read.found held.told held.file held.there (sym held.agrees.long)) c.forget.ensures held.few held.stands.whole held.agrees puts)
+          (λ told. subst (λ (files : World). MakesOne (PutsRecord c.args.id c.default.result was.times) (string_bytes was.name) files new.files) read.leaves.files (made told)))
+
+pub returns-in-Ok-None-clause-commits : goal.returns-in-Ok-None-clause-commits
+returns-in-Ok-None-clause-commits g c = inl c.read_record.ensures.commits
+
+pub returns-in-Err-clause-commits : goal.returns-in-Err-clause-commits
+returns-in-Err-clause-commits g c = inl c.read_record.ensures.commits

@@ -1,6 +1,7 @@
 use Rattle.std.proofs.Common.{refl, arith}
 use Rattle.opened_file.specs.FileChange.{SetGrace}
-use Rattle.quota_v1.proofs.FlatChangesLemmas.{flat_done, flat_torn, grace_right, stays_done, stays_failed}
+use Rattle.opened_file.proofs.CommittedLemmas.{once_then}
+use Rattle.quota_v1.proofs.FlatChangesLemmas.{flat_done, flat_stands, flat_torn, grace_right, stays_done, stays_failed}
 use Rattle.quota_v1.specs.Place.{block_time_start, inode_time_start, record_start}
 use Rattle.quota_v1.proofs.flat_file.V1FileQuotaFile.set_grace.Goals as goal
 
@@ -15,6 +16,10 @@ returns-in-Ok g c =
       changes = flat_done (SetGrace c.args.grace) S.tells _ _ _ _ was.opened was.len c.max-self.result was.times c.args.grace was.window c.forget.new.self _ tt did.changes (λ value held. refl)
           (λ value held after graced.
           grace_right c.args.grace was.len c.max-self.result was.times was.window c.forget.new.self held.file after c.requires.fits (omega (arith, c.max-self.ensures)) c.forget.ensures held.few held.stands.whole held.agrees graced);
+      commits = once_then S.commits _ _ _ _ _ did.commits
+          (flat_stands (SetGrace c.args.grace) S.tells _ (S.seen c.args.store.now) (S.seen c.write_grace.new.store) _ was.opened was.len c.max-self.result was.times c.args.grace was.window c.forget.new.self
+          (λ value held after graced.
+          grace_right c.args.grace was.len c.max-self.result was.times was.window c.forget.new.self held.file after c.requires.fits (omega (arith, c.max-self.ensures)) c.forget.ensures held.few held.stands.whole held.agrees graced));
     }
 
 pub returns-in-Err : goal.returns-in-Err
@@ -29,4 +34,8 @@ returns-in-Err g c =
           (λ value held after graced.
           grace_right c.args.grace was.len _ was.times was.window c.forget.new.self held.file after c.requires.fits refl c.forget.ensures held.few held.stands.whole held.agrees graced)
           c.refused.ensures.counted;
+      commits = once_then S.commits _ _ _ _ _ did.commits
+          (flat_stands (SetGrace c.args.grace) S.tells _ (S.seen c.args.store.now) (S.seen c.write_grace.new.store) _ was.opened was.len _ was.times c.args.grace was.window c.forget.new.self
+          (λ value held after graced.
+          grace_right c.args.grace was.len _ was.times was.window c.forget.new.self held.file after c.requires.fits refl c.forget.ensures held.few held.stands.whole held.agrees graced));
     }

@@ -1,4 +1,4 @@
-use Rattle.std.proofs.Common.{◌≡◌, ◌+◌, ◌<◌, min, arith}
+use Rattle.std.proofs.Common.{◌≡◌, ◌+◌, ◌<◌, min, arith, []}
 use Rattle.outside.proofs.FrameLemmas.{only_reads-then}
 use Rattle.quota_v1.proofs.WindowLemmas.{first_then, held_of_file, held_on, none_then, reads_exact, reads_within}
 use Rattle.quota_v1.specs.Place.{block_time_start, inode_time_start, record_start}
@@ -43,4 +43,5 @@ loop-next-preserved g c =
       exact = λ less. reads_exact _ _ _ c.args.from c.loop-next.next c.bring.new.self.first c.min-end.result c.args.records so_far.later more has.1 end (so_far.exact more) c.in_ok-bring.ensures.fresh c.bring.ensures.reads on less;
       reads = reads_within _ _ _ c.args.from c.loop-next.next c.bring.new.self.first c.min-end.result c.args.records so_far.later more has.1 end (so_far.exact more) c.in_ok-bring.ensures.fresh c.bring.ensures.reads on;
       within = λ _. omega (arith, end);
+      commits = g.S.Store.commits_on [] [] _ _ _ c.loop-next.invariant.commits c.in_ok-bring.ensures.commits;
     }

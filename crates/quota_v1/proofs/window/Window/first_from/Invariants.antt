@@ -1,4 +1,4 @@
-use Rattle.std.proofs.Common.{◌≡◌, ◌+◌, ◌-◌, ◌*◌, ◌%◌, ◌<◌, ◌≤◌, true, length, IsTrue, List, ℕ, None, Some}
+use Rattle.std.proofs.Common.{◌≡◌, ◌+◌, ◌-◌, ◌*◌, ◌%◌, ◌<◌, ◌≤◌, true, length, IsTrue, List, ℕ, None, Some, []}
 use Rattle.file_blocks.specs.Block.{bytes_of}
 use Rattle.outside.specs.Frame.{OnlyReads}
 use Rattle.quota_v1.specs.FlatFile.{flat_record}
@@ -20,4 +20,5 @@ invariant-loop-next g l =
       exact : l.next < l.records → 25 * (S.seen l.store).reads ≤ 25 * (S.seen l.fn.store).reads + (l.next - l.from);
       reads : 25 * (S.seen l.store).reads ≤ 25 * (S.seen l.fn.store).reads + (l.next - l.from) + 24;
       within : l.from < l.next → l.next ≤ l.records;
+      commits : S.commits [] l.fn.store l.store;
     }

@@ -4,8 +4,9 @@ use Rattle.quota_pages.specs.Pages.{name_of}
 use Rattle.tree_file.specs.Opened.{with_heads}
 use Rattle.tree_file.specs.TreeChange.{tree_at}
 use Rattle.tree_file.proofs.ChangedLemmas.{put_keeps}
-use Rattle.tree_file.proofs.InPlaceLemmas.{changed_as, changes_ended, changes_made}
+use Rattle.tree_file.proofs.InPlaceLemmas.{changed_as, changes_ended, changes_made, stands_so}
 use Rattle.tree_file.proofs.PutLemmas.{put_few, put_lacks}
+use Rattle.opened_file.proofs.CommittedLemmas.{once_then}
 use Rattle.tree_file.proofs.opened_tree.TreeFileQuotaFile.put.Goals as goal
 
 pub returns-in-Ok-clause-changes : goal.returns-in-Ok-clause-changes
@@ -33,3 +34,19 @@ returns-in-Err-clause-changes g c =
     (λ blocks most full. put_lacks c.args.id c.args.rec S.tells was.limit (name_of was.pages) (S.seen c.args.store.now) was.opened was.header was.coming blocks most (omega arith) full)
     (λ blocks most full value holds. refl)
     failed.ended (λ n. rw c.file_fault.ensures at (c.refused.ensures.counted n was.header.format was.limit)) failed.leaves (record { reads = failed.reads; writes = failed.writes })))
+
+pub returns-in-Ok-clause-commits : goal.returns-in-Ok-clause-commits
+returns-in-Ok-clause-commits g c =
+    let S = g.S.Store in
+    let was = c.args.self.now in
+    once_then S.commits _ _ _ _ _ c.put_in.ensures.commits
+    (λ made value holds. stands_so S.tells (Put c.args.id c.args.rec) was.limit (name_of was.pages) (S.seen c.args.store.now) was.opened was.header was.coming (put_keeps c.args.id c.args.rec)
+    (made holds.told).0 (S.seen c.put_in.new.store).files (λ told. (made holds.told).1) value holds)
+
+pub returns-in-Err-clause-commits : goal.returns-in-Err-clause-commits
+returns-in-Err-clause-commits g c =
+    let S = g.S.Store in
+    let was = c.args.self.now in
+    once_then S.commits _ _ _ _ _ c.put_in.ensures.commits
+    (λ made value holds. stands_so S.tells (Put c.args.id c.args.rec) was.limit (name_of was.pages) (S.seen c.args.store.now) was.opened was.header was.coming (put_keeps c.args.id c.args.rec)
+    (made holds.told).0 (S.seen c.put_in.new.store).files (λ told. (made holds.told).1) value holds)

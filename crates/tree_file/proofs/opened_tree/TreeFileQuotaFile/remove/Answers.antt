@@ -4,8 +4,9 @@ use Rattle.quota_pages.specs.Pages.{name_of}
 use Rattle.tree_file.specs.Opened.{with_heads}
 use Rattle.tree_file.specs.TreeChange.{tree_at}
 use Rattle.tree_file.proofs.ChangedLemmas.{remove_keeps}
-use Rattle.tree_file.proofs.InPlaceLemmas.{changed_as, changes_ended, changes_made}
+use Rattle.tree_file.proofs.InPlaceLemmas.{changed_as, changes_ended, changes_made, stands_so}
 use Rattle.tree_file.proofs.RemoveLemmas.{changes_absent, ended_within, never_full, written_within}
+use Rattle.opened_file.proofs.CommittedLemmas.{once_then}
 use Rattle.tree_file.proofs.opened_tree.TreeFileQuotaFile.remove.Goals as goal
 
 pub returns-in-Ok-Some-clause-changes : goal.returns-in-Ok-Some-clause-changes
@@ -43,3 +44,27 @@ returns-in-Err-clause-changes g c =
 
 pub returns-in-Err-clause-never_full : goal.returns-in-Err-clause-never_full
 returns-in-Err-clause-never_full g c = rw c.refused.ensures.same (rw c.file_fault.ensures (never_full _ _ _ c.in-Err.fault c.in-Err.ensures.refused))
+
+pub returns-in-Ok-Some-clause-commits : goal.returns-in-Ok-Some-clause-commits
+returns-in-Ok-Some-clause-commits g c =
+    let S = g.S.Store in
+    let was = c.args.self.now in
+    once_then S.commits _ _ _ _ _ c.remove_in.ensures.commits
+    (λ made value holds. stands_so S.tells (Remove c.args.id) was.limit (name_of was.pages) (S.seen c.args.store.now) was.opened was.header was.coming (remove_keeps c.args.id)
+    (made holds.told).0 (S.seen c.remove_in.new.store).files (λ told. written_within c.args.id was.limit was.header (made holds.told).0 _ _ _ was.few (made holds.told).1) value holds)
+
+pub returns-in-Ok-None-clause-commits : goal.returns-in-Ok-None-clause-commits
+returns-in-Ok-None-clause-commits g c =
+    let S = g.S.Store in
+    let was = c.args.self.now in
+    once_then S.commits _ _ _ _ _ c.remove_in.ensures.commits
+    (λ made value holds. stands_so S.tells (Remove c.args.id) was.limit (name_of was.pages) (S.seen c.args.store.now) was.opened was.header was.coming (remove_keeps c.args.id)
+    (made holds.told).0 (S.seen c.remove_in.new.store).files (λ told. written_within c.args.id was.limit was.header (made holds.told).0 _ _ _ was.few (made holds.told).1) value holds)
+
+pub returns-in-Err-clause-commits : goal.returns-in-Err-clause-commits
+returns-in-Err-clause-commits g c =
+    let S = g.S.Store in
+    let was = c.args.self.now in
+    once_then S.commits _ _ _ _ _ c.remove_in.ensures.commits
+    (λ made value holds. stands_so S.tells (Remove c.args.id) was.limit (name_of was.pages) (S.seen c.args.store.now) was.opened was.header was.coming (remove_keeps c.args.id)
+    (made holds.told).0 (S.seen c.remove_in.new.store).files (λ told. written_within c.args.id was.limit was.header (made holds.told).0 _ _ _ was.few (made holds.told).1) value holds)
