@@ -12,5 +12,5 @@ returns-then-has_heads-clause-set g c = λ known are. sets_none c.args.header.no
 pub returns-then-has_heads-clause-lends : goal.returns-then-has_heads-clause-lends
 returns-then-has_heads-clause-lends g c = lends_more 1 (omega arith) (lends_among (0 ∷ []) (λ number stands. absurd (omega (arith, stands))) (lends_of_looks (looks_none {ok = true} g.S.Store.tells _ _)))
 
-pub returns-clause-lends : goal.returns-else-has_heads-clause-lends
+pub returns-clause-lends : goal.returns-clause-lends
 returns-clause-lends g c = on_ok_weaker c.set_heads.result (λ lends. lends_more 1 (missing-few (pages_of c.args.pages.now) 0) lends) c.set_heads.ensures.lends
