@@ -1,5 +1,5 @@
 -- What one call of a journal puts where a stop of the machine leaves it.
-use Rattle.std.proofs.Common.{◌≡◌, ◌≢◌, inl, inr, ⊎_elim, ℕ, Bool, false, List, [], ◌∷◌, Option, Some, None, unwrap_or, refl, sym, ap, ◌∙◌, subst}
+use Rattle.std.proofs.Common.{◌≡◌, ◌≢◌, inl, inr, ⊎_elim, ℕ, List, [], ◌∷◌, Option, Some, None, unwrap_or, refl, sym, ap, ◌∙◌, subst}
 use Rattle.std.specs.Str.{bytes_eq}
 use Rattle.std.specs.Option.{option_map_or}
 use Rattle.std.proofs.lemmas.Bool.{cases_Bool}
@@ -138,10 +138,10 @@ module _ (from to : List ℕ) (new : IsNew from) (plain : IsPlain to) where
       elim (cases_Bool (bytes_eq to other)) [
         | inl e ↦ subst (λ (n : List ℕ). RecoversOr (with_new_name world from to ∷ []) disk n now) (bytes_eq-true to other e)
             (inr (inl (
-              ap (λ (f : Option (List ℕ)). recovered f (now (undo_name to))) (ap (λ (w : World). w to) renamed ∙ renamed-at old from to bytes (kept old was))
-              ∙ ap (λ (u : Option (List ℕ)). recovered (Some bytes) u) (ap (λ (w : World). w (undo_name to)) renamed ∙ with_new_name-others old from to (undo_name to) (λ same. undo-apart from to new.undo (sym same)) (λ same. undo-apart to to plain.undo (sym same)))
-              ∙ recovered-closed bytes (old (undo_name to)) (closed old was)
-              ∙ sym (renamed-at world from to bytes told))))
+            ap (λ (f : Option (List ℕ)). recovered f (now (undo_name to))) (ap (λ (w : World). w to) renamed ∙ renamed-at old from to bytes (kept old was))
+            ∙ ap (λ (u : Option (List ℕ)). recovered (Some bytes) u) (ap (λ (w : World). w (undo_name to)) renamed ∙ with_new_name-others old from to (undo_name to) (λ same. undo-apart from to new.undo (sym same)) (λ same. undo-apart to to plain.undo (sym same)))
+            ∙ recovered-closed bytes (old (undo_name to)) (closed old was)
+            ∙ sym (renamed-at world from to bytes told))))
         | inr e ↦ inl (old, was, alike-renamed old now renamed other is (differs to other e))
       ]
 

@@ -11,5 +11,6 @@ pub mod LookLemmas
 pub mod NamesLemmas
 pub mod OverlayLemmas
 pub mod ReadyLemmas
+pub mod ReplacedLemmas
 pub mod SeenLemmas
 pub mod ToldLemmas

@@ -1,7 +1,8 @@
 -- What is seen of a store, by what its journal tells.
-use Rattle.std.proofs.Common.{◌≡◌, ◌≤◌, ◌⊎◌, inl, inr, ℕ, Bool, true, false, IsTrue, refl, List, Result, Ok, Err, OnOk, OnErr, is_ok, ap, ◌∙◌, arith}
+use Rattle.std.proofs.Common.{◌≡◌, ◌≤◌, ◌⊎◌, inl, inr, ℕ, Bool, true, false, IsTrue, refl, List, None, Result, Ok, Err, OnOk, OnErr, is_ok, ap, ◌∙◌, arith}
 use Rattle.outside.specs.Count.{Rose, counted}
 use Rattle.outside.specs.Frame.{ChangesOne, ChangesTwo, OnlyReads}
+use Rattle.outside.specs.Unsynced.{AddsNone}
 use Rattle.outside.specs.World.{KeepsOtherTwo, KeepsOthers, World}
 use Rattle.outside.proofs.FrameLemmas.{unfailed-done}
 use Rattle.journal_store.specs.JournalStore.{seen_as}
@@ -51,3 +52,10 @@ seen-told false t f r w is = absurd (cc)
 pub by_result : {T E P Q : Type 0} (result : Result T E) (R : Type 0) → OnOk result P → OnErr result Q → (P → R) → (Q → R) → R
 by_result (Ok value) R ok err done undone = done ok
 by_result (Err fault) R ok err done undone = undone err
+
+-- a call that was done adds no unsynced name where there is no file, as its journal tells
+pub adds_none-seen : {T E : Type 0} (tells : Bool) (result other : Result T E) (from : List ℕ) (a b : Told) → other ≡ result → OnOk result (IsTrue tells → a.files from ≡ None → AddsNone a.unsynced b.unsynced)
+    → OnOk other (IsTrue tells → (seen_as tells a 0 0 0).files from ≡ None → AddsNone (seen_as tells a 0 0 0).unsynced (seen_as tells b 0 0 0).unsynced)
+adds_none-seen true result other from a b same is = rw same is
+adds_none-seen false result (Ok value) from a b same is = λ told absent other unsynced. unsynced
+adds_none-seen false result (Err fault) from a b same is = tt

@@ -1,6 +1,6 @@
 -- What calls on a store over a journal may have put where a stop of the machine leaves it.
 use Rattle.std.specs.Prelude.{◌≡◌, ◌≤◌, ◌⊎◌, ℕ, List, [], ◌∷◌, ◌++◌, refl}
-use Rattle.std.proofs.Common.{inl, inr, ⊎_elim, sym, ◌∙◌, arith}
+use Rattle.std.proofs.Common.{inl, inr, ⊎_elim, ◌∙◌, arith}
 use Rattle.outside.specs.World.{World}
 use Rattle.disk.specs.DiskSeen.{DiskSeen, EachImage}
 use Rattle.edit_journal.specs.Recovery.{RecoversAsBefore}

@@ -2,4 +2,5 @@ pub mod Commits
 pub mod JournalStore
 pub mod Kinds
 pub mod Overlay
+pub mod Replaced
 pub mod Told

@@ -7,7 +7,7 @@ use outside::StoreFault;
 
 impl<D: Disk> Journal<D> {
     ghost use Rattle.std.specs.Prelude.{◌≡◌, ◌≢◌, ◌⊎◌, ◌↔◌, ◌^◌, ◌≤◌, ◌∷◌, ℕ, List, [], None, Some, length, option_map, take, false, true, IfOk, IsErr, IsSome, IsTrue, OnErr, OnOk, is_ok};
-    ghost use Rattle.disk.specs.DiskSeen.{ChangesNothing, OnlyLeaves, Passes};
+    ghost use Rattle.disk.specs.DiskSeen.{ChangesNothing, Follows, OnlyLeaves, Passes};
     ghost use Rattle.edit_journal.specs.Recovery.{IsSame, RecoversSame};
     ghost use Rattle.edit_journal.specs.Settled.{IsRecovered, KeepsOtherThree};
     ghost use Rattle.edit_journal.specs.Undo.{recovered};
@@ -15,6 +15,7 @@ impl<D: Disk> Journal<D> {
     ghost use Rattle.journal_store.specs.Commits.{Commits};
     ghost use Rattle.journal_store.specs.JournalStore.{IsAbsent, IsPending, IsRefused, IsRenameRefused, IsReplaceRefused, IsWriteRefused, RecoversAsBeforeOr, disk_of, told_of};
     ghost use Rattle.journal_store.specs.Kinds.{is_new, kind_of};
+    ghost use Rattle.journal_store.specs.Replaced.{HasClosedGate, MayReplaceRecovered, ReplacesRecovered};
     ghost use Rattle.journal_store.specs.Told.{LooksAt};
     ghost use Rattle.outside.specs.Count.{Rose};
     ghost use Rattle.outside.specs.Unsynced.{AddsNone, with_handed, with_name};
@@ -34,6 +35,8 @@ impl<D: Disk> Journal<D> {
         ensures cause { OnErr result (IsRefused self.old name.now ⊎ Rose (disk_of self.old).faults (disk_of self.new).faults) }
         ensures counted { (disk_of self.old).faults ≤ (disk_of self.new).faults }
         ensures commits { IsTrue D.tells → Commits [] (disk_of self.old) (disk_of self.new) }
+        ensures still { IsRefused self.old name.now → self.new.disk ≡ self.old.disk }
+        ensures beside { kind_of name.now ≡ NameKind.New → self.new.disk ≡ self.old.disk }
     {
         match kind_of(name) {
             NameKind::Barred => Err(StoreFault),
@@ -55,6 +58,9 @@ impl<D: Disk> Journal<D> {
         ensures cause { OnErr result (IsRefused self.old name.now ⊎ Rose (disk_of self.old).faults (disk_of self.new).faults) }
         ensures counted { (disk_of self.old).faults ≤ (disk_of self.new).faults }
         ensures commits { IsTrue D.tells → Commits [] (disk_of self.old) (disk_of self.new) }
+        ensures still { IsRefused self.old name.now → self.new.disk ≡ self.old.disk }
+        ensures alone { IsTrue D.tells → kind_of name.now ≡ NameKind.New
+            → Passes (KeepsOthers name.now) (disk_of self.old) (disk_of self.new) }
     {
         let plain = self.enter(name)?;
         if plain {
@@ -82,6 +88,9 @@ impl<D: Disk> Journal<D> {
         ensures cause { OnErr result (IsRefused self.old name.now ⊎ Rose (disk_of self.old).faults (disk_of self.new).faults) }
         ensures counted { (disk_of self.old).faults ≤ (disk_of self.new).faults }
         ensures commits { IsTrue D.tells → Commits [] (disk_of self.old) (disk_of self.new) }
+        ensures still { IsRefused self.old name.now → self.new.disk ≡ self.old.disk }
+        ensures alone { IsTrue D.tells → kind_of name.now ≡ NameKind.New
+            → Passes (KeepsOthers name.now) (disk_of self.old) (disk_of self.new) }
     {
         let plain = self.enter(name)?;
         if plain {
@@ -116,6 +125,9 @@ impl<D: Disk> Journal<D> {
             ⊎ Rose (disk_of self.old).faults (disk_of self.new).faults) }
         ensures counted { (disk_of self.old).faults ≤ (disk_of self.new).faults }
         ensures commits { IsTrue D.tells → Commits [] (disk_of self.old) (disk_of self.new) }
+        ensures still { IsRefused self.old name.now → self.new.disk ≡ self.old.disk }
+        ensures alone { IsTrue D.tells → kind_of name.now ≡ NameKind.New
+            → Passes (KeepsOthers name.now) (disk_of self.old) (disk_of self.new) }
     {
         let plain = self.enter(name)?;
         if plain {
@@ -128,7 +140,8 @@ impl<D: Disk> Journal<D> {
         Ok(())
     }
 
-    /// Makes an empty file of this name, in place of the one that was there.
+    /// Makes an empty file of this name, in place of the one that was there. A plain one is recovered first, so its undo
+    /// file changes nothing of the new one; it is not journaled, and until it is synced a stop may leave any bytes in it.
     pub(crate) fn create(&mut self, name: &str) -> Result<(), StoreFault>
         ensures ok { OnOk result (IsTrue D.tells
             → (told_of self.new).files ≡ with_file (told_of self.old).files name.now (Some [])) }
@@ -142,6 +155,13 @@ impl<D: Disk> Journal<D> {
             ⊎ Rose (disk_of self.old).faults (disk_of self.new).faults) }
         ensures counted { (disk_of self.old).faults ≤ (disk_of self.new).faults }
         ensures commits { IsTrue D.tells → is_new name.now ≡ true → Commits [] (disk_of self.old) (disk_of self.new) }
+        ensures still { IsRefused self.old name.now → self.new.disk ≡ self.old.disk }
+        ensures alone { IsTrue D.tells → kind_of name.now ≡ NameKind.New
+            → Passes (KeepsOthers name.now) (disk_of self.old) (disk_of self.new) }
+        ensures others { IsTrue D.tells → kind_of name.now ≡ NameKind.Plain
+            → Passes (KeepsOtherThree name.now (undo_name name.now) (und_name name.now)) (disk_of self.old) (disk_of self.new) }
+        ensures closed { OnOk result (IsTrue D.tells → kind_of name.now ≡ NameKind.Plain
+            → HasClosedGate name.now (disk_of self.new)) }
     {
         let plain = self.enter(name)?;
         if plain {
@@ -172,6 +192,9 @@ impl<D: Disk> Journal<D> {
         ensures counted { (disk_of self.old).faults ≤ (disk_of self.new).faults }
         ensures commits { IsTrue D.tells → Commits ((told_of self.new).files ∷ []) (disk_of self.old) (disk_of self.new) }
         ensures beside { IsTrue D.tells → is_new name.now ≡ true → Commits [] (disk_of self.old) (disk_of self.new) }
+        ensures still { IsRefused self.old name.now → self.new.disk ≡ self.old.disk }
+        ensures alone { IsTrue D.tells → kind_of name.now ≡ NameKind.New
+            → Passes (KeepsOthers name.now) (disk_of self.old) (disk_of self.new) }
     {
         let plain = self.enter(name)?;
         if !plain {
@@ -188,7 +211,7 @@ impl<D: Disk> Journal<D> {
         Ok(())
     }
 
-    /// Gives a file whose name is new a plain name.
+    /// Gives a file whose name is new a plain name, whose file is recovered first. A call that is refused touches nothing.
     pub(crate) fn rename(&mut self, from: &str, to: &str) -> Result<(), StoreFault>
         requires { from.now ≢ to.now }
         ensures ok { OnOk result (IsTrue D.tells
@@ -205,8 +228,16 @@ impl<D: Disk> Journal<D> {
         ensures counted { (disk_of self.old).faults ≤ (disk_of self.new).faults }
         ensures commits { IsTrue D.tells → (told_of self.old).unsynced from.now ≡ false
             → Commits (with_new_name (told_of self.old).files from.now to.now ∷ []) (disk_of self.old) (disk_of self.new) }
+        ensures still { IsRenameRefused self.old from.now to.now → self.new.disk ≡ self.old.disk }
+        ensures stops { IsTrue D.tells → Passes (MayReplaceRecovered from.now to.now) (disk_of self.old) (disk_of self.new) }
+        ensures done { OnOk result (IsTrue D.tells
+            → Follows (ReplacesRecovered from.now to.now) (disk_of self.old) (disk_of self.new)) }
+        ensures closed { OnOk result (IsTrue D.tells → HasClosedGate to.now (disk_of self.new)) }
     {
         if kind_of(from) != NameKind::New || kind_of(to) != NameKind::Plain {
+            return Err(StoreFault);
+        }
+        if !self.ranges.is_empty() {
             return Err(StoreFault);
         }
         self.hold(to)?;
@@ -258,6 +289,7 @@ impl<D: Disk> Journal<D> {
         ensures cause { OnErr result (IsRefused self.old name.now ⊎ Rose (disk_of self.old).faults (disk_of self.new).faults) }
         ensures counted { (disk_of self.old).faults ≤ (disk_of self.new).faults }
         ensures commits { IsTrue D.tells → Commits [] (disk_of self.old) (disk_of self.new) }
+        ensures still { IsRefused self.old name.now → self.new.disk ≡ self.old.disk }
     {
         if kind_of(name) != NameKind::Plain {
             return Err(StoreFault);

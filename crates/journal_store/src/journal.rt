@@ -35,13 +35,15 @@ pub(crate) struct Journal<D: Disk> {
 impl<D: Disk> Journal<D> {
     ghost use Rattle.std.specs.Prelude.{◌≢◌, ◌⊎◌, ◌^◌, ◌∷◌, ℕ, List, [], None, Some, option_map, take, false, true, IfOk, IsErr, OnErr, OnOk, is_ok};
     ghost use Rattle.std.specs.Str.{bytes_eq};
-    ghost use Rattle.disk.specs.DiskSeen.{ChangesNothing, OnlyLeaves, Passes};
+    ghost use Rattle.disk.specs.DiskSeen.{ChangesNothing, Follows, OnlyLeaves, Passes};
+    ghost use Rattle.disk.specs.Steps.{IsRenamed, MayBeRenamed};
     ghost use Rattle.edit_journal.specs.Recovery.{IsSame, RecoversSame};
     ghost use Rattle.edit_journal.specs.Settled.{KeepsOtherThree};
     ghost use Rattle.edit_journal.specs.Undo.{recovered};
     ghost use Rattle.edit_journal.specs.UndoName.{und_name};
     ghost use Rattle.journal_store.specs.Commits.{Commits};
     ghost use Rattle.journal_store.specs.JournalStore.{HasNoRoom, HoldsSame, IsSecond, KeepsAny, RecoversAsBeforeOr, disk_of, told_of};
+    ghost use Rattle.journal_store.specs.Replaced.{HasClosedGate};
     ghost use Rattle.journal_store.specs.Told.{LooksAt};
     ghost use Rattle.outside.specs.Count.{Rose};
     ghost use Rattle.outside.specs.Unsynced.{AddsNone, with_handed, with_name};
@@ -89,6 +91,7 @@ impl<D: Disk> Journal<D> {
         ensures cause { OnErr result (IsSecond self.old name.now ⊎ Rose (disk_of self.old).faults (disk_of self.new).faults) }
         ensures counted { (disk_of self.old).faults ≤ (disk_of self.new).faults }
         ensures commits { IsTrue D.tells → Commits [] (disk_of self.old) (disk_of self.new) }
+        ensures still { IsSecond self.old name.now → self.new.disk ≡ self.old.disk }
     {
         let named = self.is_named(name);
         if self.ready && named {
@@ -216,6 +219,8 @@ impl<D: Disk> Journal<D> {
         ensures refused { KeepsAny self.old → IsErr result }
         ensures cause { OnErr result (KeepsAny self.old ⊎ Rose (disk_of self.old).faults (disk_of self.new).faults) }
         ensures counted { (disk_of self.old).faults ≤ (disk_of self.new).faults }
+        ensures others { Passes (KeepsOthers name.now) (disk_of self.old) (disk_of self.new) }
+        ensures closed { OnOk result (IsTrue D.tells → HasClosedGate name.now (disk_of self.new)) }
     {
         if !self.ranges.is_empty() {
             return Err(StoreFault);
@@ -286,6 +291,7 @@ impl<D: Disk> Journal<D> {
         requires new { kind_of from.now ≡ NameKind.New }
         requires held { self.old.name.bytes ≡ to.now }
         requires ready { IsTrue self.old.ready }
+        requires none { self.old.ranges.items ≡ [] }
         ensures ok { OnOk result (IsTrue D.tells
             → (told_of self.new).files ≡ with_new_name (told_of self.old).files from.now to.now) }
         ensures unsynced { OnOk result (IsTrue D.tells → IsSome ((told_of self.old).files from.now)
@@ -294,15 +300,14 @@ impl<D: Disk> Journal<D> {
             → AddsNone (told_of self.old).unsynced (told_of self.new).unsynced) }
         ensures fault { OnErr result (IsTrue D.tells → (told_of self.new).files ≡ (told_of self.old).files) }
         ensures names { IsTrue D.tells → KeepsOtherTwo from.now to.now (told_of self.old).unsynced (told_of self.new).unsynced }
-        ensures refused { KeepsAny self.old → IsErr result }
-        ensures cause { OnErr result (KeepsAny self.old ⊎ Rose (disk_of self.old).faults (disk_of self.new).faults) }
+        ensures cause { OnErr result (Rose (disk_of self.old).faults (disk_of self.new).faults) }
         ensures counted { (disk_of self.old).faults ≤ (disk_of self.new).faults }
         ensures commits { IsTrue D.tells → (told_of self.old).unsynced from.now ≡ false
             → Commits (with_new_name (told_of self.old).files from.now to.now ∷ []) (disk_of self.old) (disk_of self.new) }
+        ensures stops { Passes (MayBeRenamed from.now to.now) (disk_of self.old) (disk_of self.new) }
+        ensures done { OnOk result (IsTrue D.tells → Follows (IsRenamed from.now to.now) (disk_of self.old) (disk_of self.new)) }
+        ensures closed { OnOk result (IsTrue D.tells → HasClosedGate to.now (disk_of self.new)) }
     {
-        if !self.ranges.is_empty() {
-            return Err(StoreFault);
-        }
         self.ready = false;
         let Ok(()) = self.disk.rename(from, to) else {
             return Err(StoreFault);

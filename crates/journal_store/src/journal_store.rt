@@ -1,18 +1,19 @@
 //! A store over a disk.
 
 ghost use Rattle.std.specs.Prelude.{List, ℕ, ◌≡◌, ◌≢◌, ◌⊎◌, ◌↔◌, ◌^◌, ◌≤◌, ◌∷◌, [], None, Some, length, option_map, take, false, true, if◌then◌else◌, IfOk, IsErr, IsSome, IsTrue, OnErr, OnOk, is_ok};
-ghost use Rattle.disk.specs.DiskSeen.{OnlyLeaves, Passes};
+ghost use Rattle.disk.specs.DiskSeen.{Follows, OnlyLeaves, Passes};
 ghost use Rattle.edit_journal.specs.Recovery.{RecoversSame};
 ghost use Rattle.edit_journal.specs.Settled.{IsRecovered, KeepsOtherThree};
 ghost use Rattle.edit_journal.specs.Undo.{recovered};
 ghost use Rattle.edit_journal.specs.UndoName.{und_name, undo_name};
 ghost use Rattle.journal_store.specs.Kinds.{is_new, kind_of};
+ghost use Rattle.journal_store.specs.Replaced.{HasClosedGate, MayReplaceRecovered, ReplacesRecovered};
 ghost use Rattle.journal_store.specs.Told.{told_files, told_names};
 ghost use Rattle.outside.specs.Count.{Rose, counted};
 ghost use Rattle.outside.specs.Frame.{ChangesOne, ChangesTwo, OnlyReads};
 ghost use Rattle.outside.specs.Replacement.{replacement_name};
 ghost use Rattle.outside.specs.Unsynced.{AddsNone, with_handed, with_name};
-ghost use Rattle.outside.specs.World.{bytes_from, with_bytes, with_file, with_new_name};
+ghost use Rattle.outside.specs.World.{KeepsOthers, bytes_from, with_bytes, with_file, with_new_name};
 
 use crate::NameKind;
 use crate::journal::Journal;
@@ -145,6 +146,7 @@ impl<D: Disk> JournalStore<D> {
         ensures own { (store_seen self.new).faults
             ≡ (if is_ok result then (store_seen self.old).faults else counted (store_seen self.old).faults) }
         ensures commits { IsTrue D.tells → Commits [] (disk_seen self.old) (disk_seen self.new) }
+        ensures still { IsRefused (inside self.old) name.now → disk_in self.new ≡ disk_in self.old }
     {
         let done = self.journal.recover(name);
         outcome(&mut self.faults, done)
@@ -179,6 +181,9 @@ impl<D: Disk> Store for JournalStore<D> {
         ensures own { (store_seen self.new).faults
             ≡ (if is_ok result then (store_seen self.old).faults else counted (store_seen self.old).faults) }
         ensures commits { IsTrue D.tells → Commits [] (disk_seen self.old) (disk_seen self.new) }
+        ensures still { IsRefused (inside self.old) name.now → disk_in self.new ≡ disk_in self.old }
+        ensures alone { IsTrue D.tells → kind_of name.now ≡ NameKind.New
+            → Passes (KeepsOthers name.now) (disk_seen self.old) (disk_seen self.new) }
     {
         let done = self.journal.size(name);
         outcome(&mut self.faults, done)
@@ -202,6 +207,9 @@ impl<D: Disk> Store for JournalStore<D> {
         ensures own { (store_seen self.new).faults
             ≡ (if is_ok result then (store_seen self.old).faults else counted (store_seen self.old).faults) }
         ensures commits { IsTrue D.tells → Commits [] (disk_seen self.old) (disk_seen self.new) }
+        ensures still { IsRefused (inside self.old) name.now → disk_in self.new ≡ disk_in self.old }
+        ensures alone { IsTrue D.tells → kind_of name.now ≡ NameKind.New
+            → Passes (KeepsOthers name.now) (disk_seen self.old) (disk_seen self.new) }
     {
         self.reads = self.reads.saturating_add(1);
         let done = self.journal.read(name, at, buf);
@@ -232,12 +240,17 @@ impl<D: Disk> Store for JournalStore<D> {
         ensures own { (store_seen self.new).faults
             ≡ (if is_ok result then (store_seen self.old).faults else counted (store_seen self.old).faults) }
         ensures commits { IsTrue D.tells → Commits [] (disk_seen self.old) (disk_seen self.new) }
+        ensures still { IsRefused (inside self.old) name.now → disk_in self.new ≡ disk_in self.old }
+        ensures alone { IsTrue D.tells → kind_of name.now ≡ NameKind.New
+            → Passes (KeepsOthers name.now) (disk_seen self.old) (disk_seen self.new) }
     {
         self.writes = self.writes.saturating_add(1);
         let done = self.journal.write(name, at, bytes);
         outcome(&mut self.faults, done)
     }
 
+    /// Makes an empty file, as `Store` says. One of a plain name is recovered first, an absent one too, so that no recovery
+    /// changes the new one. It is not journaled: until it is synced a stop may leave any bytes in it.
     fn create(&mut self, name: &str) -> Result<(), StoreFault>
         ensures ok { OnOk result (IsTrue D.tells
             → (store_seen self.new).files ≡ with_file (store_seen self.old).files name.now (Some [])) }
@@ -255,6 +268,14 @@ impl<D: Disk> Store for JournalStore<D> {
             ≡ (if is_ok result then (store_seen self.old).faults else counted (store_seen self.old).faults) }
         ensures commits { (base : List ℕ) → name.now ≡ replacement_name base → IsTrue D.tells
             → Commits [] (disk_seen self.old) (disk_seen self.new) }
+        ensures still { IsRefused (inside self.old) name.now → disk_in self.new ≡ disk_in self.old }
+        ensures alone { IsTrue D.tells → kind_of name.now ≡ NameKind.New
+            → Passes (KeepsOthers name.now) (disk_seen self.old) (disk_seen self.new) }
+        ensures others { IsTrue D.tells → kind_of name.now ≡ NameKind.Plain
+            → Passes (KeepsOtherThree name.now (undo_name name.now) (und_name name.now)) (disk_seen self.old)
+            (disk_seen self.new) }
+        ensures closed { OnOk result (IsTrue D.tells → kind_of name.now ≡ NameKind.Plain
+            → HasClosedGate name.now (disk_seen self.new)) }
     {
         let done = self.journal.create(name);
         outcome(&mut self.faults, done)
@@ -283,11 +304,16 @@ impl<D: Disk> Store for JournalStore<D> {
             → Commits ((store_seen self.new).files ∷ []) (disk_seen self.old) (disk_seen self.new) }
         ensures beside { (base : List ℕ) → name.now ≡ replacement_name base → IsTrue D.tells
             → Commits [] (disk_seen self.old) (disk_seen self.new) }
+        ensures still { IsRefused (inside self.old) name.now → disk_in self.new ≡ disk_in self.old }
+        ensures alone { IsTrue D.tells → kind_of name.now ≡ NameKind.New
+            → Passes (KeepsOthers name.now) (disk_seen self.old) (disk_seen self.new) }
     {
         let done = self.journal.sync(name);
         outcome(&mut self.faults, done)
     }
 
+    /// Gives a file another name, as `Store` says, once the file that has that name is recovered, an absent one too. A call
+    /// that is refused so touches nothing.
     fn rename(&mut self, from: &str, to: &str) -> Result<(), StoreFault>
         requires { from.now ≢ to.now }
         ensures ok { OnOk result (IsTrue D.tells
@@ -307,6 +333,11 @@ impl<D: Disk> Store for JournalStore<D> {
             ≡ (if is_ok result then (store_seen self.old).faults else counted (store_seen self.old).faults) }
         ensures commits { (store_seen self.old).unsynced from.now ≡ false → IsTrue D.tells
             → Commits (with_new_name (store_seen self.old).files from.now to.now ∷ []) (disk_seen self.old) (disk_seen self.new) }
+        ensures still { IsRenameRefused (inside self.old) from.now to.now → disk_in self.new ≡ disk_in self.old }
+        ensures stops { IsTrue D.tells → Passes (MayReplaceRecovered from.now to.now) (disk_seen self.old) (disk_seen self.new) }
+        ensures done { OnOk result (IsTrue D.tells
+            → Follows (ReplacesRecovered from.now to.now) (disk_seen self.old) (disk_seen self.new)) }
+        ensures closed { OnOk result (IsTrue D.tells → HasClosedGate to.now (disk_seen self.new)) }
     {
         let done = self.journal.rename(from, to);
         outcome(&mut self.faults, done)

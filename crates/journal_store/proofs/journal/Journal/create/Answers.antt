@@ -1,12 +1,15 @@
 use Rattle.std.proofs.Common.{inl, inr, ⊎_elim, List, ℕ, [], Option, Some, IsSome, true, sym, ap, ◌∙◌, subst}
-use Rattle.outside.specs.World.{World, with_file}
+use Rattle.outside.specs.World.{KeepsOthers, World, with_file}
 use Rattle.disk.specs.Steps.{CutShort}
 use Rattle.edit_journal.specs.Spans.{spans_of}
 use Rattle.journal_store.proofs.BesideLemmas.{held-beside, names-beside, put-beside, recovered-beside, same_told}
-use Rattle.journal_store.proofs.CallLemmas.{with_name-keeps}
+use Rattle.journal_store.proofs.CallLemmas.{others-entered, others-then, with_name-keeps}
 use Rattle.journal_store.proofs.KindLemmas.{is_new_name, is_plain}
 use Rattle.std.proofs.lemmas.Bool.{false≢true}
 use Rattle.journal_store.proofs.CommitsLemmas.{commits_before, commits_new}
+use Rattle.disk.proofs.StopLemmas.{passes-wider}
+use Rattle.edit_journal.specs.Settled.{KeepsOtherThree}
+use Rattle.edit_journal.specs.UndoName.{und_name, undo_name}
 use Rattle.journal_store.proofs.journal.Journal.create.Goals as goal
 
 pub returns-then-plain-clause-unsynced : goal.returns-then-plain-clause-unsynced
@@ -66,3 +69,19 @@ returns-in_default-clause-commits g c told is =
 pub returns-clause-commits : goal.returns-clause-commits
 returns-clause-commits g c told is =
     commits_before [] _ _ _ (c.in_ok-plain.ensures.commits told) (commits_new (CutShort 0) c.args.name.now (is_new_name c.args.name.now (c.in_ok-plain.ensures.new c.if-plain.false)) _ _ c.create.ensures.leaves)
+
+pub returns-in_err-plain-clause-others : goal.returns-in_err-plain-clause-others
+returns-in_err-plain-clause-others g c told plain =
+    others-entered c.args.name.now (undo_name c.args.name.now) (und_name c.args.name.now) _ _ (c.enter.ensures.stops told plain)
+
+pub returns-in_err-held_create-clause-others : goal.returns-in_err-held_create-clause-others
+returns-in_err-held_create-clause-others g c told plain =
+    let name : List ℕ = c.args.name.now in
+    others-then name (undo_name name) (und_name name) _ _ _ (c.in_ok-plain.ensures.stops told plain)
+    (passes-wider (KeepsOthers name) (KeepsOtherThree name (undo_name name) (und_name name)) _ _ (λ old new keeps other one_differs two_differs three_differs. keeps other one_differs) c.held_create.ensures.others)
+
+pub returns-then-plain-clause-others : goal.returns-then-plain-clause-others
+returns-then-plain-clause-others g c told plain =
+    let name : List ℕ = c.args.name.now in
+    others-then name (undo_name name) (und_name name) _ _ _ (c.in_ok-plain.ensures.stops told plain)
+    (passes-wider (KeepsOthers name) (KeepsOtherThree name (undo_name name) (und_name name)) _ _ (λ old new keeps other one_differs two_differs three_differs. keeps other one_differs) c.held_create.ensures.others)

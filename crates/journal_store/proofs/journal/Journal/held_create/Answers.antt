@@ -1,7 +1,10 @@
-use Rattle.std.proofs.Common.{[], Some, true, sym, ◌∙◌}
+use Rattle.std.proofs.Common.{[], Some, true, sym, ◌∙◌, List, ℕ, subst}
 use Rattle.std.proofs.lemmas.Bool.{eqb-true}
 use Rattle.edit_journal.specs.Spans.{spans_of}
 use Rattle.journal_store.proofs.HeldLemmas.{fault-at, put-at, put-names-at, spans-none, stands}
+use Rattle.disk.specs.Steps.{CutShort}
+use Rattle.journal_store.specs.Replaced.{HasClosedGate}
+use Rattle.journal_store.proofs.ReplacedLemmas.{closed-made}
 use Rattle.journal_store.proofs.journal.Journal.held_create.Goals as goal
 
 pub returns-in_default-clause-fault : goal.returns-in_default-clause-fault
@@ -27,3 +30,11 @@ returns-clause-unsynced g c told =
     (stands _ _ _ c.requires.held self.plain (g.met.D.Disk.read_is_image self.disk) (self.settled told c.requires.ready)).plain
     (spans-none self.ranges.items (eqb-true _ _ (sym c.is_empty.ensures ∙ c.if-not-is_empty.false)))
     (c.in-Ok.ensures.unsynced told)
+
+pub returns-clause-closed : goal.returns-clause-closed
+returns-clause-closed g c told =
+    let self = c.args.self.now in
+    let disk = g.D.Disk.seen self.disk in
+    closed-made (CutShort 0) c.args.name.now disk (g.D.Disk.seen c.create.new.self)
+    (subst (λ (name : List ℕ). HasClosedGate name disk) c.requires.held (self.settled told c.requires.ready).closed)
+    c.create.ensures.leaves.follows

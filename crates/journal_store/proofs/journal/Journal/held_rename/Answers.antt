@@ -1,7 +1,6 @@
 use Rattle.std.proofs.Common.{List, ℕ, Option, IsSome, sym, ◌∙◌, subst, [], ap, unwrap_or, ◌≢◌}
-use Rattle.std.proofs.lemmas.Bool.{eqb-true}
 use Rattle.edit_journal.specs.Spans.{spans_of}
-use Rattle.journal_store.proofs.HeldLemmas.{handed-at, renamed-at, spans-none, stands}
+use Rattle.journal_store.proofs.HeldLemmas.{handed-at, renamed-at, stands}
 use Rattle.journal_store.proofs.KindLemmas.{is_new_name, is_plain, new-apart}
 use Rattle.journal_store.proofs.ToldLemmas.{told-new}
 use Rattle.quota_types.specs.Bytes.{byte_at}
@@ -11,6 +10,8 @@ use Rattle.journal_store.specs.Kinds.{kind_of}
 use Rattle.journal_store.specs.Told.{told_files}
 use Rattle.journal_store.proofs.CommitsLemmas.{commits_renamed}
 use Rattle.journal_store.proofs.NamesLemmas.{are_kept-other, names-told}
+use Rattle.journal_store.specs.Replaced.{HasClosedGate}
+use Rattle.journal_store.proofs.ReplacedLemmas.{closed-renamed}
 use Rattle.journal_store.proofs.journal.Journal.held_rename.Goals as goal
 
 pub returns-clause-ok : goal.returns-clause-ok
@@ -19,7 +20,7 @@ returns-clause-ok g c told =
     renamed-at (g.D.Disk.seen self.disk) (g.D.Disk.seen c.rename.new.self) self.name.bytes c.args.from.now c.args.to.now (spans_of self.ranges.items)
     (stands _ _ _ c.requires.held self.plain (g.met.D.Disk.read_is_image self.disk) (self.settled told c.requires.ready))
     (is_new_name c.args.from.now c.requires.new)
-    (spans-none self.ranges.items (eqb-true _ _ (sym c.is_empty.ensures ∙ c.if-not-is_empty.false)))
+    (ap spans_of c.requires.none)
     (c.in-Ok.ensures.ok told)
 
 pub returns-clause-unsynced : goal.returns-clause-unsynced
@@ -29,7 +30,7 @@ returns-clause-unsynced g c told there =
     let held : List ℕ = self.name.bytes in
     handed-at (g.D.Disk.seen self.disk) (g.D.Disk.seen c.rename.new.self) self.name.bytes c.args.from.now c.args.to.now (spans_of self.ranges.items)
     (stands _ _ _ c.requires.held self.plain (g.met.D.Disk.read_is_image self.disk) (self.settled told c.requires.ready)) new
-    (spans-none self.ranges.items (eqb-true _ _ (sym c.is_empty.ensures ∙ c.if-not-is_empty.false)))
+    (ap spans_of c.requires.none)
     (c.in-Ok.ensures.unsynced told (subst (λ (f : Option (List ℕ)). IsSome f) (told-new (g.D.Disk.seen self.disk).files held (spans_of self.ranges.items) c.args.from.now new.undo new.new) there))
 
 pub returns-in_default-clause-commits : goal.returns-in_default-clause-commits
@@ -57,3 +58,11 @@ returns-clause-commits g c told synced =
     (sym (names-told disk.unsynced self.name.bytes spans c.args.from.now new.undo (are_kept-other self.name.bytes spans c.args.from.now (new-apart self.name.bytes c.args.from.now (is_plain self.name.bytes self.plain).new new.new))) ∙ synced))
     (subst (λ (name : List ℕ). EachImage (λ image. byte_at (unwrap_or (image (undo_name name)) []) 0 ≢ 1) disk) c.requires.held (self.settled told c.requires.ready).closed)
     c.rename.ensures.leaves
+
+pub returns-clause-closed : goal.returns-clause-closed
+returns-clause-closed g c told =
+    let self = c.args.self.now in
+    let disk = g.D.Disk.seen self.disk in
+    closed-renamed c.args.from.now c.args.to.now (is_new_name c.args.from.now c.requires.new) (is_plain c.args.to.now (ap kind_of (sym c.requires.held) ∙ self.plain)) disk (g.D.Disk.seen c.rename.new.self)
+    (subst (λ (name : List ℕ). HasClosedGate name disk) c.requires.held (self.settled told c.requires.ready).closed)
+    (c.in-Ok.ensures.done told)
