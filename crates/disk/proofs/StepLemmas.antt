@@ -2,7 +2,7 @@
 use Rattle.std.proofs.Common.{◌≤◌, ℕ, List, refl, ◌∙◌, arith, Option}
 use Rattle.outside.specs.World.{KeepsOthers, World}
 use Rattle.outside.proofs.FrameLemmas.{keeps_others-then}
-use Rattle.disk.specs.Steps.{ChangesFile, CutShort, Torn}
+use Rattle.disk.specs.Steps.{ChangesFile, CutShort, Shortened, Torn}
 
 -- a file that stays is torn nowhere
 pub torn-same : (stays : ℕ → Type 0) (file : Option (List ℕ)) → Torn stays file file
@@ -33,6 +33,10 @@ cut_short-then len old between new first second = record {
   no_shorter = omega (arith, first.no_shorter, second.no_shorter);
   same = λ place low below. second.same place low (omega (arith, first.no_shorter, low, below)) ∙ first.same place low below;
 }
+
+-- a file that stays is shortened by nothing
+pub shortened-same : (len : ℕ) (file : Option (List ℕ)) → Shortened len file file
+shortened-same len file = record { cut = cut_short-same len file; absent = λ none. none }
 
 -- a shorter cut, as a cut to less
 pub cut_short-less : (len less : ℕ) (old new : Option (List ℕ)) → less ≤ len → CutShort len old new → CutShort less old new

@@ -2,8 +2,8 @@
 use Rattle.std.proofs.Common.{◌≡◌, inl, ℕ, List, refl, sym, ap, ◌∙◌, subst}
 use Rattle.outside.specs.World.{World}
 use Rattle.disk.specs.DiskSeen.{ChangesNothing, DiskSeen, IsKept, TakesStep}
-use Rattle.disk.specs.Steps.{CutShort, CutsShort, IsOutside, MayBeRenamed, TearsRange, Torn}
-use Rattle.disk.proofs.StepLemmas.{changes_file-same, cut_short-same, torn-same}
+use Rattle.disk.specs.Steps.{CutShort, CutsShort, IsOutside, MayBeRenamed, Shortened, Shortens, TearsRange, Torn}
+use Rattle.disk.proofs.StepLemmas.{changes_file-same, cut_short-same, shortened-same, torn-same}
 
 -- a call that changes nothing takes each step that leads from files to themselves
 pub nothing_steps : (step : World → World → Type 0) (old new : DiskSeen) → ((files : World) → step files files) → ChangesNothing old new → TakesStep step old new
@@ -47,12 +47,27 @@ tears_none name at len files = changes_file-same (Torn (IsOutside at len)) name 
 pub cuts_none : (name : List ℕ) (len : ℕ) (files : World) → CutsShort name len files files
 cuts_none name len files = changes_file-same (CutShort len) name files (cut_short-same len (files name))
 
+-- no cut shortens nothing
+pub shortens_none : (name : List ℕ) (len : ℕ) (files : World) → Shortens name len files files
+shortens_none name len files = changes_file-same (Shortened len) name files (shortened-same len (files name))
+
+-- what is shortened is cut short
+pub shortens_cuts : (name : List ℕ) (len : ℕ) (before after : World) → Shortens name len before after → CutsShort name len before after
+shortens_cuts name len before after change = (change.0.cut, change.1)
+
+-- a cut that shortens its file takes the step of one that may make it too
+pub shortens_wider : (name : List ℕ) (len : ℕ) (old new : DiskSeen) → TakesStep (Shortens name len) old new → TakesStep (CutsShort name len) old new
+shortens_wider name len old new takes = step_wider (Shortens name len) (CutsShort name len) old new (shortens_cuts name len) takes
+
 -- a call that failed before anything was done
 pub tears_nothing : (name : List ℕ) (at len : ℕ) (old new : DiskSeen) → ChangesNothing old new → TakesStep (TearsRange name at len) old new
 tears_nothing name at len old new nothing = nothing_steps (TearsRange name at len) old new (tears_none name at len) nothing
 
 pub cuts_nothing : (name : List ℕ) (len : ℕ) (old new : DiskSeen) → ChangesNothing old new → TakesStep (CutsShort name len) old new
 cuts_nothing name len old new nothing = nothing_steps (CutsShort name len) old new (cuts_none name len) nothing
+
+pub shortens_nothing : (name : List ℕ) (len : ℕ) (old new : DiskSeen) → ChangesNothing old new → TakesStep (Shortens name len) old new
+shortens_nothing name len old new nothing = nothing_steps (Shortens name len) old new (shortens_none name len) nothing
 
 pub renames_nothing : (from to : List ℕ) (old new : DiskSeen) → ChangesNothing old new → TakesStep (MayBeRenamed from to) old new
 renames_nothing from to old new nothing = nothing_steps (MayBeRenamed from to) old new (λ files. inl refl) nothing

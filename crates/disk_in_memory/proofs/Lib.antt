@@ -1,2 +1,3 @@
 pub mod HalfLemmas
+pub mod NamesLemmas
 pub mod ToldLemmas

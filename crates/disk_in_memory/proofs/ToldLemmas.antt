@@ -14,6 +14,10 @@ pub on_err_any : {A E : Type 0} {P : Type 0} (result : Result A E) → P → OnE
 on_err_any (Ok value) p = tt
 on_err_any (Err fault) p = p
 
+pub on_ok_any : {A E : Type 0} {P : Type 0} (result : Result A E) → P → OnOk result P
+on_ok_any (Ok value) p = p
+on_ok_any (Err fault) p = tt
+
 -- what holds at a fault holds at the fault of another call that failed with it
 pub on_err_same : {A B E F P Q : Type 0} (result : Result A E) (other : Result B F) → is_ok other ≡ is_ok result → (P → Q) → OnErr result P → OnErr other Q
 on_err_same (Ok value) (Ok other) same on err = tt

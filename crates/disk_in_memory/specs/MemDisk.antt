@@ -1,12 +1,13 @@
 -- What is seen of a disk in memory, and which of its calls fail.
-use Rattle.std.specs.Prelude.{◌≤◌, ◌⊎◌, ℕ, List, Option, Some, None, Contains}
+use Rattle.std.specs.Prelude.{◌≡◌, ◌≤◌, ◌⊎◌, ℕ, false, List, Option, Some, None, Contains}
 use Rattle.outside.specs.Count.{counted}
-use Rattle.std.proofs.Common.{sym, subst}
+use Rattle.std.proofs.Common.{sym, ap, subst, ◌∙◌}
 use Rattle.outside.specs.World.{World}
 use Rattle.disk_in_memory.specs.Calls.{LeftAfter, half_left}
-use Rattle.disk.specs.DiskSeen.{DiskSeen}
+use Rattle.disk.specs.DiskSeen.{DiskSeen, IsKept}
 use Rattle.disk_in_memory.specs.Images.{read-left}
-use Rattle.disk_in_memory.specs.Told.{calls_of, first_of, told_of}
+use Rattle.disk_in_memory.specs.Kept.{named-left}
+use Rattle.disk_in_memory.specs.Told.{calls_of, first_of, names_of, told_of}
 use Rattle.disk_in_memory.specs.declared.mem_disk.MemDisk.{MemDisk}
 
 -- what is seen of a disk in memory
@@ -42,3 +43,9 @@ pub read_is_left : (disk : MemDisk) → (mem_disk_seen disk).images (mem_disk_se
 read_is_left disk =
     subst (λ (files : World). LeftAfter (first_of disk.recorded) (calls_of disk.recorded) files) (sym disk.recorded.replayed)
     (read-left (first_of disk.recorded) (calls_of disk.recorded))
+
+-- a stop leaves the file of each name that is not unsynced as it is read
+pub synced_is_left : (disk : MemDisk) (name : List ℕ) → (mem_disk_seen disk).unsynced name ≡ false → IsKept name (mem_disk_seen disk)
+synced_is_left disk name synced image left =
+    named-left (first_of disk.recorded) (calls_of disk.recorded) (names_of disk.recorded) image name disk.recorded.named left synced
+    ∙ sym (ap (λ (files : World). files name) disk.recorded.replayed)

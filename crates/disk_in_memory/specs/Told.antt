@@ -7,6 +7,7 @@ use Rattle.memory_objects.specs.NameSet.{names_in}
 use Rattle.disk_in_memory.specs.Calls.{LeftAfter, LeftSince}
 use Rattle.disk.specs.DiskSeen.{DiskSeen}
 use Rattle.disk_in_memory.specs.Recorded.{first_named}
+use Rattle.disk_in_memory.specs.Unsynced.{unsynced_after}
 use Rattle.disk_in_memory.specs.declared.call.Call.{Call}
 use Rattle.disk_in_memory.specs.declared.recorded.RecordedFiles.{RecordedFiles}
 
@@ -25,6 +26,10 @@ present_of recorded = file_named recorded.files.entries.items
 -- the unsynced names of a record
 abbrev pub names_of : RecordedFiles → Names
 names_of recorded = names_in recorded.unsynced.names.items
+
+-- the names that the calls of a record leave unsynced
+abbrev pub left_unsynced : RecordedFiles → Names
+left_unsynced recorded = unsynced_after (first_of recorded) (calls_of recorded)
 
 -- what is told of a disk of these first files, calls on them, present files, unsynced names and faults
 abbrev pub told : World → List Call → World → Names → ℕ → DiskSeen

@@ -1,6 +1,7 @@
-ghost use Rattle.std.specs.Prelude.{◌≡◌, ◌≢◌, ◌+◌, ◌<◌, ◌^◌, ◌↔◌, [], Some, length, IfOk, OnOk, OnErr};
+ghost use Rattle.std.specs.Prelude.{◌≡◌, ◌≢◌, ◌+◌, ◌<◌, ◌^◌, ◌↔◌, [], Some, length, true, false, is_some, IfOk, OnOk, OnErr};
 ghost use Rattle.std.specs.String.{string_bytes};
-ghost use Rattle.disk.specs.Steps.{CutsShort, IsRenamed, TearsRange, with_cut};
+ghost use Rattle.disk.specs.Steps.{CutsShort, IsRenamed, Shortens, TearsRange, with_cut};
+ghost use Rattle.outside.specs.Unsynced.{Names, with_name};
 ghost use Rattle.outside.specs.World.{World, with_bytes, with_file, with_new_name};
 ghost use Rattle.memory_objects.specs.MemStore.{file_named};
 
@@ -36,6 +37,7 @@ pub(crate) enum Call {
 
 impl Call {
     ghost use Rattle.disk_in_memory.specs.Calls.{MayMake, after_call, half_call};
+    ghost use Rattle.disk_in_memory.specs.Unsynced.{handed_where, unsynced_by};
 
     /// A write of bytes into a file at a place.
     pub(crate) fn write(
@@ -48,6 +50,7 @@ impl Call {
         ensures done { IfOk result (λ call. (files : World) → after_call call files ≡ with_bytes files name.now at bytes.now) }
         ensures left { IfOk result (λ call. (read old new : World) → MayMake call read old new
             ↔ TearsRange name.now at (length bytes.now) old new) }
+        ensures names { IfOk result (λ call. (read : World) (names : Names) → unsynced_by call read names ≡ with_name names name.now true) }
     {
         Ok(Call::Write(Writing {
             name: String::from_str(alloc, name)?,
@@ -60,6 +63,7 @@ impl Call {
     pub(crate) fn create(alloc: Global, name: &str) -> Result<Call, AllocError>
         ensures done { IfOk result (λ call. (files : World) → after_call call files ≡ with_file files name.now (Some [])) }
         ensures left { IfOk result (λ call. (read old new : World) → MayMake call read old new ↔ CutsShort name.now 0 old new) }
+        ensures names { IfOk result (λ call. (read : World) (names : Names) → unsynced_by call read names ≡ with_name names name.now true) }
     {
         Ok(Call::Create(String::from_str(alloc, name)?))
     }
@@ -67,7 +71,8 @@ impl Call {
     /// A file that is cut to a length.
     pub(crate) fn cut(alloc: Global, name: &str, len: usize) -> Result<Call, AllocError>
         ensures done { IfOk result (λ call. (files : World) → after_call call files ≡ with_cut files name.now len) }
-        ensures left { IfOk result (λ call. (read old new : World) → MayMake call read old new ↔ CutsShort name.now len old new) }
+        ensures left { IfOk result (λ call. (read old new : World) → MayMake call read old new ↔ Shortens name.now len old new) }
+        ensures names { IfOk result (λ call. (read : World) (names : Names) → unsynced_by call read names ≡ with_name names name.now true) }
     {
         Ok(Call::Cut(String::from_str(alloc, name)?, len))
     }
@@ -77,6 +82,7 @@ impl Call {
         ensures done { IfOk result (λ call. (files : World) → after_call call files ≡ files) }
         ensures left { IfOk result (λ call. (read old new : World) → MayMake call read old new
             ↔ ((new ≡ old) × (new name.now ≡ read name.now))) }
+        ensures names { IfOk result (λ call. (read : World) (names : Names) → unsynced_by call read names ≡ with_name names name.now false) }
     {
         Ok(Call::Sync(String::from_str(alloc, name)?))
     }
@@ -86,6 +92,8 @@ impl Call {
         requires { from.now ≢ to.now }
         ensures done { IfOk result (λ call. (files : World) → after_call call files ≡ with_new_name files from.now to.now) }
         ensures left { IfOk result (λ call. (read old new : World) → MayMake call read old new ↔ IsRenamed from.now to.now old new) }
+        ensures names { IfOk result (λ call. (read : World) (names : Names) → unsynced_by call read names
+            ≡ handed_where (is_some (read from.now)) names from.now to.now) }
     {
         Ok(Call::Rename(Renaming {
             from: String::from_str(alloc, from)?,

@@ -126,7 +126,7 @@ fn is_reached(stop: Option<u64>, number: u64) -> bool
 impl Disk for MemDisk {
     ghost use Rattle.std.specs.Prelude.{true};
     ghost use Rattle.disk_in_memory.specs.Images.{present-left};
-    ghost use Rattle.disk_in_memory.specs.MemDisk.{read_is_left};
+    ghost use Rattle.disk_in_memory.specs.MemDisk.{read_is_left, synced_is_left};
     ghost use Rattle.disk_in_memory.specs.Told.{calls_of, first_of};
 
     ghost tells = { true };
@@ -134,6 +134,8 @@ impl Disk for MemDisk {
     ghost seen = { mem_disk_seen };
 
     ghost read_is_image = { read_is_left };
+
+    ghost synced_is_kept = { λ disk name told. synced_is_left disk name };
 
     ghost present_is_now = { λ disk image. present-left (first_of disk.recorded) (calls_of disk.recorded) image };
 

@@ -1,13 +1,14 @@
-ghost use Rattle.std.specs.Prelude.{◌≡◌, ◌≢◌, ◌+◌, ◌<◌, ◌≤◌, ◌^◌, ◌∷◌, ℕ, List, [], None, Some, length, reverse, true, false, IfOk, IsSome, OnOk, OnErr};
+ghost use Rattle.std.specs.Prelude.{◌≡◌, ◌≢◌, ◌+◌, ◌<◌, ◌≤◌, ◌^◌, ◌∷◌, ℕ, List, [], None, Some, length, reverse, true, false, is_some, IfOk, IsSome, OnOk, OnErr};
 ghost use Rattle.std.specs.Option.{option_copied};
 ghost use Rattle.disk_in_memory.specs.Calls.{MayMake, after_call, half_left, read_after};
 ghost use Rattle.disk.specs.DiskSeen.{AllowsStep, ChangesNothing, Follows, IsKept, TakesStep};
 ghost use Rattle.disk_in_memory.specs.Recorded.{first_named};
+ghost use Rattle.disk_in_memory.specs.Unsynced.{handed_where, unsynced_after, unsynced_by};
 ghost use Rattle.disk.specs.Steps.{CutsShort, IsRenamed, MayBeRenamed, Shortens, TearsRange, with_cut};
 ghost use Rattle.memory_objects.specs.MemStore.{file_named};
 ghost use Rattle.memory_objects.specs.NameSet.{names_in};
 ghost use Rattle.outside.specs.Unsynced.{AddsNone, Names, with_handed, with_name};
-ghost use Rattle.outside.specs.World.{KeepsOtherTwo, KeepsOthers, with_bytes, with_file, with_new_name};
+ghost use Rattle.outside.specs.World.{World, KeepsOtherTwo, KeepsOthers, with_bytes, with_file, with_new_name};
 
 use crate::call::Call;
 use memory_objects::{NameSet, NamedFiles};
@@ -20,12 +21,14 @@ pub(crate) struct RecordedFiles {
     first: Option<NamedFiles>,
     files: NamedFiles,
     calls: Vec<Call>,
+    /// The names that are unsynced, and, while a call is made that may fail, further ones.
     unsynced: NameSet,
     ghost replayed: { file_named files.entries.items ≡ read_after (first_named first files.entries.items) (reverse calls.items) },
+    ghost named: { AddsNone (names_in unsynced.names.items) (unsynced_after (first_named first files.entries.items) (reverse calls.items)) },
 }
 
 impl RecordedFiles {
-    ghost use Rattle.disk_in_memory.specs.Told.{calls_of, first_of, names_of, present_of, told_of, told_with};
+    ghost use Rattle.disk_in_memory.specs.Told.{calls_of, first_of, left_unsynced, names_of, present_of, told_of, told_with};
 
     /// These files, and no call yet.
     pub(crate) fn new(files: NamedFiles, alloc: Global) -> Self
@@ -142,13 +145,105 @@ impl RecordedFiles {
             → TakesStep (MayBeRenamed from.now to.now) (told_of self.old failed) (told_of self.new later) }
     {
         let call = Call::rename(self.allocator(), from, to)?;
-        hand_over(&self.files, &mut self.unsynced, from, to)?;
+        self.hand_over(call, from, to)?;
+        Ok(())
+    }
+
+    /// Makes a call that gives a file another name, which is unsynced then where the old one was. Until the call is made the
+    /// old name stays among the unsynced ones, and the new one stands there too where it may be one of them.
+    fn hand_over(&mut self, call: Call, from: &str, to: &str) -> Result<(), AllocError>
+        requires differ { from.now ≢ to.now }
+        requires hands { (read : World) (names : Names) → unsynced_by call read names
+            ≡ handed_where (is_some (read from.now)) names from.now to.now }
+        ensures ok { OnOk result ((failed later : ℕ) → failed ≤ later
+            → TakesStep (MayMake call (present_of self.old)) (told_of self.old failed) (told_of self.new later)) }
+        ensures files { OnOk result (present_of self.new ≡ after_call call (present_of self.old)) }
+        ensures any { OnOk result ((failed later : ℕ)
+            → AllowsStep (MayMake call (present_of self.old)) (told_of self.old failed) (told_of self.new later)) }
+        ensures err { OnErr result ((failed later : ℕ) → failed ≤ later
+            → ChangesNothing (told_of self.old failed) (told_of self.new later)) }
+        ensures unsynced { OnOk result (IsSome (present_of self.old from.now)
+            → names_of self.new ≡ with_handed (names_of self.old) from.now to.now) }
+        ensures absent { OnOk result (present_of self.old from.now ≡ None
+            → AddsNone (names_of self.old) (names_of self.new)) }
+        ensures others { KeepsOtherTwo from.now to.now (names_of self.old) (names_of self.new) }
+    {
+        if self.files.find(from).is_none() {
+            return self.hand_none(call, from, to);
+        }
+        if self.unsynced.contains(from) {
+            return self.hand_unsynced(call, from, to);
+        }
+        self.hand_synced(call, from, to)
+    }
+
+    /// Makes a call that gives another name to a file that is not there.
+    fn hand_none(&mut self, call: Call, from: &str, to: &str) -> Result<(), AllocError>
+        requires absent { present_of self.old from.now ≡ None }
+        requires hands { (read : World) (names : Names) → unsynced_by call read names
+            ≡ handed_where (is_some (read from.now)) names from.now to.now }
+        ensures ok { OnOk result ((failed later : ℕ) → failed ≤ later
+            → TakesStep (MayMake call (present_of self.old)) (told_of self.old failed) (told_of self.new later)) }
+        ensures files { OnOk result (present_of self.new ≡ after_call call (present_of self.old)) }
+        ensures any { OnOk result ((failed later : ℕ)
+            → AllowsStep (MayMake call (present_of self.old)) (told_of self.old failed) (told_of self.new later)) }
+        ensures err { OnErr result ((failed later : ℕ) → failed ≤ later
+            → ChangesNothing (told_of self.old failed) (told_of self.new later)) }
+        ensures unsynced { names_of self.new ≡ names_of self.old }
+    {
         self.make(call)?;
+        Ok(())
+    }
+
+    /// Makes a call that gives another name to a file whose name is unsynced.
+    fn hand_unsynced(&mut self, call: Call, from: &str, to: &str) -> Result<(), AllocError>
+        requires differ { from.now ≢ to.now }
+        requires there { IsSome (present_of self.old from.now) }
+        requires is { names_of self.old from.now ≡ true }
+        requires hands { (read : World) (names : Names) → unsynced_by call read names
+            ≡ handed_where (is_some (read from.now)) names from.now to.now }
+        ensures ok { OnOk result ((failed later : ℕ) → failed ≤ later
+            → TakesStep (MayMake call (present_of self.old)) (told_of self.old failed) (told_of self.new later)) }
+        ensures files { OnOk result (present_of self.new ≡ after_call call (present_of self.old)) }
+        ensures any { OnOk result ((failed later : ℕ)
+            → AllowsStep (MayMake call (present_of self.old)) (told_of self.old failed) (told_of self.new later)) }
+        ensures err { OnErr result ((failed later : ℕ) → failed ≤ later
+            → ChangesNothing (told_of self.old failed) (told_of self.new later)) }
+        ensures unsynced { OnOk result (names_of self.new ≡ with_handed (names_of self.old) from.now to.now) }
+        ensures others { KeepsOtherTwo from.now to.now (names_of self.old) (names_of self.new) }
+    {
+        self.unsynced.add(to)?;
+        self.make(call)?;
+        self.unsynced.remove(from);
+        Ok(())
+    }
+
+    /// Makes a call that gives another name to a file whose name is synced.
+    fn hand_synced(&mut self, call: Call, from: &str, to: &str) -> Result<(), AllocError>
+        requires differ { from.now ≢ to.now }
+        requires there { IsSome (present_of self.old from.now) }
+        requires is { names_of self.old from.now ≡ false }
+        requires hands { (read : World) (names : Names) → unsynced_by call read names
+            ≡ handed_where (is_some (read from.now)) names from.now to.now }
+        ensures ok { OnOk result ((failed later : ℕ) → failed ≤ later
+            → TakesStep (MayMake call (present_of self.old)) (told_of self.old failed) (told_of self.new later)) }
+        ensures files { OnOk result (present_of self.new ≡ after_call call (present_of self.old)) }
+        ensures any { OnOk result ((failed later : ℕ)
+            → AllowsStep (MayMake call (present_of self.old)) (told_of self.old failed) (told_of self.new later)) }
+        ensures err { OnErr result ((failed later : ℕ) → failed ≤ later
+            → ChangesNothing (told_of self.old failed) (told_of self.new later)) }
+        ensures unsynced { OnOk result (names_of self.new ≡ with_handed (names_of self.old) from.now to.now) }
+        ensures others { KeepsOtherTwo from.now to.now (names_of self.old) (names_of self.new) }
+    {
+        self.make(call)?;
+        self.unsynced.remove(to);
+        self.unsynced.remove(from);
         Ok(())
     }
 
     /// Makes a call that changes one file, whose name is unsynced then.
     fn change(&mut self, name: &str, call: Call) -> Result<(), AllocError>
+        requires { (read : World) (names : Names) → unsynced_by call read names ≡ with_name names name.now true }
         ensures ok { OnOk result ((failed later : ℕ) → failed ≤ later
             → TakesStep (MayMake call (present_of self.old)) (told_of self.old failed) (told_of self.new later)) }
         ensures files { OnOk result (present_of self.new ≡ after_call call (present_of self.old)) }
@@ -164,8 +259,11 @@ impl RecordedFiles {
         Ok(())
     }
 
-    /// Makes a call, and keeps it in the record.
+    /// Makes a call, and keeps it in the record. The names that it leaves unsynced stand among the unsynced ones already.
     fn make(&mut self, call: Call) -> Result<(), AllocError>
+        requires { AddsNone (names_of self.old) (unsynced_by call (present_of self.old) (left_unsynced self.old)) }
+        ensures left { OnOk result (left_unsynced self.new ≡ unsynced_by call (present_of self.old) (left_unsynced self.old)) }
+        ensures stays { OnErr result (left_unsynced self.new ≡ left_unsynced self.old) }
         ensures ok { OnOk result ((names now : Names) (failed later : ℕ) → failed ≤ later
             → TakesStep (MayMake call (present_of self.old)) (told_with self.old names failed) (told_with self.new now later)) }
         ensures files { OnOk result (present_of self.new ≡ after_call call (present_of self.old)) }
@@ -180,6 +278,7 @@ impl RecordedFiles {
 
     /// Makes a call, and adds it to the record.
     fn add(&mut self, call: Call) -> Result<(), AllocError>
+        requires { AddsNone (names_of self.old) (unsynced_by call (present_of self.old) (left_unsynced self.old)) }
         ensures first { first_of self.new ≡ first_of self.old }
         ensures ok { OnOk result (calls_of self.new ≡ call ∷ calls_of self.old) }
         ensures err { OnErr result (calls_of self.new ≡ calls_of self.old) }
@@ -216,26 +315,6 @@ impl RecordedFiles {
         make_halves(&mut read, &mut left, &calls)?;
         Ok(left)
     }
-}
-
-/// Takes a name out of the unsynced ones and puts another one there as it stood, where there is a file of that name.
-fn hand_over(
-    files: &NamedFiles,
-    unsynced: &mut NameSet,
-    from: &str,
-    to: &str,
-) -> Result<(), AllocError>
-    requires { from.now ≢ to.now }
-    ensures there { OnOk result (IsSome (file_named files.now.entries.items from.now)
-        → names_in unsynced.new.names.items ≡ with_handed (names_in unsynced.old.names.items) from.now to.now) }
-    ensures absent { OnOk result (file_named files.now.entries.items from.now ≡ None
-        → AddsNone (names_in unsynced.old.names.items) (names_in unsynced.new.names.items)) }
-    ensures others { KeepsOtherTwo from.now to.now (names_in unsynced.old.names.items) (names_in unsynced.new.names.items) }
-{
-    if files.find(from).is_some() {
-        unsynced.hand_over(from, to)?;
-    }
-    Ok(())
 }
 
 /// Makes calls, one after another, on one copy of the files as they are, and on the other one by half.

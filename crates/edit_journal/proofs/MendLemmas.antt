@@ -6,7 +6,7 @@ use Rattle.std.proofs.lemmas.List.{ext_get_or, get_or-take}
 use Rattle.outside.proofs.FrameLemmas.{keeps_others-then}
 use Rattle.outside.specs.World.{World}
 use Rattle.disk.specs.DiskSeen.{DiskSeen, Passes}
-use Rattle.disk.specs.Steps.{ChangesFile, CutShort, IsOutside, TearsRange}
+use Rattle.disk.specs.Steps.{ChangesFile, IsOutside, Shortened, TearsRange}
 use Rattle.disk.proofs.StopLemmas.{passes-then, passes-wider}
 use Rattle.quota_types.specs.Bytes.{byte_at, number_at}
 use Rattle.edit_journal.specs.Recovery.{Mends, MendsFile, is_mended}
@@ -104,10 +104,10 @@ mends_file-then name undo a b c first second =
     (λ x y z one two. (mends-then _ _ (x name) (y name) (z name) one.0 two.0, keeps_others-then name x y z one.1 two.1)) first second
 
 -- a cut to the old length mends
-pub mends_file-cut : (name undo : List ℕ) (a b : DiskSeen) → Passes (ChangesFile (CutShort (number_at 8 undo 8)) name) a b → Passes (MendsFile name undo) a b
+pub mends_file-cut : (name undo : List ℕ) (a b : DiskSeen) → Passes (ChangesFile (Shortened (number_at 8 undo 8)) name) a b → Passes (MendsFile name undo) a b
 mends_file-cut name undo a b passes =
-    passes-wider (ChangesFile (CutShort (number_at 8 undo 8)) name) (MendsFile name undo) a b
-    (λ x y step. (record { there = step.0.there; no_shorter = step.0.no_shorter; same = λ place low below outside. step.0.same place low below }, step.1)) passes
+    passes-wider (ChangesFile (Shortened (number_at 8 undo 8)) name) (MendsFile name undo) a b
+    (λ x y step. (record { there = step.0.cut.there; no_shorter = step.0.cut.no_shorter; same = λ place low below outside. step.0.cut.same place low below }, step.1)) passes
 
 outside-span : (undo : List ℕ) (k count i place : ℕ) → i < count → IsOutsideAll (saved_spans undo k count) place → IsOutside (saved_span undo (k + i)).at (length (saved_span undo (k + i)).bytes) place
 outside-span undo k zero i place below outside = absurd (omega (arith, below))

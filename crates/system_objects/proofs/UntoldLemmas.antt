@@ -1,8 +1,8 @@
 -- A disk that tells nothing takes each step by changing nothing.
 use Rattle.std.proofs.Common.{◌≤◌, ℕ, List, inl, refl, arith}
 use Rattle.disk.specs.DiskSeen.{ChangesNothing, TakesStep}
-use Rattle.disk.specs.Steps.{CutsShort, MayBeRenamed, TearsRange}
-use Rattle.disk.proofs.TakesStepLemmas.{cuts_nothing, renames_nothing, tears_nothing}
+use Rattle.disk.specs.Steps.{CutsShort, MayBeRenamed, Shortens, TearsRange}
+use Rattle.disk.proofs.TakesStepLemmas.{cuts_nothing, renames_nothing, shortens_nothing, tears_nothing}
 use Rattle.system_objects.specs.Untold.{untold}
 
 untold_stays : (failed later : ℕ) → failed ≤ later → ChangesNothing (untold failed) (untold later)
@@ -18,6 +18,9 @@ untold_tears name at len failed later less = tears_nothing name at len (untold f
 
 pub untold_cuts : (name : List ℕ) (len failed later : ℕ) → failed ≤ later → TakesStep (CutsShort name len) (untold failed) (untold later)
 untold_cuts name len failed later less = cuts_nothing name len (untold failed) (untold later) (untold_stays failed later less)
+
+pub untold_shortens : (name : List ℕ) (len failed later : ℕ) → failed ≤ later → TakesStep (Shortens name len) (untold failed) (untold later)
+untold_shortens name len failed later less = shortens_nothing name len (untold failed) (untold later) (untold_stays failed later less)
 
 pub untold_renames : (from to : List ℕ) (failed later : ℕ) → failed ≤ later → TakesStep (MayBeRenamed from to) (untold failed) (untold later)
 untold_renames from to failed later less = renames_nothing from to (untold failed) (untold later) (untold_stays failed later less)

@@ -152,6 +152,7 @@ impl<'a, R: Files<File = File>> FileDisk<'a, R> {
 
 impl<'a, R: Files<File = File>> Disk for FileDisk<'a, R> {
     ghost use Rattle.std.specs.Prelude.{false};
+    ghost use Rattle.std.proofs.lemmas.Bool.{false≢true};
     ghost use Rattle.system_objects.specs.Untold.{untold};
 
     ghost tells = { false };
@@ -161,6 +162,8 @@ impl<'a, R: Files<File = File>> Disk for FileDisk<'a, R> {
     ghost read_is_image = { λ _. tt };
 
     ghost present_is_now = { λ _ _. (λ _. tt, λ _. tt) };
+
+    ghost synced_is_kept = { λ _ _ told _. absurd (false≢true told) };
 
     fn size(&mut self, name: &str) -> Result<Option<u64>, DiskFault> {
         let found = self.open.length(name);

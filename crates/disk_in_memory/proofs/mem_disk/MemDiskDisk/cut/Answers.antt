@@ -1,13 +1,13 @@
 use Rattle.std.proofs.Common.{refl, arith}
 use Rattle.disk_in_memory.proofs.ToldLemmas.{on_err_same, on_ok_same, told_nothing}
-use Rattle.disk.proofs.TakesStepLemmas.{cuts_nothing}
+use Rattle.disk.proofs.TakesStepLemmas.{shortens_nothing}
 use Rattle.disk_in_memory.proofs.mem_disk.MemDiskDisk.cut.Goals as goal
 
 pub returns-then-next_fails-clause-fault : goal.returns-then-next_fails-clause-fault
 returns-then-next_fails-clause-fault c = told_nothing _ _ _ _ _ _ _ _ _ _ refl refl refl c.next_fails.ensures.later
 
 pub returns-then-next_fails-clause-leaves : goal.returns-then-next_fails-clause-leaves
-returns-then-next_fails-clause-leaves c = cuts_nothing c.args.name.now c.args.len _ _ (told_nothing _ _ _ _ _ _ _ _ _ _ refl refl refl c.next_fails.ensures.later)
+returns-then-next_fails-clause-leaves c = shortens_nothing c.args.name.now c.args.len _ _ (told_nothing _ _ _ _ _ _ _ _ _ _ refl refl refl c.next_fails.ensures.later)
 
 pub returns-clause-fault : goal.returns-clause-fault
 returns-clause-fault c =

@@ -2,17 +2,17 @@ use Rattle.std.proofs.Common.{refl, ◌≤◌, ℕ, ◌∙◌}
 use Rattle.disk.specs.DiskSeen.{ChangesNothing}
 use Rattle.disk_in_memory.specs.Told.{told_of}
 use Rattle.disk_in_memory.proofs.ToldLemmas.{on_err_any, told_nothing}
-use Rattle.disk.proofs.TakesStepLemmas.{step_wider, cuts_nothing}
+use Rattle.disk.proofs.TakesStepLemmas.{step_wider, shortens_nothing}
 use Rattle.disk_in_memory.proofs.recorded.RecordedFiles.cut.Goals as goal
 
 pub returns-in_err-call-clause-leaves : goal.returns-in_err-call-clause-leaves
-returns-in_err-call-clause-leaves c = λ failed later less. cuts_nothing c.args.name.now c.args.len _ _ (told_nothing _ _ _ _ _ _ _ _ failed later refl refl refl less)
+returns-in_err-call-clause-leaves c = λ failed later less. shortens_nothing c.args.name.now c.args.len _ _ (told_nothing _ _ _ _ _ _ _ _ failed later refl refl refl less)
 
 pub returns-in_err-change-clause-fault : goal.returns-in_err-change-clause-fault
 returns-in_err-change-clause-fault c = on_err_any _ c.in_err-change.ensures.err
 
 pub returns-in_err-change-clause-leaves : goal.returns-in_err-change-clause-leaves
-returns-in_err-change-clause-leaves c = λ failed later less. cuts_nothing c.args.name.now c.args.len _ _ (c.in_err-change.ensures.err failed later less)
+returns-in_err-change-clause-leaves c = λ failed later less. shortens_nothing c.args.name.now c.args.len _ _ (c.in_err-change.ensures.err failed later less)
 
 pub returns-clause-ok : goal.returns-clause-ok
 returns-clause-ok c = c.in_ok-change.ensures.files ∙ c.in_ok-call.ensures.done _

@@ -1,51 +1,34 @@
 use Rattle.std.proofs.Common.{◌≤◌, ℕ, refl, inr, ◌∙◌}
-use Rattle.memory_objects.specs.NameSet.{names_in}
-use Rattle.outside.specs.Unsynced.{Names}
 use Rattle.disk.specs.DiskSeen.{ChangesNothing, TakesStep}
 use Rattle.disk.specs.Steps.{IsRenamed}
-use Rattle.disk_in_memory.specs.Told.{names_of, told_of, told_with}
+use Rattle.disk_in_memory.specs.Told.{told_of}
 use Rattle.disk_in_memory.proofs.ToldLemmas.{on_err_any, told_nothing}
 use Rattle.disk.proofs.TakesStepLemmas.{renames_nothing, step_wider}
 use Rattle.disk_in_memory.proofs.recorded.RecordedFiles.rename.Goals as goal
-use Rattle.disk_in_memory.proofs.recorded.RecordedFiles.rename.Goals.{In_ok-make}
+use Rattle.disk_in_memory.proofs.recorded.RecordedFiles.rename.Goals.{In_ok-hand_over}
 
 -- the file has its new name in each image
-renamed : (c : In_ok-make) (names now : Names) (failed later : ℕ) → failed ≤ later → TakesStep (IsRenamed c.args.from.now c.args.to.now) (told_with c.args.self.now names failed) (told_with c.make.new.self now later)
-renamed c names now failed later less =
-    step_wider _ _ _ _ (λ before after makes. (c.in_ok-call.ensures.left _ before after).0 makes) (c.in_ok-make.ensures.ok names now failed later less)
+renamed : (c : In_ok-hand_over) (failed later : ℕ) → failed ≤ later → TakesStep (IsRenamed c.args.from.now c.args.to.now) (told_of c.args.self.now failed) (told_of c.hand_over.new.self later)
+renamed c failed later less =
+    step_wider _ _ _ _ (λ before after makes. (c.in_ok-call.ensures.left _ before after).0 makes) (c.in_ok-hand_over.ensures.ok failed later less)
 
 pub returns-in_err-call-clause-leaves : goal.returns-in_err-call-clause-leaves
 returns-in_err-call-clause-leaves c = λ failed later less. renames_nothing c.args.from.now c.args.to.now _ _ (told_nothing _ _ _ _ _ _ _ _ failed later refl refl refl less)
 
-pub returns-in_err-hand_over-clause-leaves : goal.returns-in_err-hand_over-clause-leaves
-returns-in_err-hand_over-clause-leaves c = λ failed later less. renames_nothing c.args.from.now c.args.to.now _ _ (told_nothing _ _ _ _ _ _ _ _ failed later refl refl refl less)
-
 pub returns-in_err-hand_over-clause-fault : goal.returns-in_err-hand_over-clause-fault
-returns-in_err-hand_over-clause-fault c =
-    let same : (failed later : ℕ) → failed ≤ later → ChangesNothing (told_of c.args.self.now failed) (told_with c.args.self.now (names_in c.hand_over.new.unsynced.names.items) later) =
-    λ failed later less. told_nothing _ _ _ _ _ _ _ _ failed later refl refl refl less in
-    on_err_any _ same
+returns-in_err-hand_over-clause-fault c = on_err_any _ c.in_err-hand_over.ensures.err
 
-pub returns-in_err-make-clause-fault : goal.returns-in_err-make-clause-fault
-returns-in_err-make-clause-fault c =
-    let same : (failed later : ℕ) → failed ≤ later → ChangesNothing (told_of c.args.self.now failed) (told_of c.make.new.self later) =
-    λ failed later less. c.in_err-make.ensures.err _ _ failed later less in
-    on_err_any _ same
-
-pub returns-in_err-make-clause-leaves : goal.returns-in_err-make-clause-leaves
-returns-in_err-make-clause-leaves c = λ failed later less. renames_nothing c.args.from.now c.args.to.now _ _ (c.in_err-make.ensures.err _ _ failed later less)
+pub returns-in_err-hand_over-clause-leaves : goal.returns-in_err-hand_over-clause-leaves
+returns-in_err-hand_over-clause-leaves c = λ failed later less. renames_nothing c.args.from.now c.args.to.now _ _ (c.in_err-hand_over.ensures.err failed later less)
 
 pub returns-clause-ok : goal.returns-clause-ok
-returns-clause-ok c = c.in_ok-make.ensures.files ∙ c.in_ok-call.ensures.done _
+returns-clause-ok c = c.in_ok-hand_over.ensures.files ∙ c.in_ok-call.ensures.done _
 
 pub returns-clause-done : goal.returns-clause-done
-returns-clause-done c = λ failed later less. (renamed c (names_of c.args.self.now) (names_of c.make.new.self) failed later less).follows
-
-pub returns-clause-absent : goal.returns-clause-absent
-returns-clause-absent c = λ absent name is. c.in_ok-hand_over.ensures.absent absent name (rw (← c.make.ensures.unsynced) is)
+returns-clause-done c = λ failed later less. (renamed c failed later less).follows
 
 pub returns-clause-leaves : goal.returns-clause-leaves
-returns-clause-leaves c = λ failed later less. step_wider _ _ _ _ (λ before after is. inr is) (renamed c _ _ failed later less)
+returns-clause-leaves c = λ failed later less. step_wider _ _ _ _ (λ before after is. inr is) (renamed c failed later less)
 
 pub returns-in_err-call-clause-fault : goal.returns-in_err-call-clause-fault
 returns-in_err-call-clause-fault c =
@@ -54,4 +37,4 @@ returns-in_err-call-clause-fault c =
     on_err_any _ same
 
 pub returns-clause-any : goal.returns-clause-any
-returns-clause-any c = λ failed later before after left step. c.in_ok-make.ensures.any failed later before after left ((c.in_ok-call.ensures.left _ before after).1 step)
+returns-clause-any c = λ failed later before after left step. c.in_ok-hand_over.ensures.any failed later before after left ((c.in_ok-call.ensures.left _ before after).1 step)

@@ -1,11 +1,12 @@
-use Rattle.std.proofs.Common.{◌≡◌, false, refl, ap, arith, ◌∙◌}
+use Rattle.std.proofs.Common.{◌≡◌, false, refl, ap, arith, ◌∙◌, sym, subst}
 use Rattle.memory_objects.specs.declared.name_set.NameSet.{NameSet}
 use Rattle.memory_objects.specs.NameSet.{names_in}
-use Rattle.outside.specs.Unsynced.{with_name}
+use Rattle.outside.specs.Unsynced.{with_name, AddsNone, Names}
 use Rattle.outside.proofs.UnsyncedLemmas.{with_name-adds_none, with_name-others_is}
-use Rattle.disk_in_memory.specs.Told.{names_of}
+use Rattle.disk_in_memory.specs.Told.{names_of, left_unsynced, present_of}
 use Rattle.disk.proofs.TakesStepLemmas.{step_wider, sync_keeps, sync_nothing}
 use Rattle.disk_in_memory.proofs.ToldLemmas.{told_nothing}
+use Rattle.disk_in_memory.proofs.NamesLemmas.{adds_none-put}
 use Rattle.disk_in_memory.proofs.recorded.RecordedFiles.sync.Goals as goal
 use Rattle.disk_in_memory.proofs.recorded.RecordedFiles.sync.Goals.{After-remove}
 
@@ -39,3 +40,17 @@ returns-clause-leaves c =
 
 pub returns-clause-any : goal.returns-clause-any
 returns-clause-any c = λ failed later before after left step. c.in_ok-make.ensures.any failed later before after left ((c.in_ok-call.ensures.left _ before after).1 step)
+
+pub invariant_of-self : goal.invariant_of-self
+invariant_of-self c =
+    let self = c.args.self.now in
+    let final : names_in c.remove.new.self.names.items ≡ with_name (names_of self) c.args.name.now false =
+    c.remove.ensures ∙ ap (λ (set : NameSet). with_name (names_in set.names.items) c.args.name.now false) c.make.ensures.unsynced in
+    let left : left_unsynced c.make.new.self ≡ with_name (left_unsynced self) c.args.name.now false =
+    c.in_ok-make.ensures.left ∙ c.in_ok-call.ensures.names (present_of self) (left_unsynced self) in
+    record {
+      replayed = c.make.new.self.replayed;
+      named = subst (λ (names : Names). AddsNone names (left_unsynced c.make.new.self)) (sym final)
+          (subst (λ (names : Names). AddsNone (with_name (names_of self) c.args.name.now false) names) (sym left)
+          (adds_none-put (names_of self) (left_unsynced self) c.args.name.now false self.named));
+    }
