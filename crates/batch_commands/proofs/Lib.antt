@@ -3,7 +3,6 @@ pub mod BatchInputLemmas
 pub mod BatchLemmas
 pub mod CountLemmas
 pub mod FullLemmas
-pub mod GrowthLemmas
 pub mod LookLemmas
 pub mod MeaningLemmas
 pub mod MemoryLemmas

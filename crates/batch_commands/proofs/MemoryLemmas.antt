@@ -1,7 +1,6 @@
 -- Edits of lines of a file in memory: what was carried out there is what the lines do, and what is known of it whatever the lines do.
 use Rattle.std.proofs.Common.{◌≡◌, ℕ, Bool, true, false, List, [], Option, None, Some, Ok, Err, Result, inl, inr, sym, ap, subst, ◌∙◌, arith}
-use Rattle.std.specs.Prelude.{◌<◌, ◌≤◌, IfErr, IsErrAnd, length}
-use Rattle.file_blocks.specs.Block.{bytes_of, file_of}
+use Rattle.std.specs.Prelude.{◌<◌, ◌≤◌, IfErr}
 use Rattle.std.proofs.lemmas.Bool.{false≢true}
 use Rattle.std.proofs.lemmas.Option.{same_Some}
 use Rattle.opened_file.specs.declared.quota_file.OpenFault.{OpenFault}
@@ -28,8 +27,7 @@ use Rattle.run_steps.specs.Writes.{WritesFor}
 use Rattle.batch_commands.specs.declared.batch.EditedLines.{EditedLines}
 use Rattle.batch_commands.specs.declared.together.Edited.{Edited}
 use Rattle.batch_commands.specs.Batch.{line_uses}
-use Rattle.batch_commands.specs.Together.{HasBytes, HasMade, IfOwn, IsEditOf, IsMadeInMemory, IsOfEdit, is_of_call, memory_seen, reach, refusal_in}
-use Rattle.batch_commands.specs.declared.batch_line.LineEdit.{LineEdit}
+use Rattle.batch_commands.specs.Together.{HasBytes, HasMade, IfOwn, IsEditOf, IsMadeInMemory, IsOfEdit, is_of_call, memory_seen, refusal_in}
 use Rattle.batch_commands.proofs.CountLemmas.{own_so}
 use Rattle.batch_commands.proofs.TogetherLemmas.{only_file-at, only_name_of}
 
@@ -81,22 +79,6 @@ memory_made steps file bytes name before after edited has is writes leaves own m
     made_seen steps tells (refusal_in edited.lines.ended) edited.lines.made before after (memory_seen file bytes 0) (memory_seen file edited.bytes.items edited.writes) input out err link has.files has.unwritten
     (is ∙ ap (λ (n : List ℕ). only_file n edited.bytes.items) named) writes
     (own_so edited.lines.ended _ own (made input out err link tells))
-
--- and it has as many bytes as edits of lines make of it at most
-pub memory_within : (asked : Option Format) (lines : List LineEdit) (file bytes name : List ℕ) (before after : StoreSeen) (now : List ℕ) (ended : Result (Unit {0}) Refusal) → HasBytes file bytes before → after.files ≡ only_file name now
-    → EditsOne file before after → IfErr ended (λ (refusal : Refusal). status_of refusal.cause < 4) → IfOwn ended (length (file_of after.files file) ≤ reach asked lines (length (file_of before.files file)))
-    → length now ≤ reach asked lines (length bytes)
-memory_within asked lines file bytes name before after now ended has is leaves own grows =
-    let named = name_kept file bytes name before after now has is leaves.files in
-    let then : file_of after.files file ≡ now = ap (λ (w : World). file_of w file) (is ∙ ap (λ (n : List ℕ). only_file n now) named) ∙ ap bytes_of (only_file-at file now) in
-    let first : file_of before.files file ≡ bytes = ap (λ (w : World). file_of w file) has.files ∙ ap bytes_of (only_file-at file bytes) in
-    subst (λ (b : List ℕ). length now ≤ reach asked lines (length b)) first
-    (subst (λ (b : List ℕ). length b ≤ reach asked lines (length (file_of before.files file))) then (own_so ended _ own grows))
-
--- what holds of a fault holds where edits ended with one
-pub failed_so : (ended : Result (Unit {0}) Refusal) (fact : Type 0) → IsErrAnd ended (λ (refusal : Refusal). 4 ≤ status_of refusal.cause) → IfErr ended (λ (refusal : Refusal). 4 ≤ status_of refusal.cause → fact) → fact
-failed_so (Ok passed) fact fault so = absurd fault
-failed_so (Err refusal) fact fault so = so fault
 
 -- while nothing was written the file has its bytes
 same_bytes : (file bytes name : List ℕ) (before after : StoreSeen) (bytes' : List ℕ) → HasBytes file bytes before → after.files ≡ only_file name bytes' → name ≡ file → StaysUnlessWritten before after → after.writes ≡ 0 → bytes' ≡ bytes

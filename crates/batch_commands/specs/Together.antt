@@ -1,5 +1,5 @@
 -- Edits of many lines that are made together: in memory, after which the file is replaced once. Source: this project's own.
-use Rattle.std.specs.Prelude.{◌≡◌, ◌⊎◌, ◌+◌, ◌*◌, ◌<◌, ◌≤◌, ◌^◌, fold, map, max, if◌then◌else◌, ℕ, Bool, IsTrue, true, false, List, Option, Some, None, Result, Ok, Err, IfErr, OnOk, length, ⊤}
+use Rattle.std.specs.Prelude.{◌≡◌, ◌⊎◌, ◌+◌, ◌*◌, ◌<◌, ◌≤◌, ◌^◌, ℕ, Bool, IsTrue, true, false, List, Option, Some, None, Result, Ok, Err, IfErr, OnOk, length, ⊤}
 use Rattle.file_in_memory.specs.OneFile.{only_file}
 use Rattle.outside.specs.Frame.{IsUnfailed}
 use Rattle.outside.specs.Replacement.{replacement_name}
@@ -20,7 +20,7 @@ use Rattle.refusals.specs.Status.{status_of}
 use Rattle.run_steps.specs.Act.{Act, Way}
 use Rattle.run_steps.specs.Done.{AreDone, Outside, RunSeen, RunTells, outside_of, seen_of}
 use Rattle.run_steps.specs.Meaning.{EndsBy}
-use Rattle.quota_map.specs.View.{asks_flat, asks_tree}
+use Rattle.quota_map.specs.View.{asks_tree}
 use Rattle.run_steps.specs.Run.{IsPlacedBy}
 use Rattle.run_steps.specs.Steps.{Steps}
 use Rattle.run_steps.specs.Writes.{edits_in}
@@ -129,15 +129,6 @@ abbrev pub is_of_call : OpenFault → Bool
 is_of_call NotRead = true
 is_of_call NoMemory = true
 is_of_call _ = false
-
--- how far the records of the identifiers of lines reach in a flat file, in bytes, each of which has 40
-abbrev pub flat_reach : List LineEdit → ℕ
-flat_reach lines = fold max 0 (map (λ (line : LineEdit). 40 * (line.id + 1)) lines)
-
--- How many bytes a file of this length comes to have at most by the edits of lines: of a tree file 4,096 for each of them besides, once it
--- has its header and its root; of a flat file those up to the end of the last record that may be put.
-abbrev pub reach : Option Format → List LineEdit → (size : ℕ) → ℕ
-reach asked lines size = if asks_flat asked then max size (flat_reach lines) else max size 2048 + 4096 * length lines
 
 -- what is said where the file is not replaced
 abbrev pub replace_cause : ReplaceFault → Cause

@@ -1,7 +1,6 @@
 ghost use Rattle.std.specs.Prelude.{ℕ, ◌+◌, ◌*◌, ◌≤◌, Option, None, ◌≡◌, ◌≢◌, Bool, Ok, false, IfErr, IsSome, IsTrue, OnOk, length, is_ok};
 ghost use Rattle.quota_types.specs.declared.file_kind.Format.{Format as FormatOf};
 ghost use Rattle.file_blocks.specs.Block.{file_of};
-ghost use Rattle.outside.specs.Count.{Rose};
 ghost use Rattle.outside.specs.Frame.{Syncs};
 ghost use Rattle.quota_value.specs.QuotaValue.{QuotaValue};
 ghost use Rattle.outside.specs.Seen.{LinkSeen, SinkSeen, SourceSeen};
@@ -9,14 +8,13 @@ ghost use Rattle.opened_file.specs.EditsOne.{EditsOne};
 ghost use Rattle.outside.specs.Replacement.{ReplacesOnly};
 ghost use Rattle.quota_map.specs.View.{IsOpenedAs, IsView, fresh_seen, opening_reads};
 ghost use Rattle.refusals.specs.declared.cause.Cause.TheVariants.{Memory};
-ghost use Rattle.refusals.specs.Status.{status_of};
 ghost use Rattle.run_steps.specs.Act.{Together, Way};
 ghost use Rattle.run_steps.specs.Done.{IsUnwritten, RunTells, seen_of, tells_of};
 ghost use Rattle.run_steps.specs.Run.{CarriesOut};
 ghost use Rattle.run_steps.specs.Steps.{Opening};
 ghost use Rattle.run_steps.specs.Writes.{ReadsWithin};
 ghost use Rattle.batch_commands.specs.Batch.{BatchMayRefuse, BatchSteps, LineSteps, LineEditMayRefuse, NamedBatchMayRefuse, ReadSteps, batch_reads, batch_uses, input_edits, line_reads, line_uses, way_of};
-ghost use Rattle.batch_commands.specs.Together.{HasMade, IfOwn, IfWanting, reach, refusal_in};
+ghost use Rattle.batch_commands.specs.Together.{HasMade, IfOwn, IfWanting, refusal_in};
 
 use crate::batch_input::{Batch, take_batch};
 use crate::batch_line::{LineEdit, at_line};
@@ -243,13 +241,6 @@ pub fn edit_all<S: Store>(
     ensures few { result.made ≤ length lines.now }
     ensures all { OnOk result.ended (result.made ≡ length lines.now) }
     ensures memory { IfErr result.ended (λ refusal. refusal.cause ≢ Memory) }
-    // A refusal that is a fault is one of the store.
-    ensures failed { IfErr result.ended (λ refusal. 4 ≤ status_of refusal.cause → Rose (S.seen store.old).faults (S.seen store.new).faults) }
-    // The file is no longer than the edits of these lines may make it, unless it ended since something failed.
-    ensures grows { IsTrue S.tells → (asked : Option FormatOf) → IsOpenedAs asked (⟦<AnyFile as QuotaFile<S>>⟧.seen opened.old).format
-        → (value : QuotaValue) → ⟦<AnyFile as QuotaFile<S>>⟧.holds opened.old store.old value
-        → IfOwn result.ended (length (file_of (S.seen store.new).files file)
-        ≤ reach asked lines.now (length (file_of (S.seen store.old).files file))) }
     ensures leaves { EditsOne file (S.seen store.old) (S.seen store.new) }
     ensures synced { IsTrue S.tells → Syncs (is_ok result.ended) (S.seen store.old) (S.seen store.new) }
     ensures reads { OnOk result.ended ((S.seen store.new).reads ≤ (S.seen store.old).reads + 17 * length lines.now) }

@@ -1,6 +1,5 @@
-ghost use Rattle.std.specs.Prelude.{◌≡◌, ◌⊎◌, ◌+◌, ◌-◌, ◌*◌, ◌<◌, ◌≤◌, ◌^◌, ℕ, Bool, true, Option, None, Some, IfErr, IfOk, IfSome, IsErrAnd, IsSome, IsTrue, List, Ok, OnOk, false, length, min, is_ok};
+ghost use Rattle.std.specs.Prelude.{◌≡◌, ◌⊎◌, ◌+◌, ◌*◌, ◌<◌, ◌≤◌, ◌^◌, ℕ, Bool, true, Option, None, Some, IfErr, IfOk, IfSome, IsErrAnd, IsSome, IsTrue, List, Ok, OnOk, false, length, is_ok};
 ghost use Rattle.std.specs.Option.{option_map};
-ghost use Rattle.outside.specs.Count.{Rose};
 ghost use Rattle.outside.specs.Frame.{Syncs};
 ghost use Rattle.outside.specs.Replacement.{ReplacesOnly, replacement_name};
 ghost use Rattle.file_blocks.specs.Block.{file_of};
@@ -8,14 +7,14 @@ ghost use Rattle.opened_file.specs.Load.{IsLoadFault};
 ghost use Rattle.quota_value.specs.QuotaValue.{QuotaValue};
 ghost use Rattle.opened_file.specs.Replace.{pieces_of};
 ghost use Rattle.outside.specs.Seen.{LinkSeen, SinkSeen, SourceSeen};
-ghost use Rattle.quota_map.specs.View.{IsOpenedAs, IsView, asks_flat, asks_tree, fresh_seen};
+ghost use Rattle.quota_map.specs.View.{IsOpenedAs, IsView, asks_tree, fresh_seen};
 ghost use Rattle.quota_types.specs.declared.file_kind.Format.{Format as FormatOf};
 ghost use Rattle.refusals.specs.Status.{status_of};
 ghost use Rattle.run_steps.specs.Act.{Together};
 ghost use Rattle.run_steps.specs.Done.{IsUnwritten, seen_of, tells_of};
 ghost use Rattle.run_steps.specs.Run.{CarriesOut};
 ghost use Rattle.batch_commands.specs.Batch.{LineEditMayRefuse, LineSteps, line_uses, way_of, whole_reads};
-ghost use Rattle.batch_commands.specs.Together.{AreNeverDone, AreNotTogether, HasBytes, IfEnded, IfNotMade, IfWanting, IsEditOf, IsMadeInMemory, IsOnlyRead, IsWithin, MayPay, ReadsWhole, StandsAlone, flat_reach, is_of_call, reach, refusal_in, replace_cause};
+ghost use Rattle.batch_commands.specs.Together.{AreNeverDone, AreNotTogether, HasBytes, IfEnded, IfNotMade, IfWanting, IsEditOf, IsMadeInMemory, IsOnlyRead, IsWithin, MayPay, ReadsWhole, StandsAlone, is_of_call, refusal_in, replace_cause};
 
 use crate::batch::{EditedLines, edit_all};
 use crate::batch_line::LineEdit;
@@ -126,7 +125,6 @@ pub fn edit_together<S: Store>(
 
 /// The file of this name, where a replacement of it may take no more calls of `write` than the edits of these lines, and none has its
 /// name with `.new` added.
-#[tactic(auto, using(crate::proofs::GrowthLemmas::may_cover, crate::proofs::GrowthLemmas::may_pay, crate::proofs::GrowthLemmas::reach_least))]
 fn read_whole<S: Store>(
     alloc: Global,
     format: Option<Format>,
@@ -137,8 +135,6 @@ fn read_whole<S: Store>(
     ensures whole { IfOk result (λ found. IfSome found (λ whole. IsTrue S.tells
         → StandsAlone (S.seen store.old).files name.now whole.bytes.items)) }
     ensures pays { IfOk result (λ found. IfSome found (λ whole. IsTrue S.tells → MayPay format (length lines.now) whole)) }
-    ensures covers { IfOk result (λ found. IfSome found (λ whole. IsTrue S.tells
-        → reach format lines.now (length whole.bytes.items) ≤ whole.most)) }
     ensures refused { IfErr result (IsLoadFault (S.seen store.old).faults (S.seen store.new).faults S.tells
         ((S.seen store.old).files name.now) (length (file_of (S.seen store.old).files name.now))) }
     ensures leaves { IsOnlyRead (is_ok result) (S.seen store.old) (S.seen store.new) }
@@ -181,7 +177,10 @@ fn size_alone<S: Store>(alloc: Global, name: &str, store: &mut S) -> Result<Opti
 fn most_bytes(format: Option<Format>, lines: &[LineEdit], size: u64) -> Option<u64>
     ensures few { IfSome result (λ most. pieces_of most ≤ 12 * length lines.now) }
     ensures within { IfSome result (λ most. most ≤ 2 ^ 42) }
-    ensures exact { IfSome result (λ most. most ≡ reach format lines.now size) }
+    ensures reaches { IfSome result (λ most. size ≤ most) }
+    ensures grows { IfSome result (λ most. IsTrue (asks_tree format) → most ≤ size + 2048 + 4096 * length lines.now) }
+    ensures enough { IfSome result (λ most. IsTrue (asks_tree format) → size + 4096 * length lines.now ≤ most) }
+    ensures empty { IfSome result (λ most. IsTrue (asks_tree format) → 2048 + 4096 * length lines.now ≤ most) }
 {
     let most = reach(format, lines, size);
     if most <= MOST_BYTES && pieces(most) <= (lines.len() as u64).saturating_mul(MOST_WRITES) {
@@ -191,33 +190,23 @@ fn most_bytes(format: Option<Format>, lines: &[LineEdit], size: u64) -> Option<u
     }
 }
 
-/// How many bytes the file may have once these lines are edited, up to the last value of a number of 64 bits.
-#[tactic(auto, using(crate::proofs::GrowthLemmas::reach_flat, crate::proofs::GrowthLemmas::reach_tree))]
+/// How many bytes the file may have once these lines are edited.
 fn reach(format: Option<Format>, lines: &[LineEdit], size: u64) -> u64
-    ensures { result ≡ min (2 ^ 64 - 1) (reach format lines.now size) }
+    ensures reaches { size ≤ result }
+    ensures grows { IsTrue (asks_tree format) → result ≤ size + 2048 + 4096 * length lines.now }
+    ensures enough { IsTrue (asks_tree format) → result ≤ 2 ^ 42 → size + 4096 * length lines.now ≤ result }
+    ensures empty { IsTrue (asks_tree format) → result ≤ 2 ^ 42 → 2048 + 4096 * length lines.now ≤ result }
 {
-    if asks_flat(format) {
-        return flat_reach(lines).max(size);
+    match format {
+        Some(Format::V1) => lines
+            .iter()
+            .map(|line| FLAT_RECORD * (u64::from(line.id) + 1))
+            .fold(0, u64::max)
+            .max(size),
+        _ => size
+            .max(EMPTY_TREE)
+            .saturating_add((lines.len() as u64).saturating_mul(MOST_GROWTH)),
     }
-    size.max(EMPTY_TREE)
-        .saturating_add((lines.len() as u64).saturating_mul(MOST_GROWTH))
-}
-
-/// Whether a flat file is asked for.
-fn asks_flat(format: Option<Format>) -> bool
-    ensures { result ≡ asks_flat format }
-{
-    matches!(format, Some(Format::V1))
-}
-
-/// How far the records of the identifiers of lines reach in a flat file.
-fn flat_reach(lines: &[LineEdit]) -> u64
-    ensures { result ≡ flat_reach lines.now }
-{
-    lines
-        .iter()
-        .map(|line| FLAT_RECORD * (u64::from(line.id) + 1))
-        .fold(0, u64::max)
 }
 
 /// How many calls of `write` this many bytes take.
@@ -251,11 +240,11 @@ fn edit_bytes<S: Store>(
     ensures others { ReplacesOnly file (S.seen store.old).files (S.seen store.new).files }
     ensures synced { IfEnded result (λ ended. IsTrue S.tells → Syncs (is_ok ended) (S.seen store.old) (S.seen store.new)) }
     // Where it does not pay, one of the lines is refused in every file, or they may fill this one.
-    ensures never { MayPay format (length lines.now) whole → reach format lines.now (length whole.bytes.items) ≤ whole.most → (value : QuotaValue) → IsView (Some whole.bytes.items) kind format (Ok value)
+    ensures never { MayPay format (length lines.now) whole → (value : QuotaValue) → IsView (Some whole.bytes.items) kind format (Ok value)
         → IfNotMade result (λ _. AreNotTogether format file now lines.now value (length whole.bytes.items)) }
     ensures reads { (S.seen store.new).reads ≡ (S.seen store.old).reads }
 {
-    match edit_in_memory(alloc, kind, format, lines, file.as_str(), whole.bytes, now) {
+    match edit_in_memory(alloc, kind, format, lines, file.as_str(), whole, now) {
         Ok(Some(edited)) => put_back(alloc, file, edited, store),
         Ok(None) => Attempt::NotMade(file),
         Err(_) => Attempt::Ended(Err(Refusal::of(Cause::Memory, file))),
@@ -273,24 +262,21 @@ fn edit_in_memory(
     format: Option<Format>,
     lines: &[LineEdit],
     name: &str,
-    bytes: Vec<u8>,
+    whole: Whole,
     now: u64,
 ) -> Result<Option<Edited>, AllocError>
     ensures made { IfOk result (λ found. IfSome found (λ edited. (others : ℕ) (value : QuotaValue)
-        → IsView (Some bytes.items) kind format (Ok value)
-        → IsMadeInMemory (LineSteps (Together others) name.now now lines.now value) name.now bytes.items edited)) }
-    ensures edits { IfOk result (λ found. IfSome found (IsEditOf (LineEditMayRefuse format name.now) (length lines.now) bytes.items)) }
-    // What comes to have at most so many bytes is no longer than that: no edit is given up for its length.
-    ensures within { IfOk result (λ found. IfSome found (IsWithin (reach format lines.now (length bytes.items)) (length lines.now))) }
-    ensures opens { IfOk result (λ found. found ≡ None → (value : QuotaValue) → IsView (Some bytes.items) kind format (Ok value) → ⊥) }
+        → IsView (Some whole.bytes.items) kind format (Ok value)
+        → IsMadeInMemory (LineSteps (Together others) name.now now lines.now value) name.now whole.bytes.items edited)) }
+    ensures edits { IfOk result (λ found. IfSome found (IsEditOf (LineEditMayRefuse format name.now) (length lines.now) whole.bytes.items)) }
+    ensures within { IfOk result (λ found. IfSome found (IsWithin whole.most (length lines.now))) }
+    ensures opens { IfOk result (λ found. found ≡ None → (value : QuotaValue) → IsView (Some whole.bytes.items) kind format (Ok value) → ⊥) }
 {
+    let Whole { bytes, most } = whole;
     let file = Word::copy_of(alloc, name)?;
     let mut memory = OneFile::new(String::from_str(alloc, name)?, bytes);
     match open_file(alloc, &mut memory, name, kind, format) {
-        Ok(opened) => match edit_opened(opened, lines, file, memory, now) {
-            Ok(edited) => Ok(Some(edited)),
-            Err(_) => Err(AllocError),
-        },
+        Ok(opened) => Ok(Some(edit_opened(opened, lines, file, memory, most, now)?)),
         Err(fault) => {
             if is_of_call(fault) {
                 Err(AllocError)
@@ -312,14 +298,15 @@ fn is_of_call(fault: OpenFault) -> bool
 ///
 /// # Errors
 ///
-/// A call on the store failed, which is handed back: there was not enough memory for a longer file.
+/// There is not enough memory, or the copy has more than `most` bytes, which no edit makes of it.
 fn edit_opened(
     mut opened: AnyFile,
     lines: &[LineEdit],
     file: Word,
     mut memory: OneFile,
+    most: u64,
     now: u64,
-) -> Result<Edited, OneFile>
+) -> Result<Edited, AllocError>
     requires { ⟦<AnyFile as QuotaFile<OneFile>>⟧.seen opened ≡ fresh_seen file (⟦<AnyFile as QuotaFile<OneFile>>⟧.seen opened).format }
     ensures made { IfOk result (λ edited. (bytes : List ℕ) → HasBytes file bytes (⟦<OneFile as Store>⟧.seen memory)
         → (others : ℕ) (value : QuotaValue) → ⟦<AnyFile as QuotaFile<OneFile>>⟧.holds opened memory value
@@ -328,19 +315,17 @@ fn edit_opened(
         → (asked : Option FormatOf) → IsOpenedAs asked (⟦<AnyFile as QuotaFile<OneFile>>⟧.seen opened).format
         → (value : QuotaValue) → ⟦<AnyFile as QuotaFile<OneFile>>⟧.holds opened memory value
         → IsEditOf (LineEditMayRefuse asked file) (length lines.now) bytes edited) }
-    ensures within { IfOk result (λ edited. (bytes : List ℕ) → HasBytes file bytes (⟦<OneFile as Store>⟧.seen memory)
-        → (asked : Option FormatOf) → IsOpenedAs asked (⟦<AnyFile as QuotaFile<OneFile>>⟧.seen opened).format
-        → (value : QuotaValue) → ⟦<AnyFile as QuotaFile<OneFile>>⟧.holds opened memory value
-        → IsWithin (reach asked lines.now (length bytes)) (length lines.now) edited) }
-    // Nothing but a call on the store that failed is told as want of memory.
-    ensures wanting { IfErr result (λ store. Rose (⟦<OneFile as Store>⟧.seen memory).faults (⟦<OneFile as Store>⟧.seen store).faults) }
+    ensures within { IfOk result (IsWithin most (length lines.now)) }
 {
     let edited = edit_all(&mut opened, lines, file, &mut memory, now);
     if is_fault(&edited.ended) {
-        return Err(memory);
+        return Err(AllocError);
     }
     let writes = memory.writes();
     let bytes = memory.into_bytes();
+    if bytes.len() as u64 > most {
+        return Err(AllocError);
+    }
     Ok(Edited {
         bytes,
         writes,

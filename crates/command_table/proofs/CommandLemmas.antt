@@ -1,10 +1,8 @@
 -- Commands whose words are refused, and what all commands share.
 use Rattle.std.proofs.Common.{◌≡◌, ◌≢◌, ◌∙◌, ℕ, ◌≤◌, ◌+◌, Bool, true, false, IsTrue, List, [], ◌∷◌, Option, None, Some, Ok, Err, Result, is_ok, inl, inr, refl, sym, subst, arith}
-use Rattle.std.specs.Prelude.{IfErr, IfSome, IsErr, IsErrAnd, OnErr, OnOk, ◌↔◌, is_none}
+use Rattle.std.specs.Prelude.{IfErr, IfSome, IsErr, IsErrAnd, OnErr, OnOk, ◌↔◌}
 use Rattle.std.proofs.lemmas.Bool.{false≢true}
 use Rattle.outside.specs.Frame.{Syncs}
-use Rattle.outside.specs.Seen.{StoreSeen}
-use Rattle.outside.specs.World.{World}
 use Rattle.outside.proofs.FrameLemmas.{syncs-none}
 use Rattle.run_steps.specs.Run.{CarriesOut}
 use Rattle.quota_types.specs.declared.file_kind.Format.{Format}
@@ -26,14 +24,14 @@ use Rattle.command_words.specs.Usage.{IsUsageFault, usage_refusal}
 use Rattle.command_words.specs.Asked.{command_of}
 use Rattle.command_words.proofs.KnownLemmas.{IsKnown, is_known}
 use Rattle.command_words.proofs.NameLemmas.{never_new}
-use Rattle.run_steps.specs.Done.{IsUnwritten, RunSeen, RunTells, outside_of}
+use Rattle.run_steps.specs.Done.{IsUnwritten, IsWorldTold, RunSeen, RunTells, outside_of}
 use Rattle.run_steps.specs.Naming.{NamesMayRefuse}
 use Rattle.run_steps.specs.Showing.{ShowingMayRefuse}
 use Rattle.run_steps.specs.Writes.{ReadsWithin}
 use Rattle.run_steps.specs.declared.invocation.Invocation.{Invocation}
 use Rattle.run_steps.proofs.PhaseLemmas.{carries_more, nothing_carried, stop_carried}
 use Rattle.edit_commands.specs.Apply.{ApplyMayRefuse}
-use Rattle.batch_commands.specs.Batch.{BatchMayRefuse, batch_reads, batch_uses, if_neither}
+use Rattle.batch_commands.specs.Batch.{BatchMayRefuse}
 use Rattle.edit_commands.specs.EditWords.{names_wanted}
 use Rattle.edit_commands.specs.Edits.{EditMayRefuse, FileEditMayRefuse}
 use Rattle.edit_commands.specs.Print.{PrintMayRefuse}
@@ -50,7 +48,7 @@ use Rattle.serve_command.specs.Serve.{ServeMayRefuse}
 use Rattle.serve_steps.specs.Exporting.{ExportingMayRefuse}
 use Rattle.serve_command.specs.Words.{CanServe}
 use Rattle.serve_command.proofs.WordLemmas.{asked_serves}
-use Rattle.command_table.specs.Description.{AreReadsTold, ChangesWithin, Description, IsCarriedOut, IsLeftByEdit}
+use Rattle.command_table.specs.Description.{ChangesWithin, Description, IsCarriedOut, IsLeftByEdit}
 use Rattle.command_table.specs.Table.{asked_by, described, not_here, refused, unknown_command}
 
 -- No command that was read is refused for its words.
@@ -290,7 +288,7 @@ pub carried_alone : (d : Description) (invocation : Invocation) (tells : RunTell
     → IfSome d.replaces (λ (file : List ℕ). OnErr result (IsTrue tells.store → new.store.files file ≡ old.store.files file))
     → IfSome d.edits (λ (file : List ℕ). IfErr result (λ (refusal : Refusal). IsTrue tells.store
     → IsLeftByEdit (status_of refusal.cause) old.store.files new.store.files file))
-    → ChangesWithin d old.store new.store → OnOk result (AreReadsTold d.uses tells → ReadsWithin (d.most_reads (outside_of old)) old.store new.store)
+    → ChangesWithin d old.store new.store → OnOk result (IsWorldTold tells → ReadsWithin (d.most_reads (outside_of old)) old.store new.store)
     → OnOk result (IsTrue tells.store → d.made invocation (outside_of old) new.store.files)
     → (IsTrue tells.store → Syncs (is_ok result) old.store new.store) → IsCarriedOut d invocation tells old new result
 carried_alone d invocation tells old new result unwritten finished one same carries named edited within reads made synced = record {
@@ -307,16 +305,6 @@ carried_alone d invocation tells old new result unwritten finished one same carr
   unlinked = λ told no. same;
   unbegun = λ reads. absurd (false≢true (sym one ∙ reads));
 }
-
--- lines that are read from a file, or with a file of names, have no bound of their own; those of the standard input have it where that is told
-batch_within : (names from : Option (List ℕ)) (reads : ℕ) (old new : StoreSeen) (told : Type 0) → (told → ReadsWithin (if_neither names from reads) old new) → (IsTrue (is_none from) → told) → ReadsWithin (if_neither names from reads) old new
-batch_within None None reads old new told few asks = few (asks refl)
-batch_within None (Some from) reads old new told few asks = tt
-batch_within (Some names) from reads old new told few asks = tt
-
-pub batch_reads_within : (common : Common) (from : Option (List ℕ)) (file : List ℕ) (files : World) (bytes : List ℕ) (old new : StoreSeen) (told : Type 0)
-    → (told → ReadsWithin (batch_reads common from file files bytes) old new) → (IsTrue (batch_uses from).input → told) → ReadsWithin (batch_reads common from file files bytes) old new
-batch_reads_within common from file files bytes old new told few asks = batch_within common.names from _ old new told few asks
 
 -- what follows from a fact of a refusal holds of the one that was answered
 pub of_refusal_weaker : (result : Result (Unit {0}) Refusal) (one other : Refusal → Type 0) → ((refusal : Refusal) → one refusal → other refusal) → IfErr result one → IfErr result other

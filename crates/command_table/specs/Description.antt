@@ -11,7 +11,7 @@ use Rattle.refusals.specs.declared.reason.Refusal.{Refusal}
 use Rattle.refusals.specs.Status.{status_of}
 use Rattle.quota_value.specs.QuotaValue.{QuotaValue}
 use Rattle.run_steps.specs.Act.{MayBeLeft}
-use Rattle.run_steps.specs.Done.{IsUnwritten, Outside, RunSeen, RunTells, outside_of}
+use Rattle.run_steps.specs.Done.{IsUnwritten, IsWorldTold, Outside, RunSeen, RunTells, outside_of}
 use Rattle.run_steps.specs.Run.{CarriesOut, Uses}
 use Rattle.run_steps.specs.Steps.{Steps}
 use Rattle.run_steps.specs.Writes.{ReadsWithin}
@@ -60,11 +60,6 @@ pub record Description : Type 1 where
   -- conditions that make no step of it refused, whatever is chosen
   pub suffices : Invocation → Outside → Type 0
 
--- What a bound on the calls of `read` rests on is told: the files of the store, and the input where it is used.
-pub record AreReadsTold (uses : Uses) (tells : RunTells) : Type 0 where
-  pub store : IsTrue tells.store
-  pub input : IsTrue uses.input → IsTrue tells.input
-
 -- nothing was done but that the input was read
 pub record IsOnlyRead (old new : RunSeen) : Type 0 where
   pub store : new.store ≡ old.store
@@ -102,7 +97,7 @@ pub record IsCarriedOut (command : Description) (invocation : Invocation) (tells
       → IsLeftByEdit (status_of refusal.cause) old.store.files new.store.files file))
   pub unwritten : IsTrue command.unwritten → IfErr result (λ (refusal : Refusal). refusal.cause ≡ Memory → IsUnwritten old.store new.store)
   pub within : ChangesWithin command old.store new.store
-  pub reads : OnOk result (AreReadsTold command.uses tells → ReadsWithin (command.most_reads (outside_of old)) old.store new.store)
+  pub reads : OnOk result (IsWorldTold tells → ReadsWithin (command.most_reads (outside_of old)) old.store new.store)
   pub made : OnOk result (IsTrue tells.store → command.made invocation (outside_of old) new.store.files)
   pub synced : IsTrue tells.store → Syncs (is_ok result) old.store new.store
   pub unfinished : IfErr result (λ (refusal : Refusal). refusal.cause ≡ LinkFault → command.unfinished invocation tells old new)

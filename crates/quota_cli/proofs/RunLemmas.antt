@@ -23,7 +23,7 @@ use Rattle.run_steps.specs.Writes.{ReadsWithin}
 use Rattle.quota_cli.specs.Headline.{HasEffect, HasEffectUpToErr, HasSaid, IsRefusedRun, IsRefusedWord, IsStopped, Keeps, LeavesLink, Setting, asked, steps_asked, uses_asked}
 use Rattle.quota_cli.specs.Script.{StandsInScript}
 use Rattle.command_words.specs.Asked.{command_of}
-use Rattle.command_table.specs.Description.{AreReadsTold, IsLeftByEdit, IsOnlyRead, StopsIt, IsCarriedOut}
+use Rattle.command_table.specs.Description.{IsLeftByEdit, IsOnlyRead, StopsIt, IsCarriedOut}
 use Rattle.run_steps.proofs.ActLemmas.{done_and_said, more_err, nothing_before}
 use Rattle.run_steps.proofs.MeaningLemmas.{received, sure_ends, to_end}
 use Rattle.run_steps.proofs.PartLemmas.{part_but_err}
@@ -352,7 +352,7 @@ run_keeps setting tells old new said result status carried stands finished usage
       (λ file told other. absurd (other refl)) carried.edited;
   unwritten = λ said. run_wanting (IsUnwritten old.store new.store) result status finished.status_is (carried.unwritten said);
   within = record { alone = carried.within.alone; anew = carried.within.anew; few = carried.within.few };
-  reads = run_held (AreReadsTold (uses_asked setting) tells → ReadsWithin ((asked setting).most_reads (outside_of old)) old.store new.store) result status finished.status_is carried.reads;
+  reads = run_held (IsWorldTold tells → ReadsWithin ((asked setting).most_reads (outside_of old)) old.store new.store) result status finished.status_is carried.reads;
   made = run_held (IsTrue tells.store → (asked setting).made setting.invocation (outside_of old) new.store.files) result status finished.status_is carried.made;
   synced = λ so told. run_synced result status old.store new.store finished.status_is (carried.synced told) so;
   untaken = λ one. run_untaken (new.link ≡ old.link) result status finished.status_is (carried.untaken one);

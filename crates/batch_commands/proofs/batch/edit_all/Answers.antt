@@ -9,11 +9,10 @@ use Rattle.quota_map.specs.AnyFile.{HoldsAny, any_seen}
 use Rattle.quota_map.specs.View.{fresh_seen}
 use Rattle.batch_commands.specs.declared.batch_line.LineEdit.{LineEdit}
 use Rattle.run_steps.specs.Done.{seen_of, tells_of}
-use Rattle.run_steps.specs.Act.{Behind, Together}
+use Rattle.run_steps.specs.Act.{Together}
 use Rattle.batch_commands.proofs.BatchLemmas.{AreMade, all_carried, line_may_fail, line_refused, made_more, made_none}
 use Rattle.batch_commands.proofs.CountLemmas.{all_made, refused_made}
 use Rattle.edit_steps.proofs.EditFileLemmas.{any_cause, any_made, any_refused, limits_keep_format}
-use Rattle.batch_commands.proofs.GrowthLemmas.{grown_more, grown_none, grown_reach, limits_by_one, refused_same, store_rose}
 use Rattle.batch_commands.proofs.ReadsLemmas.{line_few}
 use Rattle.batch_commands.proofs.WantingLemmas.{wants_none}
 use Rattle.batch_commands.proofs.batch.edit_all.Goals as goal
@@ -23,7 +22,6 @@ loop-made-init g c = record {
   made = λ told way start held. made_none way c.args.file c.args.now c.args.lines.now start [] (g.S.Store.seen c.args.store.now) (g.S.Store.seen c.args.store.now) _ (only_reads-none {done = true} _ _) held;
   same = refl;
   leaves = edits_one-none _ _;
-  long = λ told start held. grown_none (any_seen c.args.opened.now).format c.args.lines.now _;
   reads = omega arith;
   within = omega arith;
   synced = λ told. syncs-none _;
@@ -51,11 +49,6 @@ loop-made-preserved g c =
           (done.set are.value are.held);
       same = done.same ∙ kept.same;
       leaves = edits_one-then _ _ _ _ kept.leaves leaves;
-      long = λ told start held.
-          let are = subst (λ (l : List LineEdit). AreMade Behind file c.args.now c.args.lines.now l start c.loop-made.made (S.seen c.args.store.now) before (HoldsAny S.tells before.files c.loop-made.opened))
-          (drop_more c.args.lines.now c.loop-made.made _ c.loop-made-test.true) (kept.made told Behind start held) in
-          grown_more format c.args.lines.now _ c.loop-made.made _ _ _ c.loop-made-test.true (kept.long told start held)
-          (limits_by_one S.tells _ _ c.args.now c.loop-made.opened c.set_limits.new.file before after file format are.value tt was are.held c.in-Ok.ensures.edits);
       reads = let few = line_few (any_seen c.loop-made.opened) before.reads after.reads c.in-Ok.ensures.reads in omega (arith, kept.reads, few);
       within = omega (arith, c.loop-made-test.true);
       synced = λ told. syncs-then _ _ _ (kept.synced told) (edits-syncs _ _ _ _ _ c.in-Ok.ensures.edits told);
@@ -155,35 +148,3 @@ returns-clause-few g c = omega arith
 
 pub returns-in-Err-clause-few : goal.returns-in-Err-clause-few
 returns-in-Err-clause-few g c = omega (arith, c.loop-made.invariant.within)
-
-pub returns-in-Err-clause-failed : goal.returns-in-Err-clause-failed
-returns-in-Err-clause-failed g c =
-    let S = g.S.Store in
-    let kept = c.loop-made.invariant in
-    let file = c.args.file in
-    let before = S.seen c.loop-made.store in
-    let after = S.seen c.set_limits.new.store in
-    let format = (any_seen c.args.opened.now).format in
-    let was : any_seen c.loop-made.opened ≡ fresh_seen file format = kept.same ∙ c.requires in
-    rw (c.at_line-refusal.ensures, c.of.ensures, c.edit_cause.ensures)
-    (store_rose _ _ (S.seen c.args.store.now).faults before.faults after.faults (HoldsAny S.tells before.files c.loop-made.opened) c.in-Err.fault kept.leaves.later c.in-Err.ensures.memory
-    (any_cause S.tells _ c.loop-made.opened c.set_limits.new.file before after file format c.in-Err.fault (limits_keep_format _ _ c.args.now) was c.in-Err.ensures.edits))
-
-pub returns-clause-grows : goal.returns-clause-grows
-returns-clause-grows g c = λ told asked as_asked value held.
-    let kept = c.loop-made.invariant in
-    grown_reach asked (any_seen c.args.opened.now).format c.args.lines.now c.loop-made.made _ _ as_asked kept.within (kept.long told value held)
-
-pub returns-in-Err-clause-grows : goal.returns-in-Err-clause-grows
-returns-in-Err-clause-grows g c = λ told asked as_asked value held.
-    let S = g.S.Store in
-    let kept = c.loop-made.invariant in
-    let file = c.args.file in
-    let before = S.seen c.loop-made.store in
-    let after = S.seen c.set_limits.new.store in
-    let format = (any_seen c.args.opened.now).format in
-    let was : any_seen c.loop-made.opened ≡ fresh_seen file format = kept.same ∙ c.requires in
-    rw (c.at_line-refusal.ensures, c.of.ensures, c.edit_cause.ensures) (λ own.
-    let same = refused_same S.tells _ c.loop-made.opened c.set_limits.new.file before after file format c.in-Err.fault was own c.in-Err.ensures.memory c.in-Err.ensures.edits in
-    let far = grown_reach asked format c.args.lines.now c.loop-made.made _ _ as_asked kept.within (kept.long told value held) in
-    omega (arith, far, same))

@@ -1,12 +1,10 @@
 use Rattle.std.proofs.Common.{◌≡◌, ◌≤◌, ◌+◌, ◌*◌, true, IsTrue, drop, length}
-use Rattle.file_blocks.specs.Block.{file_of}
 use Rattle.opened_file.specs.EditsOne.{EditsOne}
 use Rattle.outside.specs.Frame.{Syncs}
 use Rattle.quota_value.specs.QuotaValue.{QuotaValue}
 use Rattle.quota_map.specs.AnyFile.{HoldsAny, any_seen}
 use Rattle.run_steps.specs.Act.{Way}
 use Rattle.batch_commands.proofs.BatchLemmas.{AreMade}
-use Rattle.batch_commands.proofs.GrowthLemmas.{HasGrown}
 use Rattle.batch_commands.proofs.batch.edit_all.Given as goal
 
 abbrev pub invariant-loop-made : goal.invariant-loop-made
@@ -17,8 +15,6 @@ invariant-loop-made g l =
           → AreMade way l.file l.now l.lines (drop l.made l.lines) start l.made (S.seen l.fn.store) (S.seen l.store) (HoldsAny S.tells (S.seen l.store).files l.opened);
       same : any_seen l.opened ≡ any_seen l.fn.opened;
       leaves : EditsOne l.file (S.seen l.fn.store) (S.seen l.store);
-      long : IsTrue S.tells → (start : QuotaValue) → HoldsAny S.tells (S.seen l.fn.store).files l.fn.opened start
-          → HasGrown (any_seen l.fn.opened).format l.lines l.made (length (file_of (S.seen l.fn.store).files l.file)) (length (file_of (S.seen l.store).files l.file));
       reads : (S.seen l.store).reads ≤ (S.seen l.fn.store).reads + 17 * l.made;
       within : l.made ≤ length l.lines;
       synced : IsTrue S.tells → Syncs true (S.seen l.fn.store) (S.seen l.store);

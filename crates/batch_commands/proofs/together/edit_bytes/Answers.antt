@@ -1,8 +1,7 @@
-use Rattle.std.proofs.Common.{true, length, refl, arith}
+use Rattle.std.proofs.Common.{true, length, refl}
 use Rattle.run_steps.specs.Act.{Together}
 use Rattle.run_steps.specs.Done.{seen_of, tells_of}
 use Rattle.batch_commands.specs.Batch.{LineSteps}
-use Rattle.batch_commands.specs.Together.{IsWithin}
 use Rattle.batch_commands.proofs.RefusedLemmas.{not_together}
 use Rattle.batch_commands.proofs.TogetherLemmas.{not_made_weaker, only_read-none, wanting_carried}
 use Rattle.batch_commands.proofs.together.edit_bytes.Goals as goal
@@ -26,12 +25,11 @@ returns-in-Err-clause-carries g c = λ others several value stands view input ou
     (only_read-none {done = true} store store refl))
 
 pub returns-in-Ok-Some-clause-never : goal.returns-in-Ok-Some-clause-never
-returns-in-Ok-Some-clause-never g c = λ may covers value view.
+returns-in-Ok-Some-clause-never g c = λ may value view.
     let made = rw c.as_str.ensures at (rw c.in-Ok-Some.field-0-is at c.in-Ok-Some.ensures.made) in
-    let own = rw c.in-Ok-Some.field-0-is at c.in-Ok-Some.ensures.within in
-    let within : IsWithin c.args.whole.most (length c.args.lines.now) c.in-Ok-Some.edited = record { short = omega (arith, own.short, covers); all = own.all } in
+    let within = rw c.in-Ok-Some.field-0-is at c.in-Ok-Some.ensures.within in
     not_made_weaker c.put_back.result _ _ (λ name some. not_together c.args.kind c.args.format c.args.file c.args.now 0 c.args.lines.now value c.args.whole c.in-Ok-Some.edited may within view (made 0 value view) some)
     (c.put_back.ensures.refused c.args.format (length c.args.lines.now) c.args.whole may within)
 
 pub returns-in-Ok-None-clause-never : goal.returns-in-Ok-None-clause-never
-returns-in-Ok-None-clause-never g c = λ may covers value view. absurd (c.in-Ok-None.ensures.opens c.in-Ok-None.field-0-is value view)
+returns-in-Ok-None-clause-never g c = λ may value view. absurd (c.in-Ok-None.ensures.opens c.in-Ok-None.field-0-is value view)

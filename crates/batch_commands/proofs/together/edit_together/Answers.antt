@@ -51,12 +51,11 @@ returns-in-Ok-Some-clause-reads_more g c =
     let bytes = c.in-Ok-Some.whole.bytes.items in
     let whole = rw c.as_str.ensures at (rw c.in-Ok-Some.field-0-is at c.in-Ok-Some.ensures.whole) in
     let pays = rw c.in-Ok-Some.field-0-is at c.in-Ok-Some.ensures.pays in
-    let covers = rw c.in-Ok-Some.field-0-is at c.in-Ok-Some.ensures.covers in
     let read = rw c.as_str.ensures at c.in-Ok-Some.ensures.reads in
     not_made_weaker_all c.edit_bytes.result
     (λ told value view.
     let named : files file ≡ Some bytes = (whole told).named in
-    c.edit_bytes.ensures.never (pays told) (covers told) value (subst (λ (f : Option (List ℕ)). IsView f c.args.kind c.args.format (Ok value)) named view))
+    c.edit_bytes.ensures.never (pays told) value (subst (λ (f : Option (List ℕ)). IsView f c.args.kind c.args.format (Ok value)) named view))
     (λ told value view why.
     let named : files file ≡ Some bytes = (whole told).named in
     let size : length (file_of files file) ≡ length bytes = ap (λ (f : Option (List ℕ)). length (bytes_of f)) named in

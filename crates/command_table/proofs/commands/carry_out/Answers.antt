@@ -1,7 +1,7 @@
 use Rattle.std.proofs.Common.{ap, refl}
 use Rattle.std.proofs.lemmas.Bool.{false≢true}
 use Rattle.std.proofs.lemmas.Result.{on_err_weaker, on_ok_weaker}
-use Rattle.command_table.proofs.CommandLemmas.{batch_reads_within, carried_alone, not_here_carried, of_done, of_refusal_weaker}
+use Rattle.command_table.proofs.CommandLemmas.{carried_alone, not_here_carried, of_done, of_refusal_weaker}
 use Rattle.command_table.proofs.commands.carry_out.Goals as goal
 
 pub returns-in-Report-clause-carries : goal.returns-in-Report-clause-carries
@@ -39,7 +39,7 @@ returns-in-PrintForm-clause-carries g c =
 pub returns-in-Batch-clause-carries : goal.returns-in-Batch-clause-carries
 returns-in-Batch-clause-carries g c =
     rw c.in-Batch.is (carried_alone _ _ _ _ _ _ (λ said. c.apply_lines.ensures.wanting) tt refl refl (c.apply_lines.ensures.carries _ _ _ _ _ _ c.args.invocation.line)
-    tt tt (record { alone = tt; anew = c.apply_lines.ensures.others; few = tt }) (on_ok_weaker c.apply_lines.result (λ few told. batch_reads_within _ _ _ _ _ _ _ _ (few told.store) told.input) c.apply_lines.ensures.reads) (of_done c.apply_lines.result _ (λ told. tt)) c.apply_lines.ensures.synced)
+    tt tt (record { alone = tt; anew = c.apply_lines.ensures.others; few = tt }) (on_ok_weaker c.apply_lines.result (λ few told. few told.store told.input) c.apply_lines.ensures.reads) (of_done c.apply_lines.result _ (λ told. tt)) c.apply_lines.ensures.synced)
 
 pub returns-in-ApplyForm-clause-carries : goal.returns-in-ApplyForm-clause-carries
 returns-in-ApplyForm-clause-carries g c =

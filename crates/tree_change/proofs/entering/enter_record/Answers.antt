@@ -109,3 +109,7 @@ returns-clause-entered g c = λ known held records tree none.
     (sym (wrote.room known') ∙ c.if-branch.false) (out.next_is known'') (out.previous_is known'') (shown_over-lends out.lends)
     (λ front back is_chain named. subst (λ (now : Heads). LeavesList one two c.args.heads.now now block front back) out.heads_are
     (c.in_ok-leave_entry_list.ensures.left known'' front back is_chain named)))
+
+pub returns-clause-commits : goal.returns-clause-commits
+returns-clause-commits g c =
+    g.S.Store.commits_on [] [] _ _ _ (g.S.Store.commits_on [] [] _ _ _ c.place_in.ensures.commits c.write_record.ensures.commits) c.leave_entry_list.ensures.commits
