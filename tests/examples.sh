@@ -500,7 +500,7 @@ words() {
         'getent '* | 'head '* | 'set -'* | 'sort '* | 'stat '* | 'ulimit '*) carried_out ;;
         'man -l '*) formatted "${them[2]}" ;;
         'rt '*) known_to_rt "${them[@]:1}" ;;
-        bin/* | bench/* | docs/* | samples/* | tests/* | .ci/*) in_repository "${them[@]}" ;;
+        bin/* | bench/* | docs/* | samples/* | tests/* | tools/* | .ci/*) in_repository "${them[@]}" ;;
         -*' '*) options_of "${heading#rpc.}" ;;
         -*)
             # (one that stands alone may be another program's, but for the tables of our commands)
