@@ -4,8 +4,8 @@ use Rattle.std.specs.Prelude.{⊤, ◌&&◌, IfOk, IfSome, MatchResult}
 use Rattle.std.specs.Str.{all_ascii_digits}
 use Rattle.id_names.specs.FirstMatch.{first_id}
 use Rattle.id_names.specs.NamesFile.{NameLine}
-use Rattle.input_text.specs.InputLines.{InputLines, NoLine, LineThen, LongNext, PastNext, lines_left}
-use Rattle.input_text.specs.Lines.{LinesSeen}
+use Rattle.input_text.specs.InputLines.{InputLines, NoLine, LineThen, LongNext, PastNext}
+use Rattle.input_text.specs.LineReading.{lines_left, LinesSeen}
 use Rattle.input_text.specs.Numeral.{value_of}
 use Rattle.input_text.specs.Words.{words_of}
 use Rattle.set_edit.specs.Number.{limit_of}
@@ -19,7 +19,8 @@ use Rattle.refusals.specs.declared.cause.Cause.{Cause}
 use Rattle.refusals.specs.declared.cause.Cause.TheVariants.{TooLarge, LongLine, UnknownName, BadNumber}
 use Rattle.refusals.specs.declared.reason.Refusal.{Refusal}
 use Rattle.refusals.specs.Outcome.{Outcome, Passed, Refused}
-use Rattle.batch_commands.specs.Batch.{Asked, IsOfLine, LineMayRefuse, asks_then, ends_with, five_of, limits_asked, line_asks, line_named, line_outcome, lines_ask, read_at, read_then, refusal_read, words_ask}
+use Rattle.batch_commands.specs.Batch.{Asked, LineMayRefuse, asks_then, ends_with, five_of, limits_asked, line_asks, line_named, lines_ask, read_at, words_ask}
+use Rattle.batch_commands.specs.BatchReading.{IsOfLine, line_outcome, read_then, refusal_read}
 use Rattle.refusals.specs.Refusals.{refusal_of, stands_in_line}
 use Rattle.run_steps.specs.InputLine.{says_nothing}
 use Rattle.run_steps.specs.Numbers.{identifier_of, known, limit_read, limits_read, number_or_refused}

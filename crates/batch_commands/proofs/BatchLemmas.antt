@@ -27,10 +27,12 @@ use Rattle.run_steps.specs.Act.{Act, Behind, InPlace, Together, Way}
 use Rattle.run_steps.specs.Done.{Outside, RunSeen, RunTells, outside_of}
 use Rattle.run_steps.specs.Meaning.{EndsBy}
 use Rattle.run_steps.specs.Opening.{MayRefuseOpening}
-use Rattle.run_steps.specs.Run.{CarriesOut, HasReason, HasSteps, IsDoneInPart}
+use Rattle.run_steps.specs.Run.{HasReason, HasSteps, IsDoneInPart}
+use Rattle.run_steps.specs.Carrying.{CarriesOut}
 use Rattle.run_steps.specs.Steps.{DoingAll, Then, Steps}
 use Rattle.run_steps.specs.Writes.{edits_in}
-use Rattle.batch_commands.specs.Batch.{Applying, Asked, EditsThen, IsOfLine, LineEditMayRefuse, LineSteps, LineMayRefuse, at_line, edit_of, line_uses, met_at, way_behind, way_of}
+use Rattle.batch_commands.specs.Batch.{Applying, Asked, EditsThen, LineEditMayRefuse, LineMayRefuse, at_line, edit_of, line_uses, met_at, way_behind, way_of}
+use Rattle.batch_commands.specs.BatchReading.{IsOfLine, LineSteps}
 use Rattle.edit_steps.specs.EditStep.{value_left, ChangeMayRefuse, edit_cause, edit_step}
 use Rattle.run_steps.proofs.DoingLemmas.{AreWritten, done_of, written_both, written_none}
 use Rattle.run_steps.proofs.LookingLemmas.{AddsEnd, adds_looking, adds_none, adds_then, leads_doing, part_adding, steps_adding}

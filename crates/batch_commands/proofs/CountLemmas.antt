@@ -22,7 +22,8 @@ use Rattle.run_steps.proofs.WritesLemmas.{edits_in-append}
 use Rattle.edit_steps.specs.EditStep.{edit_cause, value_left}
 use Rattle.edit_steps.proofs.RefusedEditLemmas.{HasEditCause, IsRefusedAt, edit_reason_any}
 use Rattle.batch_commands.specs.declared.batch_line.LineEdit.{LineEdit}
-use Rattle.batch_commands.specs.Batch.{LineSteps, at_line, edit_of, line_uses, met_at, way_behind}
+use Rattle.batch_commands.specs.Batch.{at_line, edit_of, line_uses, met_at, way_behind}
+use Rattle.batch_commands.specs.BatchReading.{LineSteps}
 use Rattle.batch_commands.specs.Together.{HasMade, IfOwn}
 use Rattle.batch_commands.proofs.BatchLemmas.{AreMade}
 

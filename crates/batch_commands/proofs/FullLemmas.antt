@@ -8,7 +8,7 @@ use Rattle.quota_types.specs.declared.file_kind.Format.{Format}
 use Rattle.quota_types.specs.declared.file_kind.Kind.{Kind}
 use Rattle.input_text.specs.InputLines.{InputLines, NoLine, LineThen, LongNext, PastNext, input_lines}
 use Rattle.quota_value.specs.QuotaValue.{QuotaValue}
-use Rattle.input_text.specs.StoreInput.{left_from}
+use Rattle.input_text.specs.InputLeft.{left_from}
 use Rattle.outside.specs.World.{World}
 use Rattle.quota_map.specs.View.{IsView}
 use Rattle.command_words.specs.declared.command.Common.{Common}
@@ -26,7 +26,8 @@ use Rattle.run_steps.specs.Steps.{DoingAll, Opening, Then}
 use Rattle.run_steps.specs.Taking.{file_said, input_said}
 use Rattle.run_steps.specs.declared.invocation.Invocation.{Invocation}
 use Rattle.quota_map.proofs.SeenAgainLemmas.{seen_again}
-use Rattle.batch_commands.specs.Batch.{Applying, Asked, BatchSteps, EditsThen, IsOfLine, LineMayRefuse, ReadSteps, asks_then, batch_step, edit_of, is_to_end, line_asks, lines_ask, met_at, way_behind, way_of}
+use Rattle.batch_commands.specs.Batch.{Applying, Asked, BatchSteps, EditsThen, LineMayRefuse, ReadSteps, asks_then, batch_step, edit_of, is_to_end, line_asks, lines_ask, met_at, way_behind, way_of}
+use Rattle.batch_commands.specs.BatchReading.{IsOfLine}
 use Rattle.edit_steps.specs.EditStep.{value_left, changed, is_too_large}
 use Rattle.edit_steps.specs.Room.{IsFullFor}
 use Rattle.batch_commands.specs.Room.{IsFullForLine, IsFullForOne}

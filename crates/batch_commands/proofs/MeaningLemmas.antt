@@ -18,7 +18,8 @@ use Rattle.run_steps.specs.Taking.{input_said}
 use Rattle.run_steps.specs.declared.invocation.Invocation.{Invocation}
 use Rattle.run_steps.proofs.OneCommandLemmas.{looks_naming, looks_taking, looks_then, reads_taking, reads_then, sure_naming, sure_opening, sure_taking, sure_then}
 use Rattle.batch_commands.specs.declared.batch_line.LineEdit.{LineEdit}
-use Rattle.batch_commands.specs.Batch.{Applying, Asked, BatchSteps, EditsThen, LineSteps, ReadSteps, batch_step, edit_of, is_to_end, met_at, way_behind, way_of}
+use Rattle.batch_commands.specs.Batch.{Applying, Asked, BatchSteps, EditsThen, ReadSteps, batch_step, edit_of, is_to_end, met_at, way_behind, way_of}
+use Rattle.batch_commands.specs.BatchReading.{LineSteps}
 use Rattle.edit_steps.specs.EditStep.{value_left, edit_step}
 use Rattle.batch_commands.specs.Room.{AllFit}
 use Rattle.run_steps.proofs.LookingLemmas.{looks_doing, reads_doing, sure_doing}

@@ -21,7 +21,7 @@ use Rattle.refusals.specs.Status.{status_of}
 use Rattle.run_steps.specs.Act.{Follows}
 use Rattle.run_steps.specs.Done.{Outside, RunTells, seen_of, tells_of}
 use Rattle.run_steps.specs.Meaning.{EndsBy}
-use Rattle.run_steps.specs.Run.{CarriesOut}
+use Rattle.run_steps.specs.Carrying.{CarriesOut}
 use Rattle.run_steps.specs.Steps.{Steps}
 use Rattle.run_steps.specs.Writes.{WritesFor}
 use Rattle.batch_commands.specs.declared.batch.EditedLines.{EditedLines}

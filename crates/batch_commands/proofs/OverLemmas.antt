@@ -14,7 +14,8 @@ use Rattle.run_steps.specs.Done.{Outside}
 use Rattle.run_steps.specs.Meaning.{EndsBy}
 use Rattle.run_steps.specs.Steps.{Doing, DoingAll, Ending, Steps, Then}
 use Rattle.edit_steps.specs.EditStep.{changed, edit_step, is_too_large, value_left}
-use Rattle.batch_commands.specs.Batch.{LineSteps, edit_of, met_at, way_behind}
+use Rattle.batch_commands.specs.Batch.{edit_of, met_at, way_behind}
+use Rattle.batch_commands.specs.BatchReading.{LineSteps}
 use Rattle.batch_commands.specs.declared.batch_line.LineEdit.{LineEdit}
 
 -- what is outside once the file of this name is as it is there

@@ -6,7 +6,7 @@ use Rattle.quota_types.specs.declared.file_kind.Kind.{Kind}
 use Rattle.id_names.specs.NamesFile.{NameLine}
 use Rattle.file_blocks.specs.Block.{file_of}
 use Rattle.quota_types.specs.declared.file_kind.Format.{Format}
-use Rattle.opened_file.specs.QuotaFile.{FileSeen}
+use Rattle.opened_file.specs.FileSeen.{FileSeen}
 use Rattle.quota_value.specs.QuotaValue.{QuotaValue}
 use Rattle.opened_file.specs.Replace.{pieces_of}
 use Rattle.outside.specs.Seen.{StoreSeen}
@@ -14,7 +14,7 @@ use Rattle.outside.specs.World.{World}
 use Rattle.quota_map.specs.AnyFile.{any_change_reads, reads_of_get}
 use Rattle.quota_map.specs.View.{IsView, opening_reads}
 use Rattle.quota_map.proofs.AnyLemmas.{any_few_gets, any_few_reads, get_few}
-use Rattle.set_edit.specs.Editing.{ReadsOnce}
+use Rattle.set_edit.specs.EditCalls.{ReadsOnce}
 use Rattle.refusals.specs.Outcome.{Passed}
 use Rattle.command_words.specs.declared.command.Common.{Common}
 use Rattle.refusals.specs.declared.reason.Refusal.{Refusal}
@@ -24,7 +24,8 @@ use Rattle.run_steps.specs.Writes.{ReadsWithin}
 use Rattle.run_steps.specs.Act.{Way}
 use Rattle.run_steps.specs.Done.{RunSeen, RunTells, outside_of}
 use Rattle.run_steps.specs.Run.{HasSteps}
-use Rattle.batch_commands.specs.Batch.{Asked, LineSteps, batch_reads, batch_step, if_neither, input_asks, input_edits, line_reads, may_fill, whole_reads}
+use Rattle.batch_commands.specs.Batch.{Asked, batch_reads, batch_step, if_neither, input_asks, input_edits, line_reads, may_fill, whole_reads}
+use Rattle.batch_commands.specs.BatchReading.{LineSteps}
 use Rattle.batch_commands.specs.Together.{AreNeverDone, AreNotTogether, ReadsWhole}
 use Rattle.batch_commands.specs.declared.batch_line.LineEdit.{LineEdit}
 use Rattle.quota_map.proofs.ViewLemmas.{opening_few}

@@ -25,7 +25,8 @@ use Rattle.edit_steps.specs.EditStep.{changed, is_too_large, value_left}
 use Rattle.edit_steps.proofs.FullLemmas.{is_full}
 use Rattle.edit_steps.specs.Room.{IsFullFor}
 use Rattle.edit_steps.proofs.LimitsLemmas.{set_format}
-use Rattle.batch_commands.specs.Batch.{EditsThen, LineSteps, edit_of, may_fill, met_at, way_behind}
+use Rattle.batch_commands.specs.Batch.{EditsThen, edit_of, may_fill, met_at, way_behind}
+use Rattle.batch_commands.specs.BatchReading.{LineSteps}
 use Rattle.batch_commands.specs.Together.{AreNotTogether, IsMadeInMemory, IsWithin, MayPay, memory_seen, refusal_in}
 use Rattle.batch_commands.specs.declared.batch_line.LineEdit.{LineEdit}
 use Rattle.batch_commands.specs.declared.together.Edited.{Edited}

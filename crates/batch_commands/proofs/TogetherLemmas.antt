@@ -9,7 +9,8 @@ use Rattle.file_in_memory.specs.OneFile.{only_file}
 use Rattle.quota_types.specs.declared.field.Field.{Field}
 use Rattle.outside.specs.Count.{Rose}
 use Rattle.file_blocks.specs.Block.{file_of}
-use Rattle.outside.specs.Frame.{OnlyReads, ReplacesOne, Syncs}
+use Rattle.outside.specs.Frame.{OnlyReads}
+use Rattle.outside.specs.ManyCalls.{ReplacesOne, Syncs, replaced_files}
 use Rattle.opened_file.specs.Load.{IsLoadFault}
 use Rattle.opened_file.specs.declared.whole_file.LoadFault.{LoadFault}
 use Rattle.opened_file.specs.declared.whole_file.LoadFault.TheVariants.{Store as NotRead, NoFile, TooLarge, Memory as Wanting}
@@ -18,7 +19,7 @@ use Rattle.quota_map.specs.View.{IsView}
 use Rattle.quota_types.specs.declared.file_kind.Format.{Format}
 use Rattle.quota_types.specs.declared.file_kind.Format.TheVariants.{V1, V2R0, V2R1}
 use Rattle.quota_types.specs.declared.file_kind.Kind.{Kind}
-use Rattle.run_steps.specs.Naming.{load_cause}
+use Rattle.run_steps.specs.Causes.{load_cause}
 use Rattle.run_steps.specs.Opening.{MayRefuseOpening}
 use Rattle.run_steps.proofs.ReasonLemmas.{reason_since}
 use Rattle.quota_value.specs.QuotaValue.{QuotaValue}
@@ -26,7 +27,7 @@ use Rattle.opened_file.specs.Replace.{IsReplaceFault, OnNoMemory}
 use Rattle.opened_file.specs.declared.replacement.ReplaceFault.{ReplaceFault}
 use Rattle.opened_file.specs.declared.replacement.ReplaceFault.TheVariants.{Store as NotStored, Full, Memory as NoMemory}
 use Rattle.opened_file.proofs.ReplaceLemmas.{replacement_name-ne}
-use Rattle.outside.specs.Replacement.{ReplacesOnly, replaced_files, replacement_name}
+use Rattle.outside.specs.Replacement.{ReplacesOnly, replacement_name}
 use Rattle.outside.specs.Seen.{StoreSeen}
 use Rattle.outside.specs.World.{KeepsOthers, World, with_file}
 use Rattle.outside.proofs.WorldLemmas.{KeepsOthers-with_file, bytes_eq-same, bytes_eq-true, with_file-at, with_file-same}
@@ -42,7 +43,8 @@ use Rattle.run_steps.specs.Changing.{written}
 use Rattle.quota_map.specs.Size.{blocks_after}
 use Rattle.run_steps.specs.Done.{IsUnwritten, IsWorldTold, Outside, RunSeen, RunTells, outside_of, seen_of}
 use Rattle.run_steps.specs.Meaning.{EndsBy, HasBegun}
-use Rattle.run_steps.specs.Run.{CarriesOut, HasReason, HasSteps, IsDoneInPart, IsPlacedBy, Uses}
+use Rattle.run_steps.specs.Run.{HasReason, HasSteps, IsDoneInPart, IsPlacedBy, Uses}
+use Rattle.run_steps.specs.Carrying.{CarriesOut}
 use Rattle.run_steps.specs.Steps.{Doing, DoingAll, Ending, Steps, Then}
 use Rattle.run_steps.specs.Writes.{WritesFor}
 use Rattle.run_steps.proofs.ActLemmas.{appends_nothing}
@@ -58,7 +60,8 @@ use Rattle.batch_commands.specs.declared.batch_line.LineEdit.{LineEdit}
 use Rattle.batch_commands.specs.declared.together.Attempt.{Attempt}
 use Rattle.batch_commands.specs.declared.together.Attempt.TheVariants.{Ended, NotMade}
 use Rattle.batch_commands.specs.declared.together.Edited.{Edited}
-use Rattle.batch_commands.specs.Batch.{LineEditMayRefuse, LineSteps, edit_of, line_uses, met_at, way_behind, way_of}
+use Rattle.batch_commands.specs.Batch.{LineEditMayRefuse, edit_of, line_uses, met_at, way_behind, way_of}
+use Rattle.batch_commands.specs.BatchReading.{LineSteps}
 use Rattle.batch_commands.specs.Together.{IfEnded, IfNotMade, IsEditOf, IsMadeInMemory, IsOfEdit, IsOnlyRead, StandsAlone, memory_seen, refusal_in, replace_cause}
 use Rattle.batch_commands.proofs.OverLemmas.{lines_over}
 use Rattle.batch_commands.proofs.WantingLemmas.{unwritten_both}

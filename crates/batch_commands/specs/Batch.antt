@@ -15,14 +15,10 @@ use Rattle.quota_map.specs.View.{most_blocks, opening_reads, asks_tree}
 use Rattle.set_edit.specs.Editing.{Edit}
 use Rattle.set_edit.specs.Edits.{limits_edit}
 use Rattle.set_edit.specs.declared.limits.Limits.{Limits as FourLimits}
-use Rattle.batch_commands.specs.declared.batch_input.InputFault.{InputFault}
-use Rattle.batch_commands.specs.declared.batch_input.InputFault.TheVariants.{Source, Memory as NoMemory}
 use Rattle.batch_commands.specs.declared.batch_line.FiveWords.{FiveWords}
 use Rattle.batch_commands.specs.declared.batch_line.LineEdit.{LineEdit}
-use Rattle.batch_commands.specs.declared.batch_line.LineRead.{LineRead}
-use Rattle.batch_commands.specs.declared.batch_line.LineRead.TheVariants.{Nothing, Edit as Found, Refused as Faulty}
 use Rattle.refusals.specs.declared.cause.Cause.{Cause}
-use Rattle.refusals.specs.declared.cause.Cause.TheVariants.{Memory, LongLine, TooLarge, BadLine, UnknownName, BadNumber}
+use Rattle.refusals.specs.declared.cause.Cause.TheVariants.{LongLine, TooLarge, BadLine, UnknownName, BadNumber}
 use Rattle.refusals.specs.declared.reason.Refusal.{Refusal}
 use Rattle.command_words.specs.declared.command.Common.{Common}
 use Rattle.run_steps.specs.declared.invocation.Invocation.{Invocation}
@@ -87,12 +83,6 @@ abbrev pub line_asks : List NameLine → List ℕ → ℕ → List ℕ → Outco
 line_asks names place number line =
     if says_nothing line then Passed None else words_ask names place number (five_of (words_of line))
 
--- the answer that says so
-abbrev pub line_outcome : LineRead → Outcome (Option LineEdit)
-line_outcome Nothing = Passed None
-line_outcome (Found edit) = Passed (Some edit)
-line_outcome (Faulty refusal) = Refused refusal
-
 -- What an input says.
 
 -- the edits that an input asks for, in order, up to the first line that is refused, and its refusal
@@ -129,23 +119,6 @@ batch_step names from bytes = Passed (input_asks names (input_name from) bytes)
 abbrev pub is_to_end : Asked → Bool
 is_to_end asked = is_none asked.refusal
 
--- what a line says that was read, or that there is none, and the lines behind it
-abbrev pub read_then : Option LineRead → Asked → Asked
-read_then None more = ends_with None
-read_then (Some read) more = asks_then (line_outcome read) more
-
--- the refusal of a line that was read
-abbrev pub refusal_read : Option LineRead → Option Refusal
-refusal_read None = None
-refusal_read (Some Nothing) = None
-refusal_read (Some (Found edit)) = None
-refusal_read (Some (Faulty refusal)) = Some refusal
-
--- what is said where an input was not read
-abbrev pub input_cause : InputFault → Cause → Cause
-input_cause Source failed = failed
-input_cause NoMemory failed = Memory
-
 -- What edits do.
 
 -- the edit that a line asks for, at a moment
@@ -171,10 +144,6 @@ EditsThen way name now (line ∷ lines) value behind =
     Looking (λ (files : World).
     Then (met_at line.number (edit_step way name (edit_of line now) (files name) value)) (λ (acts : List Act).
     DoingAll acts (EditsThen (way_behind way ((edit_of line now).is_idle value)) name now lines (value_left ((edit_of line now).edited value) value) behind)))
-
--- edits are done, up to one that is refused
-abbrev pub LineSteps : Way → List ℕ → ℕ → List LineEdit → QuotaValue → Steps
-LineSteps way file now edits value = EditsThen way file now edits value None
 
 -- edits are done, up to one that is refused, and then comes the refusal of the line behind them
 abbrev pub Applying : List ℕ → ℕ → QuotaValue → Asked → Steps
@@ -240,12 +209,6 @@ LineMayRefuse names place BadNumber name =
     (identifier_of names name ≡ Refused (refusal_of BadNumber name))
     ⊎ ((blocks : Bool) × (limit_read blocks name ≡ Refused (refusal_of BadNumber name)))
 LineMayRefuse names place _ name = ⊥
-
--- A refusal that a line may have. It stands in no line of a script, and in none of an input unless its cause may stand in one.
-pub record IsOfLine (names : List NameLine) (place : List ℕ) (refusal : Refusal) : Type 0 where
-  pub may : LineMayRefuse names place refusal.cause refusal.name
-  pub line : refusal.place.line ≡ None
-  pub input_line : stands_in_line refusal.cause ≡ false → refusal.place.input_line ≡ None
 
 -- the causes for which an edit of a line may be refused, whatever is told
 abbrev pub LineEditMayRefuse : Option Format → List ℕ → Cause → List ℕ → Type 0

@@ -24,7 +24,8 @@ use Rattle.quota_map.specs.View.{asks_tree}
 use Rattle.run_steps.specs.Run.{IsPlacedBy}
 use Rattle.run_steps.specs.Steps.{Steps}
 use Rattle.run_steps.specs.Writes.{edits_in}
-use Rattle.batch_commands.specs.Batch.{LineSteps, line_uses, may_fill}
+use Rattle.batch_commands.specs.Batch.{line_uses, may_fill}
+use Rattle.batch_commands.specs.BatchReading.{LineSteps}
 use Rattle.batch_commands.specs.declared.batch_line.LineEdit.{LineEdit}
 use Rattle.batch_commands.specs.declared.together.Attempt.{Attempt}
 use Rattle.batch_commands.specs.declared.together.Attempt.TheVariants.{Ended, NotMade}

@@ -1,7 +1,7 @@
 ghost use Rattle.std.specs.Prelude.{ℕ, ◌+◌, ◌*◌, ◌≤◌, Option, None, ◌≡◌, ◌≢◌, Bool, Ok, false, IfErr, IsSome, IsTrue, OnOk, length, is_ok};
 ghost use Rattle.quota_types.specs.declared.file_kind.Format.{Format as FormatOf};
 ghost use Rattle.file_blocks.specs.Block.{file_of};
-ghost use Rattle.outside.specs.Frame.{Syncs};
+ghost use Rattle.outside.specs.ManyCalls.{Syncs};
 ghost use Rattle.quota_value.specs.QuotaValue.{QuotaValue};
 ghost use Rattle.outside.specs.Seen.{LinkSeen, SinkSeen, SourceSeen};
 ghost use Rattle.opened_file.specs.EditsOne.{EditsOne};
@@ -10,10 +10,11 @@ ghost use Rattle.quota_map.specs.View.{IsOpenedAs, IsView, fresh_seen, opening_r
 ghost use Rattle.refusals.specs.declared.cause.Cause.TheVariants.{Memory};
 ghost use Rattle.run_steps.specs.Act.{Together, Way};
 ghost use Rattle.run_steps.specs.Done.{IsUnwritten, RunTells, seen_of, tells_of};
-ghost use Rattle.run_steps.specs.Run.{CarriesOut};
+ghost use Rattle.run_steps.specs.Carrying.{CarriesOut};
 ghost use Rattle.run_steps.specs.Steps.{Opening};
 ghost use Rattle.run_steps.specs.Writes.{ReadsWithin};
-ghost use Rattle.batch_commands.specs.Batch.{BatchMayRefuse, BatchSteps, LineSteps, LineEditMayRefuse, NamedBatchMayRefuse, ReadSteps, batch_reads, batch_uses, input_edits, line_reads, line_uses, way_of};
+ghost use Rattle.batch_commands.specs.Batch.{BatchMayRefuse, BatchSteps, LineEditMayRefuse, NamedBatchMayRefuse, ReadSteps, batch_reads, batch_uses, input_edits, line_reads, line_uses, way_of};
+ghost use Rattle.batch_commands.specs.BatchReading.{LineSteps};
 ghost use Rattle.batch_commands.specs.Together.{HasMade, IfOwn, IfWanting, refusal_in};
 
 use crate::batch_input::{Batch, take_batch};

@@ -2,12 +2,14 @@ ghost use Rattle.std.specs.Prelude.{◌≡◌, ◌≤◌, ◌<◌, ◌-◌, [], 
 ghost use Rattle.outside.specs.Behind.{IsBehind};
 ghost use Rattle.outside.specs.Count.{Rose};
 ghost use Rattle.outside.specs.Frame.{OnlyReads};
-ghost use Rattle.input_text.specs.InputLines.{lines_left};
-ghost use Rattle.input_text.specs.StoreInput.{left_from};
+ghost use Rattle.input_text.specs.LineReading.{lines_left};
+ghost use Rattle.input_text.specs.InputLeft.{left_from};
 ghost use Rattle.outside.specs.Unsynced.{AddsNone};
 ghost use Rattle.refusals.specs.Outcome.{Passed};
-ghost use Rattle.run_steps.specs.Taking.{InputMayRefuse, IsInputFault, Lines, file_said, input_name, input_said};
-ghost use Rattle.batch_commands.specs.Batch.{IsOfLine, batch_step, input_asks, input_cause, lines_ask, read_then, refusal_read};
+ghost use Rattle.run_steps.specs.Taking.{InputMayRefuse, Lines, file_said, input_name, input_said};
+ghost use Rattle.run_steps.specs.Causes.{IsInputFault};
+ghost use Rattle.batch_commands.specs.Batch.{batch_step, input_asks, lines_ask};
+ghost use Rattle.batch_commands.specs.BatchReading.{IsOfLine, input_cause, read_then, refusal_read};
 ghost use Rattle.batch_commands.specs.declared.batch_input.InputFault.TheVariants.{Source as SourceFailed, Memory as NoMemory};
 ghost use Rattle.batch_commands.specs.declared.batch_line.LineRead.TheVariants.{Refused as Faulty};
 ghost use Rattle.refusals.specs.Refusals.{nowhere, refusal_of};

@@ -1,7 +1,8 @@
 ghost use Rattle.std.specs.Prelude.{◌≡◌, map, true, false, IfOk, MatchOption, MatchResult};
 ghost use Rattle.std.specs.Str.{is_utf8};
 ghost use Rattle.input_text.specs.Words.{words_of};
-ghost use Rattle.batch_commands.specs.Batch.{at_line, five_of, limits_asked, line_asks, line_named, line_outcome, read_at};
+ghost use Rattle.batch_commands.specs.Batch.{at_line, five_of, limits_asked, line_asks, line_named, read_at};
+ghost use Rattle.batch_commands.specs.BatchReading.{line_outcome};
 ghost use Rattle.refusals.specs.Outcome.{Passed, Refused};
 
 use id_names::Names;

@@ -1,6 +1,6 @@
 ghost use Rattle.std.specs.Prelude.{◌≡◌, ◌⊎◌, ◌+◌, ◌*◌, ◌<◌, ◌≤◌, ◌^◌, ℕ, Bool, true, Option, None, Some, IfErr, IfOk, IfSome, IsErrAnd, IsSome, IsTrue, List, Ok, OnOk, false, length, is_ok};
 ghost use Rattle.std.specs.Option.{option_map};
-ghost use Rattle.outside.specs.Frame.{Syncs};
+ghost use Rattle.outside.specs.ManyCalls.{Syncs};
 ghost use Rattle.outside.specs.Replacement.{ReplacesOnly, replacement_name};
 ghost use Rattle.file_blocks.specs.Block.{file_of};
 ghost use Rattle.opened_file.specs.Load.{IsLoadFault};
@@ -12,8 +12,9 @@ ghost use Rattle.quota_types.specs.declared.file_kind.Format.{Format as FormatOf
 ghost use Rattle.refusals.specs.Status.{status_of};
 ghost use Rattle.run_steps.specs.Act.{Together};
 ghost use Rattle.run_steps.specs.Done.{IsUnwritten, seen_of, tells_of};
-ghost use Rattle.run_steps.specs.Run.{CarriesOut};
-ghost use Rattle.batch_commands.specs.Batch.{LineEditMayRefuse, LineSteps, line_uses, way_of, whole_reads};
+ghost use Rattle.run_steps.specs.Carrying.{CarriesOut};
+ghost use Rattle.batch_commands.specs.Batch.{LineEditMayRefuse, line_uses, way_of, whole_reads};
+ghost use Rattle.batch_commands.specs.BatchReading.{LineSteps};
 ghost use Rattle.batch_commands.specs.Together.{AreNeverDone, AreNotTogether, HasBytes, IfEnded, IfNotMade, IfWanting, IsEditOf, IsMadeInMemory, IsOnlyRead, IsWithin, MayPay, ReadsWhole, StandsAlone, is_of_call, refusal_in, replace_cause};
 
 use crate::batch::{EditedLines, edit_all};

@@ -2,9 +2,9 @@
 use Rattle.std.proofs.Common.{◌≡◌, ◌≢◌, ◌∙◌, ℕ, ◌≤◌, ◌+◌, Bool, true, false, IsTrue, List, [], ◌∷◌, Option, None, Some, Ok, Err, Result, is_ok, inl, inr, refl, sym, subst, arith}
 use Rattle.std.specs.Prelude.{IfErr, IfSome, IsErr, IsErrAnd, OnErr, OnOk, ◌↔◌}
 use Rattle.std.proofs.lemmas.Bool.{false≢true}
-use Rattle.outside.specs.Frame.{Syncs}
+use Rattle.outside.specs.ManyCalls.{Syncs}
 use Rattle.outside.proofs.FrameLemmas.{syncs-none}
-use Rattle.run_steps.specs.Run.{CarriesOut}
+use Rattle.run_steps.specs.Carrying.{CarriesOut}
 use Rattle.quota_types.specs.declared.file_kind.Format.{Format}
 use Rattle.quota_types.specs.declared.file_kind.Kind.{Kind}
 use Rattle.quota_value.specs.QuotaValue.{QuotaValue}
@@ -48,7 +48,8 @@ use Rattle.serve_command.specs.Serve.{ServeMayRefuse}
 use Rattle.serve_steps.specs.Exporting.{ExportingMayRefuse}
 use Rattle.serve_command.specs.Words.{CanServe}
 use Rattle.serve_command.proofs.WordLemmas.{asked_serves}
-use Rattle.command_table.specs.Description.{ChangesWithin, Description, IsCarriedOut, IsLeftByEdit}
+use Rattle.command_table.specs.Description.{ChangesWithin, Description, IsLeftByEdit}
+use Rattle.command_table.specs.CarriedOut.{IsCarriedOut}
 use Rattle.command_table.specs.Table.{asked_by, described, not_here, refused, unknown_command}
 
 -- No command that was read is refused for its words.

@@ -1,20 +1,15 @@
 -- What is said of a command, and what all that carry one out keep to.
-use Rattle.std.specs.Prelude.{◌≡◌, ◌≢◌, ◌≤◌, ◌⊎◌, ◌+◌, ℕ, Bool, false, None, IsTrue, IfErr, IfSome, OnErr, OnOk, List, Option, Result, is_ok}
-use Rattle.std.specs.Result.{result_err}
-use Rattle.outside.specs.Frame.{Syncs}
+use Rattle.std.specs.Prelude.{◌≡◌, ◌≢◌, ◌≤◌, ◌⊎◌, ◌+◌, ℕ, Bool, IfSome, List, Option}
 use Rattle.outside.specs.Replacement.{ReplacesOnly}
 use Rattle.outside.specs.Seen.{StoreSeen}
 use Rattle.outside.specs.World.{KeepsOthers, World}
 use Rattle.refusals.specs.declared.cause.Cause.{Cause}
-use Rattle.refusals.specs.declared.cause.Cause.TheVariants.{LinkFault, Memory}
 use Rattle.refusals.specs.declared.reason.Refusal.{Refusal}
-use Rattle.refusals.specs.Status.{status_of}
 use Rattle.quota_value.specs.QuotaValue.{QuotaValue}
 use Rattle.run_steps.specs.Act.{MayBeLeft}
-use Rattle.run_steps.specs.Done.{IsUnwritten, IsWorldTold, Outside, RunSeen, RunTells, outside_of}
-use Rattle.run_steps.specs.Run.{CarriesOut, Uses}
+use Rattle.run_steps.specs.Done.{Outside, RunSeen, RunTells}
+use Rattle.run_steps.specs.Run.{Uses}
 use Rattle.run_steps.specs.Steps.{Steps}
-use Rattle.run_steps.specs.Writes.{ReadsWithin}
 use Rattle.run_steps.specs.declared.invocation.Invocation.{Invocation}
 
 -- a command of these uses comes to use the link where it uses it, whatever the input says and whichever its refusal is
@@ -67,10 +62,6 @@ pub record IsOnlyRead (old new : RunSeen) : Type 0 where
   pub err : new.err ≡ old.err
   pub link : new.link ≡ old.link
 
--- a cause is a fault of something outside, or lack of memory
-abbrev pub StopsIt : Cause → Type 0
-StopsIt cause = (status_of cause ≡ 4) ⊎ (status_of cause ≡ 5)
-
 -- What holds of a file that is edited, by the status at the end. With status 0 this says nothing. With any other one the file is as it
 -- was, or, where that is 4 and something outside failed, what an edit of it to some value that failed may leave.
 abbrev pub IsLeftByEdit : (status : ℕ) (old new : World) → List ℕ → Type 0
@@ -83,24 +74,3 @@ pub record ChangesWithin (command : Description) (old new : StoreSeen) : Type 0 
   pub alone : IfSome command.alone (λ (file : List ℕ). KeepsOthers file old.files new.files)
   pub anew : IfSome command.anew (λ (file : List ℕ). ReplacesOnly file old.files new.files)
   pub few : IfSome command.most_writes (λ (most : ℕ). new.writes ≤ old.writes + most)
-
--- A command was carried out but for its error line. Where it was refused, for whichever cause, a file that it replaces as a whole
--- is as it was, and one that it edits is as an edit leaves it by the status of that cause; and nothing was written where there was not
--- enough memory, where its description says so. What was written has been synced where it was
--- done, and where it was refused too, unless a call on the store failed. The link is said to have failed only where not all was done with
--- it; where memory ran out, a command that reads no commands did nothing with it; and a command that did not come to use it left it as it
--- was. Where commands were to be read, and what stopped that names no line, nothing was done but that the input was read.
-pub record IsCarriedOut (command : Description) (invocation : Invocation) (tells : RunTells) (old new : RunSeen) (result : Result (Unit {0}) Refusal) : Type 0 where
-  pub carries : CarriesOut (command.steps invocation) command.uses command.may tells old new result
-  pub named : IfSome command.replaces (λ (file : List ℕ). OnErr result (IsTrue tells.store → new.store.files file ≡ old.store.files file))
-  pub edited : IfSome command.edits (λ (file : List ℕ). IfErr result (λ (refusal : Refusal). IsTrue tells.store
-      → IsLeftByEdit (status_of refusal.cause) old.store.files new.store.files file))
-  pub unwritten : IsTrue command.unwritten → IfErr result (λ (refusal : Refusal). refusal.cause ≡ Memory → IsUnwritten old.store new.store)
-  pub within : ChangesWithin command old.store new.store
-  pub reads : OnOk result (IsWorldTold tells → ReadsWithin (command.most_reads (outside_of old)) old.store new.store)
-  pub made : OnOk result (IsTrue tells.store → command.made invocation (outside_of old) new.store.files)
-  pub synced : IsTrue tells.store → Syncs (is_ok result) old.store new.store
-  pub unfinished : IfErr result (λ (refusal : Refusal). refusal.cause ≡ LinkFault → command.unfinished invocation tells old new)
-  pub untaken : command.uses.reads_commands ≡ false → IfErr result (λ (refusal : Refusal). status_of refusal.cause ≡ 5 → new.link ≡ old.link)
-  pub unbegun : IsTrue command.uses.reads_commands → IfErr result (λ (refusal : Refusal). StopsIt refusal.cause → refusal.place.line ≡ None → IsOnlyRead old new)
-  pub unlinked : IsTrue tells.input → command.links old.input.left (result_err result) ≡ false → new.link ≡ old.link

@@ -1,3 +1,4 @@
+pub mod CarriedOut
 pub mod Conditions
 pub mod Description
 pub mod Table

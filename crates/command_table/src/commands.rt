@@ -1,7 +1,7 @@
 //! The commands, behind one contract that all of them share.
 ghost use Rattle.std.specs.Prelude.{◌≡◌, false, Some, Err};
 ghost use Rattle.run_steps.specs.Done.{seen_of, tells_of};
-ghost use Rattle.command_table.specs.Description.{IsCarriedOut};
+ghost use Rattle.command_table.specs.CarriedOut.{IsCarriedOut};
 ghost use Rattle.command_table.specs.Table.{described};
 ghost use Rattle.refusals.specs.declared.reason.Refusal.{Refusal};
 

@@ -1,5 +1,5 @@
 ghost use Rattle.std.specs.Prelude.{◌≡◌, ◌≢◌, IfErr, IsTrue, OnErr, OnOk, false};
-ghost use Rattle.outside.specs.Frame.{Syncs};
+ghost use Rattle.outside.specs.ManyCalls.{Syncs};
 ghost use Rattle.outside.specs.Replacement.{replacement_name};
 ghost use Rattle.outside.specs.World.{KeepsOthers};
 ghost use Rattle.convert.specs.Convert.{IsConvertFault, IsMade, UnlessMaking, asked_for};

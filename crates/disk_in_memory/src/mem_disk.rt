@@ -1,6 +1,7 @@
 ghost use Rattle.std.specs.Prelude.{◌≡◌, ◌≢◌, ◌≤◌, ◌^◌, ◌↔◌, [], None, Some, length, take, drop, true, false, IsErr, IsSome, IsTrue, IfOk, OnOk, OnErr, is_ok};
 ghost use Rattle.std.specs.Option.{option_map};
-ghost use Rattle.disk.specs.DiskSeen.{AllowsStep, ChangesNothing, Follows, IsFresh, IsKept, TakesStep};
+ghost use Rattle.disk.specs.DiskSeen.{ChangesNothing, Follows, IsKept, TakesStep};
+ghost use Rattle.disk.specs.DiskLaws.{AllowsStep, IsFresh};
 ghost use Rattle.disk_in_memory.specs.MemDisk.{HasStopped, IsToFail, half_left_of, mem_disk_plan, mem_disk_seen};
 ghost use Rattle.disk.specs.Steps.{CutsShort, IsRenamed, MayBeRenamed, Shortens, TearsRange, with_cut};
 ghost use Rattle.memory_objects.specs.MemStore.{HaveDistinctNames, file_named};

@@ -1,7 +1,8 @@
 ghost use Rattle.std.specs.Prelude.{◌≡◌, ◌≢◌, ◌+◌, ◌<◌, ◌≤◌, ◌^◌, ◌∷◌, ℕ, List, [], None, Some, length, reverse, true, false, is_some, IfOk, IsSome, OnOk, OnErr};
 ghost use Rattle.std.specs.Option.{option_copied};
 ghost use Rattle.disk_in_memory.specs.Calls.{MayMake, after_call, half_left, read_after};
-ghost use Rattle.disk.specs.DiskSeen.{AllowsStep, ChangesNothing, Follows, IsKept, TakesStep};
+ghost use Rattle.disk.specs.DiskSeen.{ChangesNothing, Follows, IsKept, TakesStep};
+ghost use Rattle.disk.specs.DiskLaws.{AllowsStep};
 ghost use Rattle.disk_in_memory.specs.Recorded.{first_named};
 ghost use Rattle.disk_in_memory.specs.Unsynced.{handed_where, unsynced_after, unsynced_by};
 ghost use Rattle.disk.specs.Steps.{CutsShort, IsRenamed, MayBeRenamed, Shortens, TearsRange, with_cut};

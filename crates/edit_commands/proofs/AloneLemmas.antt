@@ -1,7 +1,7 @@
 -- That no file but the named one changes, and by how few calls of `write`.
 use Rattle.std.proofs.Common.{◌≡◌, ℕ, Bool, List, Result, refl, ap, arith}
 use Rattle.outside.specs.Frame.{OnlyReads}
-use Rattle.opened_file.specs.QuotaFile.{FileSeen}
+use Rattle.opened_file.specs.FileSeen.{FileSeen}
 use Rattle.outside.specs.Seen.{StoreSeen}
 use Rattle.outside.specs.World.{KeepsOthers}
 use Rattle.outside.proofs.FrameLemmas.{keeps_others-then}
@@ -11,7 +11,7 @@ use Rattle.quota_map.specs.View.{fresh_seen}
 use Rattle.quota_map.specs.declared.any_file.AnyFile.{AnyFile}
 use Rattle.set_edit.specs.Editing.{Edit}
 use Rattle.set_edit.specs.declared.fault.EditFault.{EditFault}
-use Rattle.run_steps.specs.Writes.{EditsAlone}
+use Rattle.run_steps.specs.Carrying.{EditsAlone}
 use Rattle.edit_steps.proofs.EditFileLemmas.{AnyEdits, few_writes}
 use Rattle.edit_steps.proofs.AloneLemmas.{others-read}
 

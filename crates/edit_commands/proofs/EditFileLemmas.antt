@@ -25,8 +25,9 @@ use Rattle.set_edit.specs.declared.skipped.Skipped.{Skipped}
 use Rattle.refusals.specs.declared.cause.Cause.{Cause}
 use Rattle.run_steps.specs.Opening.{MayRefuseOpening}
 use Rattle.edit_steps.specs.EditStep.{ChangeMayRefuse, edit_cause}
-use Rattle.edit_commands.specs.Edits.{FileEditMayRefuse, IsLeftFor, unskipped}
-use Rattle.edit_commands.specs.EditWords.{MaySkip, edit_meant, edit_warns, skips_none}
+use Rattle.edit_commands.specs.Edits.{FileEditMayRefuse}
+use Rattle.edit_commands.specs.EditsInPart.{IsLeftFor, unskipped, MaySkip}
+use Rattle.edit_commands.specs.EditWords.{edit_meant, edit_warns, skips_none}
 use Rattle.edit_steps.proofs.LimitsLemmas.{fits_field, kept_field}
 use Rattle.edit_steps.proofs.EditFileLemmas.{KeepsFormat, AnyEdits, while_usable, read_named, any_left, limits_keep_format}
 

@@ -13,11 +13,13 @@ use Rattle.refusals.specs.declared.cause.Cause.TheVariants.{SinkFault}
 use Rattle.refusals.specs.Refusals.{refusal_of}
 use Rattle.refusals.specs.Outcome.{Outcome}
 use Rattle.run_steps.specs.Act.{Act, Follows, ToErr, answers, err_bytes, out_bytes, started_by, InPlace}
-use Rattle.run_steps.specs.Done.{AreDone, AreDoneInPart, RunSeen, RunTells}
-use Rattle.run_steps.specs.Run.{CarriesOut, FailsAtHand, HasSteps, IsDoneInPart}
+use Rattle.run_steps.specs.Done.{AreDone, RunSeen, RunTells}
+use Rattle.run_steps.specs.Carrying.{AreDoneInPart, CarriesOut}
+use Rattle.run_steps.specs.Run.{FailsAtHand, HasSteps, IsDoneInPart}
 use Rattle.run_steps.specs.Steps.{DoingAll, Finish, Steps, Then}
 use Rattle.run_steps.specs.Changing.{edit_uses}
-use Rattle.edit_commands.specs.Edits.{IsSaidInPart, said_acts}
+use Rattle.edit_commands.specs.Edits.{said_acts}
+use Rattle.edit_commands.specs.EditsInPart.{IsSaidInPart}
 use Rattle.edit_steps.specs.EditStep.{edit_step}
 use Rattle.run_steps.proofs.ActLemmas.{answers-append, appends_nothing, err_bytes-append, follows-append, none_in_part, out_bytes-append, started_by-append}
 use Rattle.run_steps.proofs.DoingLemmas.{AreWritten, done_steps}

@@ -2,13 +2,13 @@
 use Rattle.std.proofs.Common.{◌≡◌, ℕ, Bool, IsTrue, List, [], None, Some, Result, refl, sym, ap, subst}
 use Rattle.outside.specs.Count.{Rose}
 use Rattle.input_text.specs.declared.line_reader.LineFault.TheVariants.{Source}
-use Rattle.set_edit.specs.FormReading.{IsFormFault}
+use Rattle.set_edit.specs.FormFaults.{IsFormFault}
 use Rattle.set_edit.specs.declared.form_reading.FormFault.{FormFault}
 use Rattle.set_edit.specs.declared.form_reading.FormFault.TheVariants.{Lines}
 use Rattle.set_edit.specs.declared.limits.Limits.{Limits as FourLimits}
 use Rattle.refusals.specs.declared.cause.Cause.TheVariants.{StoreFault, SourceFault}
 use Rattle.refusals.specs.declared.reason.Refusal.{Refusal}
-use Rattle.run_steps.specs.Taking.{IsInputFault}
+use Rattle.run_steps.specs.Causes.{IsInputFault}
 use Rattle.edit_commands.specs.Apply.{FormMayRefuse, form_cause, form_outcome}
 use Rattle.refusals.specs.Refusals.{refusal_of}
 

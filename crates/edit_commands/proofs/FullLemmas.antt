@@ -26,7 +26,8 @@ use Rattle.run_steps.specs.Done.{Outside}
 use Rattle.run_steps.specs.Meaning.{EndsBy}
 use Rattle.run_steps.specs.Naming.{names_seen}
 use Rattle.run_steps.specs.Numbers.{identifier_of}
-use Rattle.run_steps.specs.Steps.{AreDoneThen, Then}
+use Rattle.run_steps.specs.Steps.{Then}
+use Rattle.run_steps.specs.Carrying.{AreDoneThen}
 use Rattle.run_steps.specs.Taking.{input_name}
 use Rattle.run_steps.specs.declared.invocation.Invocation.{Invocation}
 use Rattle.run_steps.proofs.DoingLemmas.{doing_ends}

@@ -2,11 +2,12 @@
 use Rattle.std.proofs.Common.{◌≡◌, ℕ, Bool, false, List, Ok, sym, ap, subst, ◌∙◌}
 use Rattle.id_names.specs.NamesFile.{NameLine}
 use Rattle.quota_types.specs.declared.file_kind.Format.{Format}
-use Rattle.opened_file.specs.QuotaFile.{FileSeen}
+use Rattle.opened_file.specs.FileSeen.{FileSeen}
 use Rattle.quota_value.specs.QuotaValue.{QuotaValue}
 use Rattle.outside.specs.Seen.{StoreSeen}
 use Rattle.outside.specs.World.{World}
-use Rattle.quota_map.specs.AnyFile.{AnyMakes, HoldsAny, any_seen}
+use Rattle.quota_map.specs.AnyFile.{HoldsAny, any_seen}
+use Rattle.quota_map.specs.AnyChange.{AnyMakes}
 use Rattle.quota_map.specs.View.{fresh_seen}
 use Rattle.quota_map.specs.declared.any_file.AnyFile.{AnyFile}
 use Rattle.quota_map.proofs.LeftLemmas.{held_format}

@@ -10,10 +10,11 @@ use Rattle.refusals.specs.Refusals.{refusal_of}
 use Rattle.run_steps.specs.Act.{Act, InPlace}
 use Rattle.run_steps.specs.Done.{RunSeen, RunTells, outside_of}
 use Rattle.run_steps.specs.Meaning.{EndsBy}
-use Rattle.run_steps.specs.Run.{CarriesOut}
+use Rattle.run_steps.specs.Carrying.{CarriesOut}
 use Rattle.run_steps.specs.Steps.{DoingAll, Finish}
 use Rattle.run_steps.specs.Changing.{edit_uses}
-use Rattle.edit_commands.specs.Edits.{IsLeftFor, said_acts}
+use Rattle.edit_commands.specs.Edits.{said_acts}
+use Rattle.edit_commands.specs.EditsInPart.{IsLeftFor}
 use Rattle.edit_steps.specs.EditStep.{edit_cause, edit_step}
 use Rattle.run_steps.proofs.OpeningLemmas.{refused_steps, unwritten, with_store}
 use Rattle.run_steps.proofs.ReasonLemmas.{reason_but_stated}

@@ -2,7 +2,7 @@
 use Rattle.std.proofs.Common.{◌≡◌, ℕ, List, [], ◌∷◌, ◌++◌, refl, sym, ap, subst, ◌∙◌, append-nil, append_assoc}
 use Rattle.std.specs.List.{concat}
 use Rattle.outside.specs.Text.{AppendsPrefix}
-use Rattle.edit_commands.specs.Edits.{IsSaidInPart}
+use Rattle.edit_commands.specs.EditsInPart.{IsSaidInPart}
 
 pub concat_append : (lines more : List (List ℕ)) → concat (lines ++ more) ≡ concat lines ++ concat more
 concat_append [] more = refl

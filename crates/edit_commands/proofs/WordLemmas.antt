@@ -19,7 +19,8 @@ use Rattle.refusals.specs.Refusals.{nowhere, refusal_of}
 use Rattle.refusals.specs.Status.{status_of}
 use Rattle.run_steps.specs.Done.{RunSeen, RunTells}
 use Rattle.refusals.specs.Outcome.{Outcome, Passed, Refused, and_then, refusal_in}
-use Rattle.run_steps.specs.Run.{CarriesOut, HasReason, Uses}
+use Rattle.run_steps.specs.Run.{HasReason, Uses}
+use Rattle.run_steps.specs.Carrying.{CarriesOut}
 use Rattle.run_steps.specs.Steps.{Steps, Then}
 use Rattle.run_steps.specs.Naming.{MayBeNames}
 use Rattle.edit_commands.specs.EditWords.{edit_read, edit_warns, words_warn}

@@ -1,5 +1,5 @@
 -- What the words of an edit ask for. Source: the manual page of setquota.
-use Rattle.std.specs.Prelude.{◌≡◌, ℕ, Bool, true, false, List, Option, None, ⊤}
+use Rattle.std.specs.Prelude.{ℕ, Bool, true, false, List, Option, None}
 use Rattle.id_names.specs.NamesFile.{NameLine}
 use Rattle.quota_types.specs.declared.record.Grace.{Grace}
 use Rattle.quota_value.specs.QuotaValue.{QuotaValue}
@@ -55,11 +55,6 @@ skips_none = record { block = false; inode = false }
 abbrev pub skipped_by : FileEdit → QuotaValue → Skipped
 skipped_by (Times id block inode) value = times_skipped (record_in value id)
 skipped_by _ value = skips_none
-
--- times that an edit may skip, whatever is told: only one that sets times skips some
-abbrev pub MaySkip : FileEdit → Skipped → Type 0
-MaySkip (Times id block inode) skipped = ⊤
-MaySkip _ skipped = skipped ≡ skips_none
 
 -- an edit that words ask for may skip times, of which it then warns
 abbrev pub words_warn : EditWords → Bool

@@ -1,12 +1,9 @@
 -- Commands that edit a file: new limits, those of another identifier, new grace periods, and new times. Source: the manual
 -- page of setquota; that the words are read from left to right, all before the file is opened, is this project's own.
-use Rattle.std.specs.Prelude.{◌≡◌, ◌⊎◌, ℕ, IsTrue, Bool, if◌then◌else◌, List, [], ◌∷◌, ◌++◌, map, codes, Option, None, is_none, Result, Ok, Err}
-use Rattle.std.specs.List.{concat}
+use Rattle.std.specs.Prelude.{◌≡◌, ◌⊎◌, ℕ, IsTrue, Bool, if◌then◌else◌, List, [], ◌∷◌, ◌++◌, map, codes, Option, None, is_none}
 use Rattle.id_names.specs.NamesFile.{NameLine}
 use Rattle.quota_value.specs.QuotaValue.{QuotaValue}
-use Rattle.outside.specs.Text.{AppendsPrefix}
 use Rattle.outside.specs.World.{World}
-use Rattle.set_edit.specs.declared.fault.EditFault.{EditFault}
 use Rattle.set_edit.specs.declared.skipped.Skipped.{Skipped}
 use Rattle.quota_types.specs.declared.file_kind.Format.{Format}
 use Rattle.quota_types.specs.declared.file_kind.Kind.{Kind}
@@ -16,16 +13,15 @@ use Rattle.refusals.specs.declared.reason.Refusal.{Refusal}
 use Rattle.command_words.specs.declared.command.Common.{Common}
 use Rattle.edit_commands.specs.declared.edit.EditWords.{EditWords}
 use Rattle.edit_commands.specs.declared.edit.FileEdit.{FileEdit}
-use Rattle.run_steps.specs.Act.{Act, InPlace, MayBeLeft, ToErr}
+use Rattle.run_steps.specs.Act.{Act, InPlace, ToErr}
 use Rattle.run_steps.specs.Naming.{MayBeNames, NamesMayRefuse}
 use Rattle.run_steps.specs.Opening.{MayRefuseOpening}
 use Rattle.refusals.specs.Outcome.{Passed, Refused, refusal_in}
 use Rattle.refusals.specs.Line.{front_of}
 use Rattle.refusals.specs.Refusals.{refusal_of}
-use Rattle.refusals.specs.Status.{status_of}
 use Rattle.run_steps.specs.Steps.{DoingAll, Finish, Looking, Naming, Opening, Steps, Then}
 use Rattle.run_steps.specs.declared.invocation.Invocation.{Invocation}
-use Rattle.edit_commands.specs.EditWords.{edit_meant, edit_read, edit_warns, names_wanted, skipped_by, skips_none}
+use Rattle.edit_commands.specs.EditWords.{edit_meant, edit_read, edit_warns, names_wanted, skipped_by}
 use Rattle.edit_steps.specs.EditStep.{edit_step, ChangeMayRefuse}
 
 -- The warnings.
@@ -48,16 +44,6 @@ warnings line skipped =
 abbrev pub said_acts : List (List ℕ) → List Act
 said_acts lines = map ToErr lines
 
--- Lines were said up to one of them, of which a prefix may have been said too.
-pub record IsSaidInPart (lines : List (List ℕ)) (old new : List ℕ) : Type 0 where
-  pub said : List (List ℕ)
-  pub unsaid : List (List ℕ)
-  pub whole : lines ≡ said ++ unsaid
-  pub line : List ℕ
-  pub more : List (List ℕ)
-  pub next : unsaid ≡ line ∷ more
-  pub written : AppendsPrefix (old ++ concat said) new line
-
 -- The steps.
 
 -- the file is opened and edited as it is then, and what was skipped is warned of
@@ -79,11 +65,6 @@ EditSteps common words file invocation =
 abbrev pub faulty_edit : Common → EditWords → Option Refusal
 faulty_edit common words = if is_none (names_wanted words common.names) then refusal_in (edit_read [] words) else None
 
--- What holds of a file whose edit was refused for this cause: it is as it was, or, where something outside failed, what an edit of it
--- to some value that failed may leave.
-abbrev pub IsLeftFor : Cause → (old left : Option (List ℕ)) → Type 0
-IsLeftFor cause old left = (left ≡ old) ⊎ ((status_of cause ≡ 4) × ((value : QuotaValue) × MayBeLeft value old left))
-
 -- the causes for which the edit of a file may be refused, whatever is told
 abbrev pub FileEditMayRefuse : Option Format → FileEdit → List ℕ → Cause → List ℕ → Type 0
 FileEditMayRefuse asked edit file cause name =
@@ -102,8 +83,3 @@ abbrev pub EditMayRefuse : Common → EditWords → List ℕ → Cause → List 
 EditMayRefuse common words file cause name =
     NamesMayRefuse (names_wanted words common.names) cause name
     ⊎ ((names : List NameLine) × MayBeNames (names_wanted words common.names) names × NamedEditMayRefuse common.format words file names cause name)
-
--- the answer of an edit that skips no time
-abbrev pub unskipped : Result (Unit {0}) EditFault → Result Skipped EditFault
-unskipped (Ok done) = Ok skips_none
-unskipped (Err fault) = Err fault

@@ -1,6 +1,7 @@
 pub mod Apply
 pub mod EditWords
 pub mod Edits
+pub mod EditsInPart
 pub mod Made
 pub mod Print
 pub mod Room

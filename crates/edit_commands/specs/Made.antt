@@ -5,7 +5,7 @@ use Rattle.quota_types.specs.declared.file_kind.Format.{Format}
 use Rattle.quota_types.specs.declared.file_kind.Kind.{Kind}
 use Rattle.quota_value.specs.QuotaValue.{QuotaValue}
 use Rattle.outside.specs.World.{World}
-use Rattle.quota_map.specs.AnyFile.{AnyMakes}
+use Rattle.quota_map.specs.AnyChange.{AnyMakes}
 use Rattle.quota_map.specs.View.{IsView, fresh_seen}
 use Rattle.set_edit.specs.Editing.{Edit}
 use Rattle.refusals.specs.Outcome.{Passed}

@@ -1,14 +1,13 @@
 ghost use Rattle.std.specs.Prelude.{ℕ, Option, ◌≡◌, Bool, false, Err, IfErr, IsSome, IsTrue, Some, is_ok};
-ghost use Rattle.outside.specs.Frame.{Syncs};
+ghost use Rattle.outside.specs.ManyCalls.{Syncs};
 ghost use Rattle.outside.specs.Seen.{LinkSeen, SinkSeen};
 ghost use Rattle.refusals.specs.declared.reason.Refusal.{Refusal};
 ghost use Rattle.run_steps.specs.Done.{seen_of, tells_of};
 ghost use Rattle.refusals.specs.Outcome.{refusal_in};
-ghost use Rattle.run_steps.specs.Run.{CarriesOut};
+ghost use Rattle.run_steps.specs.Carrying.{CarriesOut, EditsAlone};
 ghost use Rattle.run_steps.specs.Steps.{Then};
-ghost use Rattle.run_steps.specs.Writes.{EditsAlone};
 ghost use Rattle.edit_commands.specs.Apply.{ApplyMayRefuse, ApplySteps, FormEditMayRefuse, FormSteps, NamedApplyMayRefuse, apply_uses};
-ghost use Rattle.edit_commands.specs.Edits.{IsLeftFor};
+ghost use Rattle.edit_commands.specs.EditsInPart.{IsLeftFor};
 ghost use Rattle.edit_commands.specs.Print.{faulty_print};
 ghost use Rattle.run_steps.specs.Numbers.{identifier_of};
 

@@ -1,20 +1,20 @@
 ghost use Rattle.std.specs.Prelude.{Option, ◌≡◌, Bool, Err, IfErr, IfOk, IsTrue, OnOk, Some, false, is_ok};
-ghost use Rattle.outside.specs.Frame.{Syncs};
+ghost use Rattle.outside.specs.ManyCalls.{Syncs};
 ghost use Rattle.quota_value.specs.QuotaValue.{QuotaValue};
 ghost use Rattle.outside.specs.Seen.{LinkSeen, SinkSeen, SourceSeen};
 ghost use Rattle.quota_map.specs.AnyFile.{any_at, any_laws};
-ghost use Rattle.set_edit.specs.Editing.{Edits};
+ghost use Rattle.set_edit.specs.EditCalls.{Edits};
 ghost use Rattle.refusals.specs.declared.reason.Refusal.{Refusal};
 ghost use Rattle.run_steps.specs.Done.{seen_of, tells_of};
 ghost use Rattle.refusals.specs.Outcome.{refusal_in};
-ghost use Rattle.run_steps.specs.Run.{CarriesOut};
+ghost use Rattle.run_steps.specs.Carrying.{CarriesOut, EditsAlone};
 ghost use Rattle.run_steps.specs.Steps.{Then};
-ghost use Rattle.run_steps.specs.Writes.{EditsAlone};
-ghost use Rattle.edit_commands.specs.Edits.{EditMayRefuse, EditSteps, FileEditMayRefuse, FileEditSteps, IsLeftFor, NamedEditMayRefuse, faulty_edit, unskipped};
+ghost use Rattle.edit_commands.specs.Edits.{EditMayRefuse, EditSteps, FileEditMayRefuse, FileEditSteps, NamedEditMayRefuse, faulty_edit};
+ghost use Rattle.edit_commands.specs.EditsInPart.{IsLeftFor, unskipped, MaySkip};
 ghost use Rattle.run_steps.specs.Changing.{edit_uses};
 ghost use Rattle.edit_commands.specs.declared.edit.FileEdit.{FileEdit as FileEditOf};
 ghost use Rattle.edit_commands.specs.Made.{MakesEdit, MakesNamed, MakesWords};
-ghost use Rattle.edit_commands.specs.EditWords.{MaySkip, edit_meant, edit_read, edit_warns, skipped_by, words_warn};
+ghost use Rattle.edit_commands.specs.EditWords.{edit_meant, edit_read, edit_warns, skipped_by, words_warn};
 
 use crate::EditWords;
 use crate::edit::FileEdit;

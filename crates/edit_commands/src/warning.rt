@@ -2,7 +2,8 @@ ghost use Rattle.std.specs.Prelude.{◌≡◌, ◌≢◌, ◌≤◌, ◌++◌, I
 ghost use Rattle.std.specs.List.{concat};
 ghost use Rattle.outside.specs.Count.{Rose};
 ghost use Rattle.outside.specs.Text.{AppendsPrefix};
-ghost use Rattle.edit_commands.specs.Edits.{IsSaidInPart, warning_if, warning_line, warnings};
+ghost use Rattle.edit_commands.specs.Edits.{warning_if, warning_line, warnings};
+ghost use Rattle.edit_commands.specs.EditsInPart.{IsSaidInPart};
 ghost use Rattle.edit_commands.specs.EditWords.{skips_none};
 
 use outside::{Sink, SinkFault};

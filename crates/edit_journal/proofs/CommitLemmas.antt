@@ -7,8 +7,9 @@ use Rattle.disk.specs.Steps.{IsOutside, TearsRange, Torn}
 use Rattle.disk.proofs.StopLemmas.{only_leaves-passes, only_leaves-then, only_leaves-wider}
 use Rattle.quota_types.specs.Bytes.{byte_at}
 use Rattle.edit_journal.specs.Settled.{IsSettled, RecoversTo, RecoversToEither, TearsFrom, TearsRanges}
-use Rattle.edit_journal.specs.Spans.{IsOutsideAll, Span}
-use Rattle.edit_journal.specs.Undo.{IsClosed, Saves, recovered}
+use Rattle.edit_journal.specs.Spans.{Span}
+use Rattle.edit_journal.specs.UndoSaves.{IsOutsideAll, IsClosed, Saves}
+use Rattle.edit_journal.specs.Undo.{recovered}
 use Rattle.edit_journal.proofs.LaidLemmas.{get_or-overwritten_inside}
 use Rattle.edit_journal.proofs.RecoveredLemmas.{recovered-closed, recovered-saved}
 use Rattle.edit_journal.proofs.SavedLemmas.{saves-same}

@@ -6,7 +6,7 @@ use Rattle.disk.specs.Steps.{TearsRange}
 use Rattle.disk.proofs.StopLemmas.{only_leaves-wider}
 use Rattle.edit_journal.specs.Settled.{IsSettled, RecoversTo, RecoversToEither, TearsFrom, TearsRanges}
 use Rattle.edit_journal.specs.Spans.{Span, laid}
-use Rattle.edit_journal.specs.Undo.{Saves}
+use Rattle.edit_journal.specs.UndoSaves.{Saves}
 use Rattle.edit_journal.proofs.CommitLemmas.{IsNow, IsOpened, IsSaving, each-opened, each-saved, each-written, only-gate, only-open, only-save, only-then, only-write, settled-closed, torn-written}
 
 -- what is read is an image, and a stop now leaves one

@@ -7,7 +7,8 @@ use Rattle.disk.specs.Steps.{IsOutside, Torn}
 use Rattle.quota_types.specs.Bytes.{byte_at, number_at}
 use Rattle.quota_types.proofs.BytesLemmas.{number_same}
 use Rattle.edit_journal.specs.Spans.{Span, laid}
-use Rattle.edit_journal.specs.Undo.{HoldsItsRanges, bytes_at, is_usable, range_at, recovered, saved_span, saved_spans, spans_fit}
+use Rattle.edit_journal.specs.Undo.{bytes_at, is_usable, range_at, recovered, saved_span, saved_spans, spans_fit}
+use Rattle.edit_journal.specs.UndoSaves.{HoldsItsRanges}
 use Rattle.edit_journal.proofs.RecoveredLemmas.{recovered-closed}
 use Rattle.edit_journal.proofs.SavedLemmas.{bytes_at-same}
 

@@ -5,7 +5,8 @@ use Rattle.std.proofs.lemmas.List.{get_or-append_right, get_or_append_left, get_
 use Rattle.outside.specs.World.{overwritten}
 use Rattle.disk.specs.Steps.{IsOutside}
 use Rattle.outside.proofs.OverwriteLemmas.{get_or-overwritten_before, get_or-overwritten_behind, length-overwritten}
-use Rattle.edit_journal.specs.Spans.{Span, laid, saved_bytes, with_laid}
+use Rattle.edit_journal.specs.Spans.{Span, laid, with_laid}
+use Rattle.edit_journal.specs.UndoSaves.{saved_bytes}
 
 -- the bytes that were written
 pub get_or-overwritten_inside : (old : List ℕ) (at : ℕ) (bytes : List ℕ) (j : ℕ) → j < length bytes → get_or (overwritten old at bytes) (at + j) 0 ≡ get_or bytes j 0

@@ -3,7 +3,8 @@ use Rattle.std.proofs.Common.{◌≡◌, ℕ, ◌+◌, ◌<◌, ◌≤◌, inl, 
 use Rattle.std.proofs.lemmas.List.{length-map, map_more, take_all}
 use Rattle.disk.specs.Steps.{IsOutside, Torn}
 use Rattle.edit_journal.specs.Spans.{Span, laid, span_of, spans_of, with_laid}
-use Rattle.edit_journal.specs.Undo.{SavesFrom, SavesOne, range_at}
+use Rattle.edit_journal.specs.Undo.{range_at}
+use Rattle.edit_journal.specs.UndoSaves.{SavesFrom, SavesOne}
 use Rattle.edit_journal.specs.declared.kept.KeptRange.{KeptRange}
 use Rattle.edit_journal.proofs.LaidLemmas.{laid-more}
 use Rattle.edit_journal.proofs.SavedLemmas.{saves_from-more, saves_from-same}

@@ -10,7 +10,8 @@ use Rattle.disk.specs.Steps.{ChangesFile, IsOutside, Shortened, TearsRange}
 use Rattle.disk.proofs.StopLemmas.{passes-then, passes-wider}
 use Rattle.quota_types.specs.Bytes.{byte_at, number_at}
 use Rattle.edit_journal.specs.Recovery.{Mends, MendsFile, is_mended}
-use Rattle.edit_journal.specs.Spans.{IsOutsideAll, Span, laid, with_laid}
+use Rattle.edit_journal.specs.Spans.{Span, laid, with_laid}
+use Rattle.edit_journal.specs.UndoSaves.{IsOutsideAll}
 use Rattle.edit_journal.specs.Undo.{is_usable, recovered, saved_span, saved_spans, spans_fit}
 use Rattle.edit_journal.proofs.LaidLemmas.{get_or-with_laid_before, get_or-with_laid_behind, get_or-with_laid_inside, laid-more, length-laid}
 

@@ -9,9 +9,10 @@ use Rattle.disk.specs.Steps.{IsOutside, TearsRange, Torn}
 use Rattle.disk.proofs.StepLemmas.{torn-same, torn-then}
 use Rattle.disk.proofs.StopLemmas.{kept-on, only_leaves-passes, passes-then, passes-wider}
 use Rattle.quota_types.specs.Bytes.{byte_at, number_at}
-use Rattle.edit_journal.specs.Recovery.{BeginsSo, ClosesGate, Heads, IsSame, MendsFile, RecoversAsBefore, RecoversInPlace, RecoversSame, Restores, is_mended}
-use Rattle.edit_journal.specs.Settled.{IsRecovered}
-use Rattle.edit_journal.specs.Undo.{HoldsItsRanges, recovered, saved_spans, spans_fit, undone}
+use Rattle.edit_journal.specs.Recovery.{BeginsSo, ClosesGate, Heads, IsSame, MendsFile, RecoversInPlace, Restores, is_mended}
+use Rattle.edit_journal.specs.Recovered.{RecoversAsBefore, RecoversSame, IsRecovered}
+use Rattle.edit_journal.specs.Undo.{recovered, saved_spans, spans_fit, undone}
+use Rattle.edit_journal.specs.UndoSaves.{HoldsItsRanges}
 use Rattle.edit_journal.proofs.InPlaceLemmas.{recovered-torn}
 use Rattle.edit_journal.proofs.MendLemmas.{recovered-mended, usable-parts}
 use Rattle.edit_journal.proofs.ReadLemmas.{looks-kept}

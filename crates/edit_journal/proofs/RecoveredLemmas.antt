@@ -4,8 +4,9 @@ use Rattle.std.specs.Prelude.{nat_eq, nat_le}
 use Rattle.std.proofs.lemmas.Bool.{cases_eq, cond-false, cond-true, eq-eqb, le-leb, eqb-true, false_from_ne_true}
 use Rattle.std.proofs.lemmas.List.{ext_get_or, get_or-take}
 use Rattle.quota_types.specs.Bytes.{byte_at, number_at}
-use Rattle.edit_journal.specs.Spans.{IsOutsideAll, Span, laid, saved_bytes}
-use Rattle.edit_journal.specs.Undo.{Saves, SavesFrom, SavesOne, is_usable, recovered, saved_span, saved_spans, span_fits, spans_fit, undone}
+use Rattle.edit_journal.specs.Spans.{Span, laid}
+use Rattle.edit_journal.specs.UndoSaves.{IsOutsideAll, saved_bytes, Saves, SavesFrom, SavesOne}
+use Rattle.edit_journal.specs.Undo.{is_usable, recovered, saved_span, saved_spans, span_fits, spans_fit, undone}
 use Rattle.edit_journal.proofs.LaidLemmas.{length-laid, length-saved_most, saved-within}
 use Rattle.edit_journal.proofs.SavedLemmas.{laid_back, saved_span-bytes}
 

@@ -2,8 +2,9 @@
 use Rattle.std.proofs.Common.{◌≡◌, ℕ, zero, suc, ◌+◌, ◌<◌, ◌≤◌, get_or, refl, List, [], ◌∷◌, ◌++◌, length, ap, ◌∙◌, subst, arith}
 use Rattle.quota_types.specs.Bytes.{byte_at}
 use Rattle.quota_types.proofs.BytesLemmas.{number_same}
-use Rattle.edit_journal.specs.Spans.{IsOutsideAll, Span, laid, saved_bytes, with_laid}
-use Rattle.edit_journal.specs.Undo.{Saves, SavesFrom, SavesOne, bytes_at, range_at, saved_span, saved_spans}
+use Rattle.edit_journal.specs.Spans.{Span, laid, with_laid}
+use Rattle.edit_journal.specs.UndoSaves.{IsOutsideAll, saved_bytes, Saves, SavesFrom, SavesOne}
+use Rattle.edit_journal.specs.Undo.{bytes_at, range_at, saved_span, saved_spans}
 use Rattle.edit_journal.proofs.LaidLemmas.{laid_saved, length-saved_most}
 
 pub length-bytes_at : (file : List ℕ) (at count : ℕ) → length (bytes_at file at count) ≡ count

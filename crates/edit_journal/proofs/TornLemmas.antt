@@ -4,7 +4,8 @@ use Rattle.disk.specs.DiskSeen.{DiskSeen, Passes}
 use Rattle.disk.specs.Steps.{ChangesFile, IsOutside, Torn}
 use Rattle.disk.proofs.StepLemmas.{changes_file-then, torn-less, torn-then}
 use Rattle.disk.proofs.StopLemmas.{passes-then, passes-wider}
-use Rattle.edit_journal.specs.Spans.{IsOutsideAll, spans_of}
+use Rattle.edit_journal.specs.Spans.{spans_of}
+use Rattle.edit_journal.specs.UndoSaves.{IsOutsideAll}
 use Rattle.edit_journal.specs.declared.kept.KeptRange.{KeptRange}
 
 -- two changes in a row that tear a file but for the same places

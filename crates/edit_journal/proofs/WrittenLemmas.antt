@@ -7,8 +7,9 @@ use Rattle.outside.proofs.WorldLemmas.{with_file-at}
 use Rattle.outside.proofs.OverwriteLemmas.{get_or-overwritten_behind, length-overwritten}
 use Rattle.quota_types.specs.Bytes.{byte_at, number_at}
 use Rattle.quota_types.proofs.BytesLemmas.{number_at-drop, number_same}
-use Rattle.edit_journal.specs.Spans.{Span, saved_bytes, with_laid}
-use Rattle.edit_journal.specs.Undo.{Saves, SavesFrom, SavesOne, bytes_at, range_at}
+use Rattle.edit_journal.specs.Spans.{Span, with_laid}
+use Rattle.edit_journal.specs.UndoSaves.{saved_bytes, Saves, SavesFrom, SavesOne}
+use Rattle.edit_journal.specs.Undo.{bytes_at, range_at}
 use Rattle.edit_journal.proofs.LaidLemmas.{get_or-overwritten_inside, get_or-with_laid_before, get_or-with_laid_inside, length-overwritten_end}
 use Rattle.edit_journal.proofs.SavedLemmas.{length-bytes_at, saves_from-same}
 

@@ -1,12 +1,12 @@
 -- What a recovery makes of a file, call by call.
 use Rattle.std.specs.Prelude.{◌≡◌, ◌<◌, ◌≤◌, ◌⊎◌, ℕ, Bool, true, false, min, List, [], length, Option, None, Some, IsSome, slice_index, unwrap_or}
 use Rattle.outside.specs.World.{KeepsOtherTwo, KeepsOthers, World}
-use Rattle.disk.specs.DiskSeen.{DiskSeen}
 use Rattle.disk.specs.Steps.{ChangesFile, IsOutside, TearsRange, Torn}
 use Rattle.quota_types.specs.Bytes.{byte_at, number_at}
-use Rattle.edit_journal.specs.Settled.{KeepsOtherThree, MakesUndo}
-use Rattle.edit_journal.specs.Spans.{IsOutsideAll, Span}
-use Rattle.edit_journal.specs.Undo.{HoldsItsRanges, is_usable, recovered, saved_spans, spans_fit}
+use Rattle.edit_journal.specs.Settled.{MakesUndo}
+use Rattle.edit_journal.specs.Spans.{Span}
+use Rattle.edit_journal.specs.UndoSaves.{IsOutsideAll, HoldsItsRanges}
+use Rattle.edit_journal.specs.Undo.{is_usable, recovered, saved_spans, spans_fit}
 
 -- no file changes
 abbrev pub IsSame : World → World → Type 0
@@ -29,18 +29,9 @@ pub record Mends (len : ℕ) (ranges : List Span) (old new : Option (List ℕ)) 
 abbrev pub MendsFile : List ℕ → List ℕ → World → World → Type 0
 MendsFile name undo = ChangesFile (Mends (number_at 8 undo 8) (saved_spans undo 0 (number_at 4 undo 16))) name
 
--- a recovery of these files makes what one of some image of a disk makes
-abbrev pub RecoversAsBefore : (name undo : List ℕ) → DiskSeen → World → Type 0
-RecoversAsBefore name undo disk image = (before : World) × disk.images before × (recovered (image name) (image undo) ≡ recovered (before name) (before undo))
-
 -- A recovery of the new files makes of one what a recovery of the old files makes of it, and all other files stay.
 abbrev pub Restores : (name undo : List ℕ) → World → World → Type 0
 Restores name undo old new = (recovered (new name) (new undo) ≡ recovered (old name) (old undo)) × KeepsOthers name old new
-
--- A recovery of the new files makes of one what a recovery of the old files makes of it, and all other files but its
--- undo file, under both its names, stay.
-abbrev pub RecoversSame : (name undo und : List ℕ) → World → World → Type 0
-RecoversSame name undo und old new = (recovered (new name) (new undo) ≡ recovered (old name) (old undo)) × KeepsOtherThree name undo und old new
 
 -- A file is recovered in place: a recovery of the new files makes of it what a recovery of the old files makes of it, its
 -- undo file is no shorter, and the same behind its first byte, within its old end; and all other files stay, so there is

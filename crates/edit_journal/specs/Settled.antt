@@ -1,23 +1,17 @@
 -- What a change in place leaves of a file and its undo file.
-use Rattle.std.specs.Prelude.{◌≡◌, ◌≢◌, ◌<◌, ◌≤◌, ◌⊎◌, ℕ, List, [], length, Option, Some, replicate, unwrap_or}
+use Rattle.std.specs.Prelude.{◌≡◌, ◌<◌, ◌⊎◌, ℕ, List, Some, replicate}
 use Rattle.outside.specs.World.{KeepsOtherTwo, World}
 use Rattle.disk.specs.DiskSeen.{DiskSeen, EachImage}
 use Rattle.disk.specs.Steps.{ChangesFile, Torn}
-use Rattle.quota_types.specs.Bytes.{byte_at}
-use Rattle.edit_journal.specs.Spans.{IsOutsideAll, Span}
-use Rattle.edit_journal.specs.Undo.{IsClosed, recovered}
+use Rattle.edit_journal.specs.Spans.{Span}
+use Rattle.edit_journal.specs.UndoSaves.{IsOutsideAll, IsClosed}
+use Rattle.edit_journal.specs.Undo.{recovered}
+use Rattle.edit_journal.specs.Recovered.{IsRecovered}
 
 -- A file is settled: each image has it so, and an undo file whose gate is closed.
 pub record IsSettled (name undo file : List ℕ) (disk : DiskSeen) : Type 0 where
   pub whole : EachImage (λ image. image name ≡ Some file) disk
   pub closed : EachImage (λ image. IsClosed (image undo)) disk
-
--- A file is recovered: each image has it so, or none of them has one, and an undo file whose gate is closed, or none;
--- and each of them has room for the head of an undo file if the one that is read has.
-pub record IsRecovered (name undo : List ℕ) (file : Option (List ℕ)) (disk : DiskSeen) : Type 0 where
-  pub whole : EachImage (λ image. image name ≡ file) disk
-  pub closed : EachImage (λ image. byte_at (unwrap_or (image undo) []) 0 ≢ 1) disk
-  pub room : 1024 ≤ length (unwrap_or (disk.files undo) []) → EachImage (λ image. 1024 ≤ length (unwrap_or (image undo) [])) disk
 
 -- a commit can start: this file is there, and is recovered
 abbrev pub CanCommit : (name undo file : List ℕ) → DiskSeen → Type 0
@@ -43,7 +37,3 @@ TearsFrom name place = ChangesFile (Torn (λ other. other < place)) name
 -- be anything, and all others stay.
 abbrev pub MakesUndo : (und undo : List ℕ) → World → World → Type 0
 MakesUndo und undo old new = KeepsOtherTwo und undo old new × ((new undo ≡ old undo) ⊎ (new undo ≡ Some (replicate 1024 0)))
-
--- what each name but these three has is as before
-abbrev pub KeepsOtherThree : {T : Type 0} → (one two three : List ℕ) → (List ℕ → T) → (List ℕ → T) → Type 0
-KeepsOtherThree one two three old new = (other : List ℕ) → other ≢ one → other ≢ two → other ≢ three → new other ≡ old other

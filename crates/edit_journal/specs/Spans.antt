@@ -1,7 +1,6 @@
 -- Ranges of bytes at places of a file, and a file over which they are laid.
-use Rattle.std.specs.Prelude.{ℕ, List, [], ◌∷◌, length, map, take, drop}
+use Rattle.std.specs.Prelude.{ℕ, List, [], ◌∷◌, map}
 use Rattle.outside.specs.World.{overwritten}
-use Rattle.disk.specs.Steps.{IsOutside}
 use Rattle.edit_journal.specs.declared.kept.KeptRange.{KeptRange}
 
 -- bytes, and the place of a file at which the first of them stands
@@ -26,12 +25,3 @@ span_of range = record { at = range.at; bytes = range.bytes.items }
 -- kept ranges
 abbrev pub spans_of : List KeptRange → List Span
 spans_of ranges = map span_of ranges
-
--- a place that is in none of these ranges
-abbrev pub IsOutsideAll : List Span → ℕ → Type 0
-IsOutsideAll [] place = Unit {0}
-IsOutsideAll (span ∷ rest) place = IsOutside span.at (length span.bytes) place × IsOutsideAll rest place
-
--- the bytes that a file has in a range, as far as the file goes
-abbrev pub saved_bytes : List ℕ → (at len : ℕ) → List ℕ
-saved_bytes file at len = take len (drop at file)

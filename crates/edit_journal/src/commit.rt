@@ -2,7 +2,8 @@
 
 ghost use Rattle.std.specs.Prelude.{◌≡◌, ◌≢◌, ◌≤◌, List, ℕ, length, IsTrue, OnOk, OnErr, false};
 ghost use Rattle.disk.specs.DiskSeen.{OnlyLeaves, Passes};
-ghost use Rattle.edit_journal.specs.Settled.{CanCommit, IsSettled, KeepsOtherThree, RecoversToEither};
+ghost use Rattle.edit_journal.specs.Settled.{CanCommit, IsSettled, RecoversToEither};
+ghost use Rattle.edit_journal.specs.Recovered.{KeepsOtherThree};
 ghost use Rattle.edit_journal.specs.Spans.{laid, spans_of};
 ghost use Rattle.outside.specs.Count.{Rose};
 ghost use Rattle.outside.specs.World.{KeepsOtherTwo};

@@ -1,8 +1,9 @@
 //! Laws of recoveries, for those who build on them.
 
 ghost use Rattle.std.specs.Prelude.{List, ℕ};
-ghost use Rattle.disk.specs.DiskSeen.{EachImage, IsFresh, Passes};
-ghost use Rattle.edit_journal.specs.Recovery.{RecoversSame};
+ghost use Rattle.disk.specs.DiskSeen.{EachImage, Passes};
+ghost use Rattle.disk.specs.DiskLaws.{IsFresh};
+ghost use Rattle.edit_journal.specs.Recovered.{RecoversSame};
 ghost use Rattle.edit_journal.specs.Settled.{RecoversToEither};
 ghost use Rattle.outside.specs.World.{World};
 

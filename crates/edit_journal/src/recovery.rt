@@ -3,10 +3,11 @@
 ghost use Rattle.std.specs.Prelude.{◌≡◌, ◌≢◌, ◌<◌, ◌≤◌, ◌^◌, ◌+◌, [], List, ℕ, Some, drop, length, true, unwrap_or, IfOk, IsTrue, OnOk, OnErr, false};
 ghost use Rattle.disk.specs.DiskSeen.{IsKept, OnlyLeaves, Passes};
 ghost use Rattle.disk.specs.Steps.{TearsRange};
-ghost use Rattle.edit_journal.specs.Recovery.{BeginsSo, ClosesGate, Heads, IsSame, MendsFile, RecoversAsBefore, RecoversInPlace, RecoversSame, Restores, is_mended};
-ghost use Rattle.edit_journal.specs.Settled.{IsRecovered, KeepsOtherThree};
+ghost use Rattle.edit_journal.specs.Recovery.{BeginsSo, ClosesGate, Heads, IsSame, MendsFile, RecoversInPlace, Restores, is_mended};
+ghost use Rattle.edit_journal.specs.Recovered.{RecoversAsBefore, RecoversSame, IsRecovered, KeepsOtherThree};
 ghost use Rattle.edit_journal.specs.Spans.{laid, with_laid};
-ghost use Rattle.edit_journal.specs.Undo.{HoldsItsRanges, bytes_at, recovered, saved_span, saved_spans, span_fits, spans_fit, undone};
+ghost use Rattle.edit_journal.specs.Undo.{bytes_at, recovered, saved_span, saved_spans, span_fits, spans_fit, undone};
+ghost use Rattle.edit_journal.specs.UndoSaves.{HoldsItsRanges};
 ghost use Rattle.outside.specs.Count.{Rose};
 ghost use Rattle.quota_types.specs.Bytes.{byte_at, number_at};
 ghost use Rattle.outside.specs.World.{KeepsOtherTwo, KeepsOthers};

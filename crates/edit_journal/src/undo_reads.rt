@@ -3,7 +3,8 @@
 ghost use Rattle.std.specs.Prelude.{◌≡◌, ◌↔◌, ◌<◌, ◌≤◌, ◌+◌, ◌^◌, ◌&&◌, ◌||◌, [], ℕ, length, nat_eq, nat_le, slice_index, unwrap_or, IfOk, IsTrue, OnOk, OnErr};
 ghost use Rattle.disk.specs.DiskSeen.{Passes};
 ghost use Rattle.edit_journal.specs.Recovery.{IsSame};
-ghost use Rattle.edit_journal.specs.Undo.{HoldsItsRanges, range_at, saved_spans, spans_fit};
+ghost use Rattle.edit_journal.specs.Undo.{range_at, saved_spans, spans_fit};
+ghost use Rattle.edit_journal.specs.UndoSaves.{HoldsItsRanges};
 ghost use Rattle.outside.specs.Count.{Rose};
 ghost use Rattle.quota_types.specs.Bytes.{byte_at, number_at};
 

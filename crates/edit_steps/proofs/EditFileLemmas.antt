@@ -7,23 +7,26 @@ use Rattle.quota_types.specs.declared.field.Field.{Field}
 use Rattle.quota_types.specs.Format.{is_flat}
 use Rattle.quota_types.specs.declared.file_kind.Format.{Format}
 use Rattle.quota_types.specs.declared.file_kind.Format.TheVariants.{V1}
-use Rattle.opened_file.specs.FileChange.{IsLeft}
+use Rattle.opened_file.specs.ValueEdits.{IsLeft}
 use Rattle.outside.specs.Frame.{OnlyReads}
-use Rattle.opened_file.specs.QuotaFile.{FileSeen, is_store_fault}
+use Rattle.opened_file.specs.QuotaFile.{is_store_fault}
+use Rattle.opened_file.specs.FileSeen.{FileSeen}
 use Rattle.quota_value.specs.QuotaValue.{QuotaValue}
 use Rattle.outside.specs.Seen.{StoreSeen}
 use Rattle.outside.specs.World.{World}
 use Rattle.opened_file.specs.declared.quota_file.FileFault.{FileFault}
 use Rattle.opened_file.specs.declared.quota_file.FileFault.TheVariants.{Store, Damage, Full, Memory}
 use Rattle.opened_file.proofs.LookupLemmas.{change_fault-after}
-use Rattle.quota_map.specs.AnyFile.{AnyLeaves, AnyMakes, HoldsAny, MayRefuse, any_at, any_laws, any_seen}
+use Rattle.quota_map.specs.AnyFile.{HoldsAny, MayRefuse, any_at, any_laws, any_seen}
+use Rattle.quota_map.specs.AnyChange.{AnyLeaves, AnyMakes}
 use Rattle.quota_map.specs.StandsFor.{StandsForAs}
 use Rattle.quota_map.specs.declared.any_file.AnyFile.{AnyFile}
 use Rattle.quota_map.specs.View.{IsOpenedAs, blocks_allowed, fresh_seen, most_blocks, asks_tree}
 use Rattle.quota_map.proofs.AnyLemmas.{any_few_writes}
 use Rattle.quota_map.proofs.LeftLemmas.{held_format, left_seen}
 use Rattle.quota_map.proofs.SeenLemmas.{any_held_seen}
-use Rattle.set_edit.specs.Editing.{Edit, Edits}
+use Rattle.set_edit.specs.Editing.{Edit}
+use Rattle.set_edit.specs.EditCalls.{Edits}
 use Rattle.set_edit.specs.declared.fault.EditFault.{EditFault}
 use Rattle.set_edit.specs.declared.fault.EditFault.TheVariants.{File, NoRoom as Unfit}
 use Rattle.refusals.specs.Status.{status_of}

@@ -6,7 +6,7 @@ use Rattle.id_names.specs.NamesFile.{NameLine, bad_line, names_in}
 use Rattle.quota_types.specs.declared.file_kind.Format.{Format}
 use Rattle.quota_types.specs.declared.file_kind.Kind.{Kind}
 use Rattle.quota_value.specs.QuotaValue.{QuotaValue}
-use Rattle.input_text.specs.StoreInput.{left_from}
+use Rattle.input_text.specs.InputLeft.{left_from}
 use Rattle.outside.specs.World.{World}
 use Rattle.opened_file.specs.declared.quota_file.OpenFault.{OpenFault}
 use Rattle.opened_file.specs.declared.quota_file.OpenFault.TheVariants.{Store}

@@ -9,7 +9,8 @@ use Rattle.quota_types.specs.declared.file_kind.Format.{Format}
 use Rattle.quota_types.specs.declared.file_kind.Format.TheVariants.{V2R0, V2R1}
 use Rattle.quota_types.specs.declared.record.Rec.{Rec}
 use Rattle.quota_types.proofs.BytesLemmas.{number_at-zeros}
-use Rattle.entry_codec.specs.Entry.{IsEntry, IsUsedBy, is_unused, stored_id, stored_v2r0, stored_v2r1}
+use Rattle.entry_codec.specs.Entry.{is_unused, stored_id, stored_v2r0, stored_v2r1}
+use Rattle.entry_codec.specs.Spelling.{IsEntry, IsUsedBy}
 
 -- the record of zeros
 abbrev pub zeros : Rec

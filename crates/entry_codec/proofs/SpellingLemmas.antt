@@ -8,7 +8,8 @@ use Rattle.quota_types.specs.declared.file_kind.Format.{Format}
 use Rattle.quota_types.specs.declared.file_kind.Format.TheVariants.{V1, V2R0, V2R1}
 use Rattle.quota_types.specs.declared.record.Rec.{Rec}
 use Rattle.quota_types.proofs.BytesLemmas.{number_at-past}
-use Rattle.entry_codec.specs.Entry.{AreBytes, IsSpelling, IsUsedBy, is_unused, stored_id, stored_v2r0, stored_v2r1}
+use Rattle.entry_codec.specs.Entry.{is_unused, stored_id, stored_v2r0, stored_v2r1}
+use Rattle.entry_codec.specs.Spelling.{AreBytes, IsSpelling, IsUsedBy}
 use Rattle.entry_codec.specs.Header.{HeaderNumbers, header_of}
 use Rattle.entry_codec.proofs.EntryLemmas.{zeros}
 

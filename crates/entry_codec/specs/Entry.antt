@@ -1,10 +1,8 @@
 -- The entries of a tree file, each of as many bytes as a record of the format has. Source: `struct v2r0_disk_dqblk` and
 -- `struct v2r1_disk_dqblk` of the quota tools.
-use Rattle.std.specs.Prelude.{◌≡◌, ℕ, ◌<◌, Bool, false, ◌==◌, List, length}
+use Rattle.std.specs.Prelude.{ℕ, Bool, ◌==◌, List}
 use Rattle.std.specs.List.{list_all}
-use Rattle.quota_types.specs.Bytes.{byte_at, number_at}
-use Rattle.quota_types.specs.Format.{record_size}
-use Rattle.quota_types.specs.Kept.{without_marker}
+use Rattle.quota_types.specs.Bytes.{number_at}
 use Rattle.quota_types.specs.declared.file_kind.Format.{Format}
 use Rattle.quota_types.specs.declared.file_kind.Format.TheVariants.{V1, V2R0, V2R1}
 use Rattle.quota_types.specs.declared.record.Rec.{Rec}
@@ -48,33 +46,3 @@ stored_v2r1 bytes = record {
   btime = number_at 8 bytes 56;
   itime = number_at 8 bytes 64;
 }
-
--- the bytes between the identifier and the record, which have any value
-abbrev pub padding_of : Format → List ℕ → ℕ
-padding_of V1 bytes = 0
-padding_of V2R0 bytes = 0
-padding_of V2R1 bytes = number_at 4 bytes 4
-
--- An entry with this stored record is used, by this identifier and this record. The record is the stored one, but that
--- the marker of identifier 0, an itime of 1 and otherwise zeros, is its record of zeros.
-pub record IsUsedBy (bytes : List ℕ) (stored : Rec) (id : ℕ) (rec : Rec) : Type 0 where
-  pub used : is_unused bytes ≡ false
-  pub id_is : id ≡ stored_id bytes
-  pub rec_is : rec ≡ without_marker (stored_id bytes) stored
-
--- the bytes of an entry are used by this identifier with this record
-abbrev pub IsEntry : Format → List ℕ → ℕ → Rec → Type 0
-IsEntry V1 bytes id rec = ⊥
-IsEntry V2R0 bytes id rec = IsUsedBy bytes (stored_v2r0 bytes) id rec
-IsEntry V2R1 bytes id rec = IsUsedBy bytes (stored_v2r1 bytes) id rec
-
--- each number of the list is that of a byte
-abbrev pub AreBytes : List ℕ → Type 0
-AreBytes bytes = (at : ℕ) → byte_at bytes at < 256
-
--- the bytes are a whole entry of this identifier and record, and its padding is 0
-pub record IsSpelling (format : Format) (bytes : List ℕ) (id : ℕ) (rec : Rec) : Type 0 where
-  pub are_bytes : AreBytes bytes
-  pub size : length bytes ≡ record_size format
-  pub entry : IsEntry format bytes id rec
-  pub padding : padding_of format bytes ≡ 0

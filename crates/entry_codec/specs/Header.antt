@@ -1,12 +1,11 @@
 -- The header of a tree file. Source: `struct v2_disk_dqheader` and `struct v2_disk_dqinfo` of the quota tools, which
 -- stand one after the other at the start of the file.
-use Rattle.std.specs.Prelude.{◌≡◌, ℕ, Bool, ◌||◌, ◌==◌, nat_lt, if◌then◌else◌, List, Option, Some, None}
+use Rattle.std.specs.Prelude.{ℕ, Bool, ◌||◌, ◌==◌, nat_lt, if◌then◌else◌, List, Option, Some, None}
 use Rattle.quota_types.specs.Bytes.{number_at}
 use Rattle.quota_types.specs.declared.file_kind.Format.{Format}
 use Rattle.quota_types.specs.declared.file_kind.Format.TheVariants.{V2R0, V2R1}
 use Rattle.quota_types.specs.declared.file_kind.Kind.{Kind}
 use Rattle.quota_types.specs.declared.file_kind.Kind.TheVariants.{User, Group}
-use Rattle.entry_codec.specs.declared.header.Header.{Header}
 use Rattle.entry_codec.specs.declared.header.HeaderFault.{HeaderFault}
 use Rattle.entry_codec.specs.declared.header.HeaderFault.TheVariants.{NotQuota, WrongKind, UnknownVersion, BadBlockCount}
 
@@ -62,14 +61,3 @@ header_fault kind numbers =
     else Some UnknownVersion
     else Some WrongKind
     else Some NotQuota
-
--- the numbers are those of this header
-pub record AreOf (header : Header) (numbers : HeaderNumbers) : Type 0 where
-  pub magic : numbers.magic ≡ magic_of header.kind
-  pub version : format_of numbers.version ≡ Some header.format
-  pub block_grace : numbers.block_grace ≡ header.grace.block
-  pub inode_grace : numbers.inode_grace ≡ header.grace.inode
-  pub flags : numbers.flags ≡ header.flags
-  pub blocks : numbers.blocks ≡ header.blocks
-  pub free : numbers.free ≡ header.free
-  pub first : numbers.first ≡ header.first

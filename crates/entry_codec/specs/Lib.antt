@@ -1,2 +1,3 @@
 pub mod Entry
 pub mod Header
+pub mod Spelling

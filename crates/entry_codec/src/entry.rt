@@ -1,5 +1,6 @@
 ghost use Rattle.std.specs.Prelude.{◌≡◌, ◌≢◌, ◌≤◌, ℕ, true, false, None, Some, IfNone, IfSome, length};
-ghost use Rattle.entry_codec.specs.Entry.{IsEntry, is_unused, padding_of, stored_id, stored_v2r0, stored_v2r1};
+ghost use Rattle.entry_codec.specs.Entry.{is_unused, stored_id, stored_v2r0, stored_v2r1};
+ghost use Rattle.entry_codec.specs.Spelling.{IsEntry, padding_of};
 ghost use Rattle.quota_types.specs.Bytes.{number_at};
 ghost use Rattle.quota_types.specs.Format.{IsTreeFormat, record_size};
 ghost use Rattle.quota_types.specs.Kept.{kept_of, without_marker};

@@ -1,5 +1,6 @@
 ghost use Rattle.std.specs.Prelude.{◌≡◌, ◌≢◌, ◌^◌, ◌<◌, ◌≤◌, None, Some, IfErr, IfOk, OnOk, drop, length};
-ghost use Rattle.entry_codec.specs.Header.{AreOf, format_of, header_fault, header_of, is_magic, magic_of};
+ghost use Rattle.entry_codec.specs.Header.{format_of, header_fault, header_of, is_magic, magic_of};
+ghost use Rattle.entry_codec.specs.Spelling.{AreOf};
 ghost use Rattle.quota_types.specs.Format.{IsTreeFormat};
 ghost use Rattle.quota_types.specs.Range.{grace_unfit};
 

@@ -1,8 +1,8 @@
 //! Laws of the layout: what is written is read again, and bytes and values determine each other.
 
 ghost use Rattle.std.specs.Prelude.{◌≡◌, ◌≢◌, ◌^◌, ◌<◌, ◌≤◌, ℕ, List, None, Ok, Some, length};
-ghost use Rattle.entry_codec.specs.Entry.{AreBytes, IsEntry, IsSpelling};
-ghost use Rattle.entry_codec.specs.Header.{AreOf, HeaderNumbers, header_of};
+ghost use Rattle.entry_codec.specs.Spelling.{AreBytes, IsEntry, IsSpelling, AreOf};
+ghost use Rattle.entry_codec.specs.Header.{HeaderNumbers, header_of};
 ghost use Rattle.quota_types.specs.Bytes.{byte_at};
 ghost use Rattle.quota_types.specs.Format.{IsTreeFormat, record_size};
 ghost use Rattle.quota_types.specs.Kept.{kept_of};

@@ -33,7 +33,7 @@ use Rattle.quota_map.specs.View.{IsOpenedAs}
 use Rattle.inode_scan.specs.Apply.{IsApplyFault, applied, first_no_room, no_room, wanted, wanted_record}
 use Rattle.inode_scan.proofs.ApplyLemmas.{wanted_at}
 use Rattle.inode_scan.specs.Faults.{unless}
-use Rattle.inode_scan.specs.Scan.{IsScanFault}
+use Rattle.inode_scan.specs.ListingFaults.{IsScanFault}
 use Rattle.inode_scan.specs.Usage.{UsageMap}
 use Rattle.inode_scan.specs.declared.fault.ApplyFault.{ApplyFault}
 use Rattle.inode_scan.specs.declared.fault.ApplyFault.TheVariants.{NoRoom as Unfit, Memory as ApplyWantsMemory}
@@ -44,12 +44,16 @@ use Rattle.refusals.specs.declared.cause.Cause.TheVariants.{StoreFault, SourceFa
 use Rattle.refusals.specs.declared.reason.Refusal.{Refusal}
 use Rattle.run_steps.specs.Done.{IsWorldTold, RunSeen, RunTells, outside_of}
 use Rattle.run_steps.specs.Opening.{MayRefuseOpening, file_cause}
-use Rattle.run_steps.specs.Run.{CarriesOut, HasReason, Uses}
+use Rattle.run_steps.specs.Run.{HasReason, Uses}
+use Rattle.run_steps.specs.Carrying.{CarriesOut}
 use Rattle.run_steps.specs.Steps.{Opening, Steps}
-use Rattle.run_steps.specs.Taking.{AListing, InputMayRefuse, IsInputFault}
-use Rattle.file_commands.specs.Check.{ReplaceSteps, UnfitMayRefuse, UsageMayLack, apply_cause, checked, scan_cause, scan_outcome, with_applied}
+use Rattle.run_steps.specs.Taking.{AListing, InputMayRefuse}
+use Rattle.run_steps.specs.Causes.{IsInputFault}
+use Rattle.file_commands.specs.Check.{ReplaceSteps, UnfitMayRefuse, UsageMayLack, checked, scan_cause, scan_outcome, with_applied}
+use Rattle.file_commands.specs.Causes.{apply_cause}
 use Rattle.run_steps.specs.Changing.{edit_uses}
-use Rattle.file_commands.specs.FileValue.{IsMadeAnew, WritingMayRefuse}
+use Rattle.file_commands.specs.FileValue.{IsMadeAnew}
+use Rattle.file_commands.specs.WritingRefused.{WritingMayRefuse}
 use Rattle.refusals.specs.Refusals.{refusal_of}
 use Rattle.run_steps.proofs.OpeningLemmas.{refused_reads, with_store, file_no_output}
 use Rattle.run_steps.proofs.PhaseLemmas.{carries_on, leads_same, stop_carried}

@@ -39,14 +39,16 @@ use Rattle.run_steps.specs.Changing.{edit_uses}
 use Rattle.run_steps.specs.Done.{IsWorldTold, Outside, RunSeen, RunTells, outside_of}
 use Rattle.run_steps.specs.Opening.{MayRefuseOpening, file_cause, opening_cause}
 use Rattle.run_steps.specs.Meaning.{EndsBy}
-use Rattle.run_steps.specs.Run.{CarriesOut, HasReason, HasSteps, IsPlacedBy}
+use Rattle.run_steps.specs.Run.{HasReason, HasSteps, IsPlacedBy}
+use Rattle.run_steps.specs.Carrying.{CarriesOut}
 use Rattle.run_steps.specs.Steps.{DoingAll, Finish, Opening, Steps, Then}
 use Rattle.run_steps.specs.declared.invocation.Invocation.{Invocation}
 use Rattle.run_steps.proofs.OpeningLemmas.{none_done, not_opened, outside_same, refused_so, opening_no_output, store_later, with_store}
 use Rattle.run_steps.proofs.PartLemmas.{nothing_begun}
 use Rattle.run_steps.proofs.PhaseLemmas.{carries_on, carries_opening, leads_looking}
 use Rattle.run_steps.proofs.ShowingLemmas.{damage_may}
-use Rattle.file_commands.specs.Conversion.{ConvertMayRefuse, ConvertSteps, MakingSteps, absent, convert_refusal, made, targeted}
+use Rattle.file_commands.specs.Conversion.{ConvertMayRefuse, ConvertSteps, MakingSteps, absent, made, targeted}
+use Rattle.file_commands.specs.ConversionCauses.{convert_refusal}
 use Rattle.file_commands.specs.FileValue.{IsMadeAnew, replace_cause}
 use Rattle.file_commands.proofs.CheckLemmas.{carries_same}
 use Rattle.file_commands.proofs.ReplacingLemmas.{no_room_for, replace_failed, replace_made}

@@ -11,7 +11,7 @@ use Rattle.quota_value.specs.QuotaValue.{QuotaValue}
 use Rattle.outside.specs.Replacement.{ReplacesOnly}
 use Rattle.outside.specs.Seen.{SinkSeen, StoreSeen}
 use Rattle.outside.specs.Text.{AppendsPrefix}
-use Rattle.outside.specs.Frame.{ReplacesOne}
+use Rattle.outside.specs.ManyCalls.{ReplacesOne}
 use Rattle.opened_file.specs.declared.replacement.ReplaceFault.{ReplaceFault}
 use Rattle.opened_file.specs.declared.replacement.ReplaceFault.TheVariants.{Store as PutFailed, Full as NoBlocks, Memory as NoMemory}
 use Rattle.quota_map.specs.Replacing.{IsReplaceFileFault, UnlessStore}
@@ -23,7 +23,8 @@ use Rattle.refusals.specs.declared.reason.Refusal.{Refusal}
 use Rattle.refusals.specs.Refusals.{nowhere, refusal_of}
 use Rattle.run_steps.specs.Act.{Act, Replace, FollowsAct, ToOut, out_bytes}
 use Rattle.run_steps.specs.Done.{IsUnwritten, IsWorldTold, RunSeen, RunTells}
-use Rattle.run_steps.specs.Run.{CarriesOut, HasReason, HasSteps, IsDoneInPart, Uses}
+use Rattle.run_steps.specs.Run.{HasReason, HasSteps, IsDoneInPart, Uses}
+use Rattle.run_steps.specs.Carrying.{CarriesOut}
 use Rattle.run_steps.specs.Showing.{ShowingMayRefuse, ShowingSteps, showing_uses}
 use Rattle.run_steps.specs.Steps.{Doing, Finish, Steps}
 use Rattle.run_steps.proofs.DoingLemmas.{part_of, written_yet}
@@ -35,7 +36,8 @@ use Rattle.quota_map.proofs.SeenOnceLemmas.{seen_once}
 use Rattle.run_steps.proofs.ShowingLemmas.{out_failed, told_begun, told_steps}
 use Rattle.run_steps.proofs.WritesLemmas.{writes_for-replacement, writes_in_part}
 use Rattle.file_commands.specs.FileValue.{replace_cause}
-use Rattle.file_commands.specs.Generate.{GenerateMayRefuse, IsUnreported, gathered_cause, generate_uses}
+use Rattle.file_commands.specs.Generate.{GenerateMayRefuse, generate_uses}
+use Rattle.file_commands.specs.Causes.{IsUnreported, gathered_cause}
 
 -- A change, and then more steps.
 

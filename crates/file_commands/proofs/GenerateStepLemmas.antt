@@ -7,7 +7,8 @@ use Rattle.quota_types.specs.declared.file_kind.Kind.TheVariants.{User}
 use Rattle.quota_value.specs.QuotaValue.{QuotaValue, Records}
 use Rattle.inode_scan.specs.Apply.{IsApplyFault, applied}
 use Rattle.inode_scan.specs.Generated.{generated}
-use Rattle.inode_scan.specs.Scan.{IsScanFault, scanned}
+use Rattle.inode_scan.specs.Scan.{scanned}
+use Rattle.inode_scan.specs.ListingFaults.{IsScanFault}
 use Rattle.inode_scan.specs.Usage.{UsageMap}
 use Rattle.inode_scan.specs.declared.fault.ApplyFault.{ApplyFault}
 use Rattle.inode_scan.specs.declared.fault.ApplyFault.TheVariants.{NoRoom as Unfit, Memory as ApplyWantsMemory}
@@ -23,8 +24,9 @@ use Rattle.run_steps.specs.Meaning.{IsSure}
 use Rattle.run_steps.specs.OneCommand.{LooksFirst, leaves_files}
 use Rattle.run_steps.specs.Steps.{Doing, DoingAll, Finish, Steps, Then}
 use Rattle.run_steps.proofs.OneCommandLemmas.{looks_then}
-use Rattle.file_commands.specs.Check.{apply_cause, checked, new_value, replaced, scan_cause, scan_outcome, with_applied}
-use Rattle.file_commands.specs.Generate.{GenerateSteps, MadeSteps, WrittenSteps, summary}
+use Rattle.file_commands.specs.Check.{checked, new_value, replaced, scan_cause, scan_outcome, with_applied}
+use Rattle.file_commands.specs.Causes.{apply_cause, WrittenSteps}
+use Rattle.file_commands.specs.Generate.{GenerateSteps, MadeSteps, summary}
 use Rattle.file_commands.proofs.GeneratedValueLemmas.{checked-generated, few-generated, generated_value}
 use Rattle.file_commands.proofs.ReplacingLemmas.{room_for}
 

@@ -4,7 +4,7 @@ use Rattle.std.proofs.lemmas.Bool.{false≢true, le-ltb, lt-ltb}
 use Rattle.quota_types.specs.declared.field.NoRoom.{NoRoom}
 use Rattle.quota_types.specs.declared.file_kind.Format.{Format}
 use Rattle.outside.specs.Count.{Rose}
-use Rattle.outside.specs.Frame.{ReplacesOne}
+use Rattle.outside.specs.ManyCalls.{ReplacesOne}
 use Rattle.quota_value.specs.Listed.{ids_of}
 use Rattle.quota_value.specs.QuotaValue.{QuotaValue}
 use Rattle.outside.specs.Replacement.{ReplacesOnly}
@@ -22,11 +22,12 @@ use Rattle.refusals.specs.declared.cause.Cause.TheVariants.{StoreFault, Full, Me
 use Rattle.refusals.specs.declared.reason.Refusal.{Refusal}
 use Rattle.run_steps.specs.Act.{Act, Replace}
 use Rattle.run_steps.specs.Done.{RunSeen, RunTells}
-use Rattle.run_steps.specs.Run.{CarriesOut}
-use Rattle.run_steps.specs.Steps.{AreDoneThen, DoingAll, Finish, Then}
+use Rattle.run_steps.specs.Carrying.{CarriesOut, AreDoneThen}
+use Rattle.run_steps.specs.Steps.{DoingAll, Finish, Then}
 use Rattle.file_commands.specs.Check.{ReplaceSteps, replaced}
 use Rattle.run_steps.specs.Changing.{edit_uses, if_room}
-use Rattle.file_commands.specs.FileValue.{IsInOrder, IsMadeAnew, WritingMayRefuse, replace_cause, value_in}
+use Rattle.file_commands.specs.FileValue.{IsInOrder, IsMadeAnew, replace_cause, value_in}
+use Rattle.file_commands.specs.WritingRefused.{WritingMayRefuse}
 use Rattle.refusals.specs.Outcome.{Outcome, Passed, Refused}
 use Rattle.refusals.specs.Refusals.{refusal_of}
 use Rattle.run_steps.proofs.DoingLemmas.{AreWritten, done_of, done_steps, part_of, written_yet}

@@ -14,8 +14,6 @@ use Rattle.quota_map.specs.View.{IsOpenedAs, IsView, most_blocks}
 use Rattle.inode_scan.specs.Apply.{applied, wanted_record}
 use Rattle.inode_scan.specs.Scan.{scanned}
 use Rattle.inode_scan.specs.Usage.{UsageMap}
-use Rattle.inode_scan.specs.declared.fault.ApplyFault.{ApplyFault}
-use Rattle.inode_scan.specs.declared.fault.ApplyFault.TheVariants.{NoRoom as Unfit, Memory as ApplyWantsMemory}
 use Rattle.inode_scan.specs.declared.fault.ScanFault.{ScanFault}
 use Rattle.inode_scan.specs.declared.used.Used.{Used}
 use Rattle.inode_scan.specs.declared.fault.ScanFault.TheVariants.{Source, TooLarge as PastTotal, BadLine as WrongLine, LongLine as TooLong, Conflict as Conflicting, Memory as ScanWantsMemory}
@@ -32,7 +30,7 @@ use Rattle.run_steps.specs.Taking.{AListing, InputMayRefuse, Taking, input_name,
 use Rattle.refusals.specs.Refusals.{refusal_of}
 use Rattle.run_steps.specs.Changing.{edit_uses, if_room}
 use Rattle.quota_map.specs.Size.{blocks_of}
-use Rattle.file_commands.specs.FileValue.{WritingMayRefuse}
+use Rattle.file_commands.specs.WritingRefused.{WritingMayRefuse}
 
 -- The listing.
 
@@ -78,11 +76,6 @@ ReplaceSteps file new = Then (replaced file new) (λ (acts : List Act). DoingAll
 abbrev pub new_format : Option Format → Format
 new_format asked = unwrap_or asked V2R1
 
--- a format is that of a new file, or may be that of one that is opened
-abbrev pub IsFormatOf : (fresh : Bool) → Option Format → Format → Type 0
-IsFormatOf true asked format = format ≡ new_format asked
-IsFormatOf false asked format = IsOpenedAs asked format
-
 -- a new file has no records, no flags, and grace periods of 7 days each
 abbrev pub new_value : Kind → Option Format → QuotaValue
 new_value kind asked =
@@ -112,11 +105,6 @@ abbrev pub check_uses : Option (List ℕ) → Uses
 check_uses from = reading from (edit_uses false)
 
 -- What is said.
-
--- what is said where a format has no room for the records, or there was not enough memory
-abbrev pub apply_cause : ApplyFault → Cause
-apply_cause (Unfit out) = NoRoom out
-apply_cause ApplyWantsMemory = Memory
 
 -- the format of a value has no room for this value of an identifier's record, once the record has some usage and its timers
 -- are set at some moment

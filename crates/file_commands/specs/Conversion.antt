@@ -12,20 +12,18 @@ use Rattle.quota_value.specs.QuotaValue.{QuotaValue}
 use Rattle.outside.specs.World.{World}
 use Rattle.quota_map.specs.View.{most_blocks}
 use Rattle.convert.specs.Conversion.{converted}
-use Rattle.convert.specs.declared.fault.ConvertFault.{ConvertFault}
-use Rattle.convert.specs.declared.fault.ConvertFault.TheVariants.{SameName as NamesAreSame, TargetExists as TargetIsThere, Open, File, NoRoom as Unfit, Replace}
+use Rattle.convert.specs.declared.fault.ConvertFault.TheVariants.{Replace}
 use Rattle.refusals.specs.declared.cause.Cause.{Cause}
 use Rattle.refusals.specs.declared.cause.Cause.TheVariants.{StoreFault, Memory, Full, NoRoom, TargetExists, SameName}
-use Rattle.refusals.specs.declared.reason.Refusal.{Refusal}
 use Rattle.refusals.specs.Outcome.{Outcome, Passed, Refused, and_then}
 use Rattle.refusals.specs.Refusals.{refusal_of}
 use Rattle.run_steps.specs.Act.{Act, Replace}
 use Rattle.run_steps.specs.Changing.{if_room}
 use Rattle.quota_map.specs.Size.{blocks_of}
-use Rattle.run_steps.specs.Opening.{MayRefuseOpening, file_cause, opening_cause}
+use Rattle.run_steps.specs.Opening.{MayRefuseOpening}
 use Rattle.run_steps.specs.Steps.{DoingAll, Finish, Looking, Opening, Steps, Then}
 use Rattle.run_steps.specs.declared.invocation.Invocation.{Invocation}
-use Rattle.file_commands.specs.FileValue.{WritingMayRefuse, replace_cause}
+use Rattle.file_commands.specs.WritingRefused.{WritingMayRefuse}
 
 -- The steps.
 
@@ -64,15 +62,6 @@ ConvertSteps kind old new source target invocation =
     MakingSteps source target (converted new value)))
 
 -- What is said.
-
--- what is said where a file was not converted
-abbrev pub convert_refusal : (source target : List ℕ) → ConvertFault → Refusal
-convert_refusal source target NamesAreSame = refusal_of SameName source
-convert_refusal source target TargetIsThere = refusal_of TargetExists target
-convert_refusal source target (Open fault) = refusal_of (opening_cause fault) source
-convert_refusal source target (File fault) = refusal_of (file_cause fault) source
-convert_refusal source target (Unfit out) = refusal_of (NoRoom out) source
-convert_refusal source target (Replace fault) = refusal_of (replace_cause fault) target
 
 -- a file of this kind and format may stand for the value: it has room for the grace periods and for each record, and keeps it as
 -- it is

@@ -1,19 +1,17 @@
 -- Values of quota files, with their records in a list, and whole files that are made of them. Source: this project's own; it is
 -- how quotacheck(8) makes a file.
-use Rattle.std.specs.Prelude.{◌≡◌, ◌<◌, ℕ, List, All, None, false, ⊤}
+use Rattle.std.specs.Prelude.{◌≡◌, ℕ, List, All, None, false}
 use Rattle.std.specs.List.Sorted.{IsStrictlyIncreasing}
 use Rattle.quota_types.specs.Kept.{IsKept}
 use Rattle.quota_types.specs.Range.{grace_unfit}
 use Rattle.quota_types.specs.Rec.{is_null_of}
 use Rattle.quota_value.specs.Listed.{ids_of, value_of}
 use Rattle.quota_value.specs.QuotaValue.{QuotaValue}
-use Rattle.quota_types.specs.Format.{IsTreeFormat}
 use Rattle.quota_types.specs.declared.file_kind.Format.{Format}
 use Rattle.quota_types.specs.declared.file_kind.Kind.{Kind}
 use Rattle.outside.specs.World.{World}
 use Rattle.quota_map.specs.Size.{ids_in}
 use Rattle.quota_map.specs.Replacing.{IsReplacedBy, built_size, flags_in}
-use Rattle.quota_map.specs.View.{most_blocks}
 use Rattle.opened_file.specs.declared.replacement.ReplaceFault.{ReplaceFault}
 use Rattle.opened_file.specs.declared.replacement.ReplaceFault.TheVariants.{Store, Full as NoBlocks, Memory as NoMemory}
 use Rattle.file_commands.specs.declared.file_value.FileValue.{FileValue}
@@ -40,14 +38,6 @@ abbrev pub replace_cause : ReplaceFault → Cause
 replace_cause Store = StoreFault
 replace_cause (NoBlocks blocks limit) = Full blocks limit
 replace_cause NoMemory = Memory
-
--- The causes for which a file of a format may not be replaced, whatever is told, with the name that is said. A flat file has
--- no blocks.
-abbrev pub WritingMayRefuse : Format → List ℕ → Cause → List ℕ → Type 0
-WritingMayRefuse format file StoreFault name = ⊤
-WritingMayRefuse format file Memory name = ⊤
-WritingMayRefuse format file (Full blocks limit) name = IsTreeFormat format × (limit ≡ most_blocks) × (limit < blocks) × (name ≡ file)
-WritingMayRefuse format file _ name = ⊥
 
 -- the named file was built anew for some value of this kind and of such a format, even where it stood for that value before
 pub record IsMadeAnew (kind : Kind) (IsFormat : Format → Type 0) (name : List ℕ) (old new : World) : Type 0 where

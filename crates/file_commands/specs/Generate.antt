@@ -1,5 +1,5 @@
 -- `generate`: a quota file out of a listing that is made, and a line on both. Source: this project's own.
-use Rattle.std.specs.Prelude.{ℕ, true, false, List, [], ◌++◌, codes, decimal, length, sum_by, Some, None, Result, Ok, Err, ⊤}
+use Rattle.std.specs.Prelude.{ℕ, true, false, List, [], ◌++◌, codes, decimal, length, sum_by, Some, None, Result, Ok, Err}
 use Rattle.std.specs.FinMap.{entries}
 use Rattle.quota_types.specs.Rec.{kib_of}
 use Rattle.quota_types.specs.declared.field.NoRoom.{NoRoom as NoRoomFor}
@@ -12,9 +12,9 @@ use Rattle.inode_scan.specs.Scan.{scanned}
 use Rattle.inode_scan.specs.Usage.{UsageMap}
 use Rattle.report_options.specs.declared.options.Options.{Options}
 use Rattle.refusals.specs.declared.cause.Cause.{Cause}
-use Rattle.refusals.specs.declared.cause.Cause.TheVariants.{StoreFault, SourceFault, SinkFault, LinkFault, Memory, NoRoom}
+use Rattle.refusals.specs.declared.cause.Cause.TheVariants.{NoRoom}
 use Rattle.refusals.specs.Refusals.{refusal_of}
-use Rattle.run_steps.specs.Act.{Act, Replace, ToOut}
+use Rattle.run_steps.specs.Act.{Act, ToOut}
 use Rattle.run_steps.specs.Run.{Uses}
 use Rattle.run_steps.specs.Showing.{ShowingMayRefuse}
 use Rattle.run_steps.specs.Steps.{Doing, DoingAll, Finish, Steps, Stop, Then}
@@ -64,10 +64,6 @@ GenerateSteps seed count file now =
     Then (scan_outcome file (scanned User None (generated seed count)))
     (λ (usage : UsageMap). MadeSteps count file now (checked (new_value User (Some V2R1)) usage now))
 
--- the file of a value is made, and then the line on it is written
-abbrev pub WrittenSteps : (lines : ℕ) → List ℕ → (now : ℕ) → QuotaValue → Steps
-WrittenSteps lines file now new = Doing (Replace file new) (Doing (ToOut (summary lines file now new)) Finish)
-
 -- the store is changed and the output written; the file stays where the line on it is not written
 abbrev pub generate_uses : Uses
 generate_uses = record { input = false; out = true; link = false; changes = true; all_or_nothing = false; warns = false; reads_commands = false; reads_edits = false }
@@ -78,17 +74,3 @@ generate_uses = record { input = false; out = true; link = false; changes = true
 -- room for that. So what is left are those of a report on the file.
 abbrev pub GenerateMayRefuse : List ℕ → Cause → List ℕ → Type 0
 GenerateMayRefuse file = ShowingMayRefuse None file
-
--- where a report in memory is not taken, there was not enough memory
-abbrev pub gathered_cause : Cause → Cause
-gathered_cause SinkFault = Memory
-gathered_cause cause = cause
-
--- Why a report on a file was not gathered: the store failed, there was not enough memory, or no value is seen of the file.
-abbrev pub IsUnreported : (rose unseen : Type 0) → Cause → Type 0
-IsUnreported rose unseen StoreFault = rose
-IsUnreported rose unseen Memory = ⊤
-IsUnreported rose unseen SourceFault = ⊥
-IsUnreported rose unseen SinkFault = ⊥
-IsUnreported rose unseen LinkFault = ⊥
-IsUnreported rose unseen _ = unseen

@@ -1,6 +1,9 @@
+pub mod Causes
 pub mod Check
 pub mod Conversion
+pub mod ConversionCauses
 pub mod FileValue
 pub mod Gathered
 pub mod Generate
 pub mod Report
+pub mod WritingRefused

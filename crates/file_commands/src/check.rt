@@ -1,14 +1,16 @@
 ghost use Rattle.std.specs.Prelude.{ℕ, Option, ◌≡◌, ◌⊎◌, Bool, IsSome, IsTrue, OnErr, OnOk, false, is_ok};
-ghost use Rattle.outside.specs.Frame.{Syncs};
+ghost use Rattle.outside.specs.ManyCalls.{Syncs};
 ghost use Rattle.outside.specs.Replacement.{ReplacesOnly};
 ghost use Rattle.outside.specs.Seen.{LinkSeen, SinkSeen, SourceSeen};
 ghost use Rattle.quota_map.specs.View.{IsOpenedAs};
 ghost use Rattle.run_steps.specs.Done.{seen_of, tells_of};
-ghost use Rattle.run_steps.specs.Run.{CarriesOut};
+ghost use Rattle.run_steps.specs.Carrying.{CarriesOut};
 ghost use Rattle.run_steps.specs.Steps.{Opening};
-ghost use Rattle.file_commands.specs.Check.{CheckMayRefuse, CheckSteps, IsFormatOf, OpenedMayRefuse, ReplaceSteps, UnfitMayRefuse, UsageMayRefuse, UsageSteps, apply_cause, check_uses, checked};
+ghost use Rattle.file_commands.specs.Check.{CheckMayRefuse, CheckSteps, OpenedMayRefuse, ReplaceSteps, UnfitMayRefuse, UsageMayRefuse, UsageSteps, check_uses, checked};
+ghost use Rattle.file_commands.specs.Causes.{IsFormatOf, apply_cause};
 ghost use Rattle.run_steps.specs.Changing.{edit_uses};
-ghost use Rattle.file_commands.specs.FileValue.{IsInOrder, IsMadeAnew, WritingMayRefuse, value_in};
+ghost use Rattle.file_commands.specs.FileValue.{IsInOrder, IsMadeAnew, value_in};
+ghost use Rattle.file_commands.specs.WritingRefused.{WritingMayRefuse};
 
 use crate::file_value::{FileValue, read_value, write_value};
 use crate::listing_input::take_usage;

@@ -1,12 +1,13 @@
 ghost use Rattle.std.specs.Prelude.{◌≡◌, ◌≢◌, Bool, IsTrue, OnErr, OnOk, false, is_ok};
-ghost use Rattle.outside.specs.Frame.{Syncs};
+ghost use Rattle.outside.specs.ManyCalls.{Syncs};
 ghost use Rattle.outside.specs.Replacement.{ReplacesOnly, replacement_name};
 ghost use Rattle.outside.specs.Seen.{LinkSeen, SinkSeen, SourceSeen};
 ghost use Rattle.run_steps.specs.Changing.{edit_uses};
 ghost use Rattle.run_steps.specs.Done.{seen_of, tells_of};
-ghost use Rattle.run_steps.specs.Run.{CarriesOut};
+ghost use Rattle.run_steps.specs.Carrying.{CarriesOut};
 ghost use Rattle.run_steps.specs.declared.invocation.Invocation.{Invocation};
-ghost use Rattle.file_commands.specs.Conversion.{ConvertMayRefuse, ConvertSteps, convert_refusal};
+ghost use Rattle.file_commands.specs.Conversion.{ConvertMayRefuse, ConvertSteps};
+ghost use Rattle.file_commands.specs.ConversionCauses.{convert_refusal};
 ghost use Rattle.file_commands.specs.FileValue.{IsMadeAnew};
 
 use crate::file_value::replace_cause;

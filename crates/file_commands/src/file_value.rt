@@ -1,15 +1,17 @@
 ghost use Rattle.std.specs.Prelude.{◌≡◌, Bool, IfErr, IfOk, IfSome, IsTrue, Ok, OnErr, OnOk, false, is_ok};
-ghost use Rattle.outside.specs.Frame.{OnlyReads, Syncs};
+ghost use Rattle.outside.specs.Frame.{OnlyReads};
+ghost use Rattle.outside.specs.ManyCalls.{Syncs};
 ghost use Rattle.quota_value.specs.QuotaValue.{QuotaValue};
 ghost use Rattle.outside.specs.Replacement.{ReplacesOnly};
 ghost use Rattle.outside.specs.Seen.{LinkSeen, SinkSeen, SourceSeen};
 ghost use Rattle.opened_file.specs.QuotaFile.{IsLookupFault};
 ghost use Rattle.quota_map.specs.Reading.{file_refusal};
 ghost use Rattle.run_steps.specs.Done.{seen_of, tells_of};
-ghost use Rattle.run_steps.specs.Run.{CarriesOut};
+ghost use Rattle.run_steps.specs.Carrying.{CarriesOut};
 ghost use Rattle.file_commands.specs.Check.{HasKept, ReplaceSteps, new_format, new_value};
 ghost use Rattle.run_steps.specs.Changing.{edit_uses};
-ghost use Rattle.file_commands.specs.FileValue.{IsInOrder, IsMadeAnew, IsWritable, WritingMayRefuse, replace_cause, value_in};
+ghost use Rattle.file_commands.specs.FileValue.{IsInOrder, IsMadeAnew, IsWritable, replace_cause, value_in};
+ghost use Rattle.file_commands.specs.WritingRefused.{WritingMayRefuse};
 
 use opened_file::{FileFault, QuotaFile, ReplaceFault};
 use outside::Store;

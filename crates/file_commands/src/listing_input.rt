@@ -2,9 +2,10 @@ ghost use Rattle.std.specs.Prelude.{◌≡◌, ◌≤◌, [], false, IfErr, IfOk
 ghost use Rattle.outside.specs.Behind.{IsBehind};
 ghost use Rattle.outside.specs.Count.{Rose};
 ghost use Rattle.outside.specs.Frame.{OnlyReads};
-ghost use Rattle.input_text.specs.StoreInput.{left_from};
+ghost use Rattle.input_text.specs.InputLeft.{left_from};
 ghost use Rattle.refusals.specs.Outcome.{Passed};
-ghost use Rattle.run_steps.specs.Taking.{AListing, InputMayRefuse, IsInputFault, file_said, input_said};
+ghost use Rattle.run_steps.specs.Taking.{AListing, InputMayRefuse, file_said, input_said};
+ghost use Rattle.run_steps.specs.Causes.{IsInputFault};
 ghost use Rattle.file_commands.specs.Check.{scan_cause, scan_step};
 ghost use Rattle.refusals.specs.declared.cause.Cause.TheVariants.{StoreFault as StoreFailed};
 ghost use Rattle.refusals.specs.Refusals.{nowhere, refusal_of};

@@ -1,9 +1,9 @@
 ghost use Rattle.std.specs.Prelude.{ℕ, Option, ◌≡◌, Bool, is_ok};
 ghost use Rattle.id_names.specs.NamesFile.{NameLine};
 ghost use Rattle.outside.specs.Seen.{LinkSeen, SinkSeen, SourceSeen};
-ghost use Rattle.outside.specs.Frame.{Syncs};
+ghost use Rattle.outside.specs.ManyCalls.{Syncs};
 ghost use Rattle.run_steps.specs.Done.{seen_of, tells_of};
-ghost use Rattle.run_steps.specs.Run.{CarriesOut};
+ghost use Rattle.run_steps.specs.Carrying.{CarriesOut};
 ghost use Rattle.file_commands.specs.Report.{ReportMayRefuse, ReportSteps, report_cause, report_on};
 ghost use Rattle.run_steps.specs.Showing.{ShowingMayRefuse, ShowingSteps, showing_uses};
 

@@ -5,7 +5,8 @@ use Rattle.quota_types.specs.Bytes.{byte_at}
 use Rattle.quota_types.specs.Times.{times}
 use Rattle.file_blocks.specs.Block.{block_of}
 use Rattle.quota_types.specs.Span.{KeepsOutside}
-use Rattle.quota_pages.specs.Used.{HasWord, KeepsBlocksBut}
+use Rattle.quota_pages.specs.Used.{HasWord}
+use Rattle.quota_pages.specs.KeptBlocks.{KeepsBlocksBut}
 use Rattle.free_chains.specs.Links.{ChangesLinksAlone, HasLinks, led_to}
 use Rattle.free_chains.proofs.EntryListLemmas.{not_led_to}
 use Rattle.free_chains.proofs.SpliceLemmas.{none_of_one}

@@ -9,7 +9,8 @@ use Rattle.file_blocks.specs.Block.{block_of, leads, next_of, previous_of}
 use Rattle.quota_types.specs.Span.{KeepsOutside}
 use Rattle.file_blocks.proofs.LeadsLemmas.{leads_within}
 use Rattle.quota_types.proofs.BytesLemmas.{number_same}
-use Rattle.quota_pages.specs.Used.{HasWord, KeepsBlocksBut}
+use Rattle.quota_pages.specs.Used.{HasWord}
+use Rattle.quota_pages.specs.KeptBlocks.{KeepsBlocksBut}
 use Rattle.free_chains.specs.Chain.{IsChain}
 use Rattle.free_chains.specs.Links.{HasLinks, led_to}
 use Rattle.free_chains.specs.EntryList.{EntersList}

@@ -7,7 +7,8 @@ use Rattle.quota_types.specs.Times.{times}
 use Rattle.quota_types.proofs.TimesLemmas.{times-cons-same}
 use Rattle.file_blocks.specs.Block.{block_of, next_of}
 use Rattle.file_blocks.proofs.LeadsLemmas.{leads_within}
-use Rattle.quota_pages.specs.Used.{HasWord, KeepsBlocksBut}
+use Rattle.quota_pages.specs.Used.{HasWord}
+use Rattle.quota_pages.specs.KeptBlocks.{KeepsBlocksBut}
 use Rattle.free_chains.specs.Chain.{IsChain}
 use Rattle.free_chains.specs.FreeList.{GivesBlock, LosesFirst, TakesBlock}
 use Rattle.free_chains.specs.declared.heads.Heads.{Heads}

@@ -6,7 +6,8 @@ use Rattle.std.proofs.lemmas.Bool.Decides.{eqb_tells}
 use Rattle.quota_types.specs.Times.{StandsIn, times}
 use Rattle.quota_types.proofs.TimesLemmas.{stands_left, stands_right, times-append, times-cons-other, times-cons-same}
 use Rattle.file_blocks.specs.Block.{block_of, next_of, previous_of}
-use Rattle.quota_pages.specs.Used.{HasWord, KeepsBlocksBut}
+use Rattle.quota_pages.specs.Used.{HasWord}
+use Rattle.quota_pages.specs.KeptBlocks.{KeepsBlocksBut}
 use Rattle.free_chains.specs.Chain.{IsChain}
 use Rattle.free_chains.specs.Links.{led_to}
 use Rattle.free_chains.specs.EntryList.{AreApart, LeavesList, NamesPrevious, Unlinks}

@@ -10,7 +10,8 @@ use Rattle.quota_types.specs.Span.{KeepsOutside}
 use Rattle.quota_types.proofs.BytesLemmas.{number_same}
 use Rattle.quota_pages.specs.Page.{Page, is_buffered}
 use Rattle.quota_pages.specs.Pages.{pages_of}
-use Rattle.quota_pages.specs.Used.{HasWord, KeepsBlocksBut, LendsSome, LooksAtSome, missing}
+use Rattle.quota_pages.specs.Used.{HasWord, LendsSome, LooksAtSome, missing}
+use Rattle.quota_pages.specs.KeptBlocks.{KeepsBlocksBut}
 use Rattle.quota_pages.specs.declared.page_buffer.Pages.{Pages}
 use Rattle.quota_pages.proofs.LentLemmas.{lends_among}
 use Rattle.quota_pages.proofs.UsedLemmas.{lends_more, lends_then, looks_then_lends, missing-few, missing-there, HasWord-earlier, HasWord-later}

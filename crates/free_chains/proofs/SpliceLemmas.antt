@@ -5,7 +5,7 @@ use Rattle.quota_types.proofs.TimesLemmas.{stands_cons, stands_right, times-appe
 use Rattle.file_blocks.specs.Block.{leads, next_of, previous_of}
 use Rattle.file_blocks.proofs.LeadsLemmas.{leads_from, leads_within}
 use Rattle.quota_types.specs.Bytes.{number_at}
-use Rattle.quota_pages.specs.Used.{KeepsBlocksBut}
+use Rattle.quota_pages.specs.KeptBlocks.{KeepsBlocksBut}
 use Rattle.free_chains.specs.Chain.{IsChain}
 use Rattle.free_chains.specs.EntryList.{NamesPrevious}
 

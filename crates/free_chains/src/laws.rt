@@ -3,7 +3,7 @@
 ghost use Rattle.std.specs.Prelude.{◌≡◌, ◌⊎◌, ℕ, ◌≤◌, IsTrue, List, length};
 ghost use Rattle.quota_types.specs.Times.{StandsIn, times};
 ghost use Rattle.file_blocks.specs.Block.{leads, next_of};
-ghost use Rattle.quota_pages.specs.Used.{KeepsBlocksBut};
+ghost use Rattle.quota_pages.specs.KeptBlocks.{KeepsBlocksBut};
 ghost use Rattle.free_chains.specs.Chain.{IsChain, chain_from};
 ghost use Rattle.free_chains.specs.EntryList.{NamesPrevious};
 

@@ -19,14 +19,16 @@ use Rattle.quota_types.specs.declared.record.Rec.{Rec}
 use Rattle.quota_types.proofs.AscendsLemmas.{Ascends, Ascends-of}
 use Rattle.quota_value.specs.Listed.{ids_of, records_of}
 use Rattle.quota_types.specs.Ids.{IsAfter}
-use Rattle.quota_value.specs.QuotaValue.{IsNextAfter, Records}
+use Rattle.quota_value.specs.QuotaValue.{Records}
+use Rattle.quota_value.specs.NextRecord.{IsNextAfter}
 use Rattle.quota_value.proofs.EntriesLemmas.{entries_after, entries_after-all, entries_after-end, entries_after-next, IsAfter-more}
 use Rattle.quota_value.proofs.ListedLemmas.{pairs_of}
 use Rattle.inode_scan.specs.declared.used.Used.{Used}
 use Rattle.inode_scan.specs.Apply.{IsKeptEntry, applied, first_no_room, kept_entry, kept_records, no_room, wanted, wanted_record}
 use Rattle.inode_scan.specs.Faults.{unless}
 use Rattle.inode_scan.specs.Merge.{first_id, least_id, record_at, records_behind}
-use Rattle.inode_scan.specs.Usage.{IsNextUser, UsageMap}
+use Rattle.inode_scan.specs.Usage.{UsageMap}
+use Rattle.inode_scan.specs.UsageSums.{IsNextUser}
 
 -- Numbers.
 

@@ -3,7 +3,8 @@ use Rattle.std.proofs.Common.{◌≡◌, ℕ, zero, suc, ◌+◌, ◌-◌, ◌<�
 use Rattle.std.specs.List.{slice_range}
 use Rattle.std.proofs.lemmas.List.{drop_all, drop_min, take_at}
 use Rattle.std.proofs.lemmas.List.Folds.{drop_split}
-use Rattle.inode_scan.specs.Generated.{first_alike, generated, generated_lines, lines_behind, lines_text, number_behind, number_of_line, row_made, row_text}
+use Rattle.inode_scan.specs.Generated.{first_alike, generated, generated_lines, lines_text, number_behind, number_of_line, row_made, row_text}
+use Rattle.inode_scan.specs.GeneratedLeft.{lines_behind}
 
 -- the lines behind one are those of the listing
 lines_made : (seed line count : ℕ) → lines_behind (number_of_line seed line) line count ≡ generated_lines seed line count

@@ -16,11 +16,12 @@ use Rattle.quota_types.specs.Kept.{kept_of}
 use Rattle.quota_types.specs.Rec.{is_null_of}
 use Rattle.quota_value.specs.Listed.{ids_of, records_of}
 use Rattle.quota_types.specs.Ids.{IsAfter}
-use Rattle.quota_value.specs.QuotaValue.{IsNextAfter}
+use Rattle.quota_value.specs.NextRecord.{IsNextAfter}
 use Rattle.inode_scan.specs.declared.used.Used.{Used}
 use Rattle.inode_scan.specs.Apply.{IsKeptEntry, applied, no_room, wanted, wanted_record}
 use Rattle.inode_scan.specs.Merge.{first_id, least_id, record_at, records_behind}
-use Rattle.inode_scan.specs.Usage.{IsNextUser, UsageMap}
+use Rattle.inode_scan.specs.Usage.{UsageMap}
+use Rattle.inode_scan.specs.UsageSums.{IsNextUser}
 use Rattle.inode_scan.proofs.ApplyLemmas.{next_wanted, next_rest, from_after, after_is, IsRest, IsDone, done_more, refused_at}
 
 -- numbers strictly ascend, from one on and below another one

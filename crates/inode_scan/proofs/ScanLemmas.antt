@@ -3,8 +3,9 @@ use Rattle.std.proofs.Common.{◌≡◌, ℕ, ◌+◌, ◌-◌, ◌≤◌, Bool,
 use Rattle.std.specs.Prelude.{if◌then◌else◌, IfOk, IfErr, OnOk, slice_get}
 use Rattle.std.specs.Option.{option_to_list}
 use Rattle.quota_types.specs.declared.file_kind.Kind.{Kind}
-use Rattle.input_text.specs.InputLines.{InputLines, NoLine, LineThen, LongNext, PastNext, input_lines, line_then}
-use Rattle.input_text.specs.Lines.{IsLineFault, LinesSeen, NamesLine, line_given, next_line_of}
+use Rattle.input_text.specs.InputLines.{InputLines, NoLine, LineThen, LongNext, PastNext, input_lines}
+use Rattle.input_text.specs.LineReading.{line_then, IsLineFault, LinesSeen, NamesLine, line_given}
+use Rattle.input_text.specs.Lines.{next_line_of}
 use Rattle.input_text.specs.declared.line_reader.LineFault.{LineFault}
 use Rattle.input_text.specs.declared.line_reader.LineFault.TheVariants.{Source, Long, TooLarge}
 use Rattle.input_text.proofs.InputLinesLemmas.{input_lines-long, input_lines-past, lines_left-next}
@@ -13,7 +14,8 @@ use Rattle.inode_scan.specs.declared.fault.ScanFault.TheVariants as scan
 use Rattle.inode_scan.specs.declared.tally.Tally.{Tally}
 use Rattle.inode_scan.specs.Faults.{unless}
 use Rattle.inode_scan.specs.Listing.{counted_lines, fault_of, faults_of, usage_of}
-use Rattle.inode_scan.specs.Scan.{IsEndFault, IsScanFault, end_fault, first_fault, line_fault, listing_left, read_lines, scanned, scanned_lines}
+use Rattle.inode_scan.specs.Scan.{end_fault, first_fault, read_lines, scanned, scanned_lines}
+use Rattle.inode_scan.specs.ListingFaults.{IsEndFault, IsScanFault, line_fault, listing_left}
 use Rattle.inode_scan.specs.Tally.{IsBounded, IsOf, IsRefusedLine, IsWrongAs}
 use Rattle.inode_scan.specs.Usage.{UsageMap}
 use Rattle.inode_scan.proofs.FaultLemmas.{first_fault_is}

@@ -12,7 +12,8 @@ use Rattle.inode_scan.specs.declared.row.Row.{Row}
 use Rattle.inode_scan.specs.declared.used.Used.{Used}
 use Rattle.inode_scan.specs.Listing.{Counted, first_lines, first_of, owned, owner_of, usage_of, used_in}
 use Rattle.inode_scan.specs.Tally.{AreBefore, IsBounded}
-use Rattle.inode_scan.specs.Usage.{UsageMap, with_inode}
+use Rattle.inode_scan.specs.Usage.{UsageMap}
+use Rattle.inode_scan.specs.UsageSums.{with_inode}
 use Rattle.inode_scan.proofs.FirstLemmas.{first_lines-push}
 
 -- what lines use, where there are any

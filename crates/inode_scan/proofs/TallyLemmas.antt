@@ -20,7 +20,8 @@ use Rattle.inode_scan.specs.Firsts.{inode_eq, kept_in, kept_or}
 use Rattle.inode_scan.specs.Line.{is_bad, row_in, row_of}
 use Rattle.inode_scan.specs.Listing.{Counted, conflict_of, counted_line, counted_lines, counted_row, fault_of, faults_of, first_lines, first_of, is_asked, is_same_inode, owned, owner_of, usage_of, used_in}
 use Rattle.inode_scan.specs.Tally.{AreBefore, ConflictsAs, IsOf, IsRefusedLine, IsRefusedRow, Keeps, TakesRow, agrees, counted_at, first_kept, row_at}
-use Rattle.inode_scan.specs.Usage.{UsageMap, with_inode}
+use Rattle.inode_scan.specs.Usage.{UsageMap}
+use Rattle.inode_scan.specs.UsageSums.{with_inode}
 use Rattle.inode_scan.proofs.FaultLemmas.{faults_of-push}
 use Rattle.inode_scan.proofs.FirstLemmas.{conflict_of-first, conflict_of-later, counted_before, counted_lines-append, first_lines-push, first_of-append}
 use Rattle.inode_scan.proofs.RowLemmas.{no_words}

@@ -14,7 +14,7 @@ use Rattle.std.proofs.lemmas.Bool.{true≢false}
 use Rattle.std.proofs.lemmas.Bool.Decides.{nat_tests}
 use Rattle.quota_types.specs.Ids.{IsAfter}
 use Rattle.inode_scan.specs.declared.used.Used.{Used}
-use Rattle.inode_scan.specs.Usage.{IsNextUser, bound_above}
+use Rattle.inode_scan.specs.UsageSums.{IsNextUser, bound_above}
 
 found_entry : (es : List (ℕ × Used)) (id : ℕ) → find nat_cmp id es ≡ lookup (is_at (nat_cmp id)) es
 found_entry [] id = refl

@@ -1,9 +1,7 @@
 -- A listing that is made, of as many lines as are asked for. Source: the recurrence is D. E. Knuth's linear congruential
 -- generator of 64 bits, as in MMIX; what the lines have is this project's own.
-use Rattle.std.specs.Prelude.{ℕ, zero, suc, ◌+◌, ◌-◌, ◌*◌, ◌/◌, ◌%◌, ◌^◌, ◌==◌, Bool, if◌then◌else◌, List, [], ◌∷◌, ◌++◌, drop, codes, decimal}
+use Rattle.std.specs.Prelude.{ℕ, zero, suc, ◌+◌, ◌-◌, ◌*◌, ◌/◌, ◌%◌, ◌^◌, ◌==◌, Bool, if◌then◌else◌, List, [], ◌∷◌, ◌++◌, codes, decimal}
 use Rattle.std.specs.List.{flat_map}
-use Rattle.outside.specs.Seen.{SourceSeen}
-use Rattle.inode_scan.specs.declared.generated.Generated.{Generated}
 use Rattle.inode_scan.specs.declared.row.Row.{Row}
 
 -- the number behind another one
@@ -54,21 +52,3 @@ lines_text lines = flat_map (λ line. line ++ codes "\n") lines
 -- the listing of a seed with this many lines
 unfoldable pub generated : (seed count : ℕ) → List ℕ
 generated seed count = lines_text (generated_lines seed 0 count)
-
--- What is left of a listing that is being made. It is the code's own, and no contract of a public call speaks of it.
-
--- this many lines behind one that was made of this number
-abbrev pub lines_behind : (x line count : ℕ) → List (List ℕ)
-lines_behind x line zero = []
-lines_behind x line (suc count) =
-    row_text (row_made (number_behind x (suc line)) (first_alike (suc line)))
-    ∷ lines_behind (number_behind x (suc line)) (suc line) count
-
--- the rest of the line at hand, and the lines behind it
-unfoldable pub generated_left : Generated → List ℕ
-generated_left source =
-    drop source.at source.text.items ++ lines_text (lines_behind source.x source.line (source.count - source.line))
-
--- a listing that is made never fails
-abbrev pub generated_seen : Generated → SourceSeen
-generated_seen source = record { left = generated_left source; faults = 0 }

@@ -2,9 +2,12 @@ pub mod Apply
 pub mod Faults
 pub mod Firsts
 pub mod Generated
+pub mod GeneratedLeft
 pub mod Line
 pub mod Listing
+pub mod ListingFaults
 pub mod Merge
 pub mod Scan
 pub mod Tally
 pub mod Usage
+pub mod UsageSums

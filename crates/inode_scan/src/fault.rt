@@ -1,7 +1,7 @@
 ghost use Rattle.std.specs.Prelude.{◌≡◌};
 ghost use Rattle.inode_scan.specs.declared.fault.ScanFault.TheVariants.{Memory};
 ghost use Rattle.inode_scan.specs.declared.fault.ApplyFault.TheVariants.{Memory as NoMemory, NoRoom as Unfit};
-ghost use Rattle.inode_scan.specs.Scan.{line_fault};
+ghost use Rattle.inode_scan.specs.ListingFaults.{line_fault};
 
 use input_text::LineFault;
 use quota_types::NoRoom;

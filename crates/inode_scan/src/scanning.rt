@@ -1,6 +1,7 @@
 ghost use Rattle.std.specs.Prelude.{◌≡◌, ◌+◌, ◌-◌, ◌<◌, ◌≤◌, [], true, false, is_ok, IsTrue, IfOk, IfErr, OnOk, Ok, if◌then◌else◌};
-ghost use Rattle.input_text.specs.InputLines.{line_then};
-ghost use Rattle.inode_scan.specs.Scan.{IsEndFault, IsScanFault, listing_left, scanned};
+ghost use Rattle.input_text.specs.LineReading.{line_then};
+ghost use Rattle.inode_scan.specs.Scan.{scanned};
+ghost use Rattle.inode_scan.specs.ListingFaults.{IsEndFault, IsScanFault, listing_left};
 
 use crate::tally::Tally;
 use crate::{ScanFault, Usage};

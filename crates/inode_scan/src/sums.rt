@@ -1,6 +1,6 @@
 ghost use Rattle.std.specs.Prelude.{◌≡◌, ◌+◌, ◌*◌, ◌^◌, ◌<◌, IfOk, IfSome, OnOk};
 ghost use Rattle.std.specs.FinMap as map;
-ghost use Rattle.inode_scan.specs.Usage.{with_inode};
+ghost use Rattle.inode_scan.specs.UsageSums.{with_inode};
 
 use crate::{Usage, Used};
 use std::alloc::{AllocError, AllocFailed, Global};
@@ -17,7 +17,8 @@ pub(crate) struct Sums {
 impl Model for Sums {
     ghost use Rattle.std.specs.FinMap as map;
     ghost use Rattle.std.specs.Coded.{coded_ℕ};
-    ghost use Rattle.inode_scan.specs.Usage.{UsageMap, used_code};
+    ghost use Rattle.inode_scan.specs.Usage.{UsageMap};
+    ghost use Rattle.inode_scan.specs.UsageSums.{used_code};
 
     ghost Value = { UsageMap };
 

@@ -1,6 +1,6 @@
 ghost use Rattle.std.specs.Prelude.{◌≡◌, IfOk};
 ghost use Rattle.std.specs.FinMap as map;
-ghost use Rattle.inode_scan.specs.Usage.{IsNextUser, bound_above};
+ghost use Rattle.inode_scan.specs.UsageSums.{IsNextUser, bound_above};
 
 use crate::Used;
 use std::alloc::{AllocError, Global};
@@ -17,7 +17,8 @@ pub struct Usage {
 impl Model for Usage {
     ghost use Rattle.std.specs.FinMap as map;
     ghost use Rattle.std.specs.Coded.{coded_ℕ};
-    ghost use Rattle.inode_scan.specs.Usage.{UsageMap, used_code};
+    ghost use Rattle.inode_scan.specs.Usage.{UsageMap};
+    ghost use Rattle.inode_scan.specs.UsageSums.{used_code};
 
     ghost Value = { UsageMap };
 

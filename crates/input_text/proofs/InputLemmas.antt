@@ -3,7 +3,7 @@ use Rattle.std.proofs.Common.{◌≡◌, ℕ, ◌+◌, ◌-◌, ◌^◌, ◌≤�
 use Rattle.std.proofs.Math.Seq.{take-add}
 use Rattle.std.proofs.lemmas.List.{drop-drop, take-append-le}
 use Rattle.std.specs.Option.{unwrap_or}
-use Rattle.input_text.specs.StoreInput.{left_from}
+use Rattle.input_text.specs.InputLeft.{left_from}
 use Rattle.outside.specs.World.{World, bytes_from}
 use Rattle.outside.proofs.WorldLemmas.{take-length-take}
 

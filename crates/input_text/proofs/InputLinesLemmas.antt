@@ -3,8 +3,9 @@ use Rattle.std.proofs.Common.{◌≡◌, ℕ, zero, suc, ◌+◌, ◌-◌, ◌<�
 use Rattle.std.specs.Prelude.{if◌then◌else◌, ◌==◌}
 use Rattle.std.specs.List.{position_or_len}
 use Rattle.std.proofs.lemmas.Bool.Decides.{nat_tests}
-use Rattle.input_text.specs.Lines.{NextLine, AtEnd, Line, LongLine, PastTotal, LinesSeen, behind_line, is_newline, line_front, line_given, next_line_of}
-use Rattle.input_text.specs.InputLines.{InputLines, LineThen, LongNext, PastNext, input_lines, line_then, lines_from, lines_left, lines_within}
+use Rattle.input_text.specs.Lines.{NextLine, AtEnd, Line, LongLine, PastTotal, behind_line, is_newline, line_front, next_line_of}
+use Rattle.input_text.specs.LineReading.{LinesSeen, line_given, line_then, lines_left}
+use Rattle.input_text.specs.InputLines.{InputLines, LineThen, LongNext, PastNext, input_lines, lines_from, lines_within}
 
 -- a line leaves fewer bytes
 Leaves : ℕ → NextLine → Type 0

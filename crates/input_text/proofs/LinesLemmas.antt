@@ -10,7 +10,8 @@ use Rattle.std.proofs.Math.Seq.{take-add}
 use Rattle.std.proofs.lemmas.List.Sums.{prefix_len-le-length}
 use Rattle.input_text.specs.declared.line_reader.LineFault.{LineFault}
 use Rattle.input_text.specs.declared.line_reader.LineFault.TheVariants.{Source, Long, TooLarge}
-use Rattle.input_text.specs.Lines.{IsLineFault, IsOver, RefusesLine, NextLine, AtEnd, Line, LongLine, PastTotal, behind_line, is_newline, line_front, line_given, next_line_of}
+use Rattle.input_text.specs.Lines.{NextLine, AtEnd, Line, LongLine, PastTotal, behind_line, is_newline, line_front, next_line_of}
+use Rattle.input_text.specs.LineReading.{IsLineFault, IsOver, RefusesLine, line_given}
 
 module _ {X : Type 0} (q : X → Bool) where
   -- as many pass from the front as stand there and may be taken

@@ -1,6 +1,6 @@
 -- All lines of an input, as they are read one by one under a bound for each and one for all.
-use Rattle.std.specs.Prelude.{ℕ, zero, suc, ◌-◌, Bool, true, false, List, ◌++◌, length}
-use Rattle.input_text.specs.Lines.{NextLine, AtEnd, Line, LongLine, PastTotal, LinesSeen, next_line_of}
+use Rattle.std.specs.Prelude.{ℕ, zero, suc, ◌-◌, List, length}
+use Rattle.input_text.specs.Lines.{NextLine, AtEnd, Line, LongLine, PastTotal, next_line_of}
 
 -- The lines of an input, each with those behind it, up to its end, or up to a line that is too long, or to one that does
 -- not end within the bytes that may be read.
@@ -9,11 +9,6 @@ pub data InputLines : Type 0 where
   LineThen : (line : List ℕ) (more : InputLines) → InputLines
   LongNext : InputLines
   PastNext : InputLines
-
--- the line that is given, where there is one, and the lines behind it
-abbrev pub line_then : Bool → List ℕ → InputLines → InputLines
-line_then true line more = LineThen line more
-line_then false line more = NoLine
 
 -- what comes next, and where that is a line, the lines of what stands behind it
 abbrev pub lines_from : NextLine → (List ℕ → InputLines) → InputLines
@@ -32,7 +27,3 @@ lines_within (suc steps) most room rest =
 -- bytes is enough.
 unfoldable pub input_lines : (most room : ℕ) → List ℕ → InputLines
 input_lines most room bytes = lines_within (suc (length bytes)) most room bytes
-
--- the lines that a reader has still to give, where its source has these bytes left
-abbrev pub lines_left : (most total : ℕ) → LinesSeen → List ℕ → InputLines
-lines_left most total seen left = input_lines most (total - seen.given) (seen.held ++ left)

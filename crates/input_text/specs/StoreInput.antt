@@ -1,18 +1,13 @@
 -- One file of a store as a source.
-use Rattle.std.specs.Prelude.{◌≡◌, ◌⊎◌, ℕ, ◌-◌, ◌^◌, Bool, IsTrue, List, Option}
+use Rattle.std.specs.Prelude.{◌≡◌, ◌⊎◌, Bool, IsTrue}
 use Rattle.std.specs.String.{string_bytes}
 use Rattle.outside.specs.Behind.{IsBehind}
 use Rattle.outside.specs.Count.{Rose}
 use Rattle.outside.specs.Frame.{OnlyReads}
 use Rattle.outside.specs.Seen.{SourceSeen, StoreSeen}
 use Rattle.outside.specs.Unsynced.{AddsNone}
-use Rattle.outside.specs.World.{bytes_from}
 use Rattle.input_text.specs.declared.store_input.StoreInput.{StoreInput}
-
--- The bytes of a file that are left from a place on. They end at the last place that a number of 64 bits has, which no
--- file passes that a system can hold. Source: off_t in <sys/types.h>.
-abbrev pub left_from : Option (List ℕ) → ℕ → List ℕ
-left_from file at = bytes_from file at (2 ^ 64 - 1 - at)
+use Rattle.input_text.specs.InputLeft.{left_from}
 
 module _ {S : Type 0} (seen : S → StoreSeen) where
   -- what is left is what the file of that name has from the place on, and the faults are the store's

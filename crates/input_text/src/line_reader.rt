@@ -1,7 +1,8 @@
 ghost use Rattle.std.specs.Prelude.{◌≡◌, ◌<◌, ◌≤◌, ◌+◌, ◌-◌, ◌^◌, ◌++◌, ℕ, List, [], true, false, nat_lt, length, take, drop, position, is_ok, IsTrue, IfOk, IfErr, OnOk, OnErr, if◌then◌else◌};
 ghost use Rattle.std.specs.List.{list_any, position_or_len};
 ghost use Rattle.outside.specs.Count.{Rose};
-ghost use Rattle.input_text.specs.Lines.{IsLineFault, IsOver, Line, NamesLine, RefusesLine, is_newline, line_given, next_line_of};
+ghost use Rattle.input_text.specs.Lines.{Line, is_newline, next_line_of};
+ghost use Rattle.input_text.specs.LineReading.{IsLineFault, IsOver, NamesLine, RefusesLine, line_given};
 ghost use Rattle.input_text.specs.declared.line_reader.LineFault.TheVariants.{Source as SourceFailed};
 
 use arrayvec::ArrayVec;
@@ -42,7 +43,7 @@ pub struct LineReader {
 impl Model for LineReader {
     ghost use Rattle.std.specs.Prelude.{◌+◌, ◌≤◌};
     ghost use Rattle.std.specs.List.{slice_range};
-    ghost use Rattle.input_text.specs.Lines.{LinesSeen};
+    ghost use Rattle.input_text.specs.LineReading.{LinesSeen};
 
     ghost Value = { LinesSeen };
 

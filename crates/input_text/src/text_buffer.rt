@@ -1,6 +1,7 @@
 ghost use Rattle.std.specs.Prelude.{◌≡◌, ◌+◌, ◌≤◌, ◌++◌, ℕ, List, [], length, IsTrue, OnOk, OnErr};
 ghost use Rattle.outside.specs.Count.{Rose};
-ghost use Rattle.outside.specs.Text.{AppendsPrefix, Gathers, WritesPrefix};
+ghost use Rattle.outside.specs.Text.{AppendsPrefix};
+ghost use Rattle.outside.specs.Gathering.{Gathers, WritesPrefix};
 
 use arrayvec::ArrayVec;
 use outside::{Sink, SinkFault};

@@ -4,7 +4,7 @@ use Rattle.outside.specs.Unsynced.{Names, with_name}
 use Rattle.outside.specs.World.{KeepsOthers, World, with_bytes, with_file}
 use Rattle.disk.specs.DiskSeen.{DiskSeen, Follows}
 use Rattle.disk.specs.Steps.{ChangesFile}
-use Rattle.edit_journal.specs.Settled.{IsRecovered}
+use Rattle.edit_journal.specs.Recovered.{IsRecovered}
 use Rattle.edit_journal.specs.Spans.{Span}
 use Rattle.edit_journal.specs.UndoName.{undo_name}
 use Rattle.journal_store.specs.Told.{told_files, told_names}

@@ -6,8 +6,8 @@ use Rattle.outside.specs.Unsynced.{Names, with_handed, with_name}
 use Rattle.outside.specs.World.{KeepsOthers, World}
 use Rattle.disk.specs.DiskSeen.{DiskSeen, OnlyLeaves, Passes}
 use Rattle.disk.proofs.StopLemmas.{only_leaves-wider, passes-then, passes-wider}
-use Rattle.edit_journal.specs.Recovery.{IsSame, RecoversSame}
-use Rattle.edit_journal.specs.Settled.{KeepsOtherThree}
+use Rattle.edit_journal.specs.Recovery.{IsSame}
+use Rattle.edit_journal.specs.Recovered.{RecoversSame, KeepsOtherThree}
 use Rattle.edit_journal.proofs.CommitLemmas.{only-then}
 use Rattle.edit_journal.proofs.ReadLemmas.{looks-wider}
 use Rattle.edit_journal.proofs.RecoverLemmas.{as_before}

@@ -7,7 +7,7 @@ use Rattle.outside.specs.World.{KeepsOthers, World, overwritten, with_bytes, wit
 use Rattle.outside.proofs.WorldLemmas.{KeepsOthers-with_file, bytes_eq-true, with_file-at}
 use Rattle.disk.specs.DiskSeen.{DiskSeen}
 use Rattle.quota_types.specs.Bytes.{byte_at}
-use Rattle.edit_journal.specs.Settled.{IsRecovered}
+use Rattle.edit_journal.specs.Recovered.{IsRecovered}
 use Rattle.edit_journal.specs.Spans.{Span, laid}
 use Rattle.edit_journal.specs.Undo.{recovered}
 use Rattle.edit_journal.specs.UndoName.{undo_name}

@@ -7,7 +7,8 @@ use Rattle.outside.specs.World.{KeepsOthers}
 use Rattle.outside.proofs.WorldLemmas.{bytes_eq-true}
 use Rattle.disk.specs.DiskSeen.{DiskSeen, OnlyLeaves, Passes}
 use Rattle.disk.proofs.StopLemmas.{only_leaves-wider}
-use Rattle.edit_journal.specs.Settled.{IsRecovered, IsSettled, KeepsOtherThree, RecoversToEither}
+use Rattle.edit_journal.specs.Settled.{IsSettled, RecoversToEither}
+use Rattle.edit_journal.specs.Recovered.{IsRecovered, KeepsOtherThree}
 use Rattle.edit_journal.specs.Spans.{Span, laid}
 use Rattle.edit_journal.specs.Undo.{recovered}
 use Rattle.edit_journal.specs.UndoName.{und_name, undo_name}

@@ -9,8 +9,8 @@ use Rattle.disk.specs.DiskSeen.{ChangesNothing, DiskSeen, EachImage, IsKept, Onl
 use Rattle.disk.specs.Steps.{ChangesFile, MayBeRenamed}
 use Rattle.disk.proofs.StopLemmas.{passes-nothing, passes-step}
 use Rattle.quota_types.specs.Bytes.{byte_at}
-use Rattle.edit_journal.specs.Recovery.{IsSame, RecoversSame}
-use Rattle.edit_journal.specs.Settled.{KeepsOtherThree}
+use Rattle.edit_journal.specs.Recovery.{IsSame}
+use Rattle.edit_journal.specs.Recovered.{RecoversSame, KeepsOtherThree}
 use Rattle.edit_journal.specs.Undo.{recovered}
 use Rattle.edit_journal.specs.UndoName.{und_name, undo_name}
 use Rattle.edit_journal.proofs.NameLemmas.{und-undo, undo-injective}

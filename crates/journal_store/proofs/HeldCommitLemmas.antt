@@ -4,7 +4,8 @@ use Rattle.std.proofs.lemmas.Bool.{false≢true}
 use Rattle.outside.specs.Unsynced.{with_name}
 use Rattle.outside.specs.World.{KeepsOthers}
 use Rattle.disk.specs.DiskSeen.{DiskSeen, OnlyLeaves, Passes}
-use Rattle.edit_journal.specs.Settled.{CanCommit, IsRecovered, IsSettled, KeepsOtherThree, RecoversToEither}
+use Rattle.edit_journal.specs.Settled.{CanCommit, IsSettled, RecoversToEither}
+use Rattle.edit_journal.specs.Recovered.{IsRecovered, KeepsOtherThree}
 use Rattle.edit_journal.specs.Spans.{Span, laid}
 use Rattle.edit_journal.specs.UndoName.{und_name, undo_name}
 use Rattle.journal_store.specs.JournalStore.{RecoversAsBeforeOr}

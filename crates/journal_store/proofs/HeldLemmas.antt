@@ -6,7 +6,7 @@ use Rattle.outside.specs.Unsynced.{Names, with_handed, with_name}
 use Rattle.outside.specs.World.{World, with_bytes, with_file, with_new_name}
 use Rattle.disk.specs.DiskSeen.{DiskSeen}
 use Rattle.quota_types.specs.Bytes.{byte_at}
-use Rattle.edit_journal.specs.Settled.{IsRecovered}
+use Rattle.edit_journal.specs.Recovered.{IsRecovered}
 use Rattle.edit_journal.specs.Spans.{Span, laid, span_of, spans_of}
 use Rattle.edit_journal.specs.UndoName.{undo_name}
 use Rattle.edit_journal.specs.declared.kept.KeptRange.{KeptRange}

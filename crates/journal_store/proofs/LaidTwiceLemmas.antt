@@ -1,7 +1,8 @@
 -- Ranges that are laid over a file twice.
 use Rattle.std.proofs.Common.{◌≡◌, inl, inr, ◌⊎◌, ⊎_elim, ℕ, ◌+◌, ◌≤◌, get_or, refl, List, [], ◌∷◌, length, Option, Some, option_map, sym, ap, ◌∙◌, subst, arith}
 use Rattle.std.proofs.lemmas.List.{ext_get_or}
-use Rattle.edit_journal.specs.Spans.{IsOutsideAll, Span, laid, with_laid}
+use Rattle.edit_journal.specs.Spans.{Span, laid, with_laid}
+use Rattle.edit_journal.specs.UndoSaves.{IsOutsideAll}
 use Rattle.edit_journal.proofs.LaidLemmas.{get_or-with_laid_before, get_or-with_laid_behind, length-laid}
 use Rattle.edit_journal.proofs.MendLemmas.{laid_same}
 use Rattle.journal_store.proofs.OverlayLemmas.{length-laid_one}

@@ -7,8 +7,7 @@ use Rattle.outside.specs.World.{World}
 use Rattle.outside.proofs.WorldLemmas.{bytes_eq-true}
 use Rattle.outside.proofs.FrameLemmas.{adds_none-then, keeps_others-then}
 use Rattle.disk.specs.DiskSeen.{DiskSeen}
-use Rattle.edit_journal.specs.Recovery.{RecoversSame}
-use Rattle.edit_journal.specs.Settled.{IsRecovered, KeepsOtherThree}
+use Rattle.edit_journal.specs.Recovered.{RecoversSame, IsRecovered, KeepsOtherThree}
 use Rattle.edit_journal.specs.Spans.{Span, laid}
 use Rattle.edit_journal.specs.Undo.{recovered}
 use Rattle.edit_journal.specs.UndoName.{und_name, undo_name}

@@ -4,7 +4,7 @@ use Rattle.outside.specs.World.{World}
 use Rattle.disk.specs.DiskSeen.{ChangesNothing, DiskSeen, Follows}
 use Rattle.quota_types.specs.Bytes.{byte_at}
 use Rattle.edit_journal.specs.Recovery.{IsSame}
-use Rattle.edit_journal.specs.Settled.{IsRecovered}
+use Rattle.edit_journal.specs.Recovered.{IsRecovered}
 use Rattle.edit_journal.specs.Undo.{recovered}
 
 -- a step that keeps a file and its undo file keeps it recovered

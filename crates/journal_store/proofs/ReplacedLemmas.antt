@@ -6,7 +6,7 @@ use Rattle.disk.specs.DiskSeen.{DiskSeen, Follows, Passes}
 use Rattle.disk.specs.Steps.{ChangesFile, IsRenamed, MayBeRenamed}
 use Rattle.disk.proofs.StopLemmas.{passes-none, passes-wider}
 use Rattle.quota_types.specs.Bytes.{byte_at}
-use Rattle.edit_journal.specs.Recovery.{RecoversSame}
+use Rattle.edit_journal.specs.Recovered.{RecoversSame}
 use Rattle.edit_journal.specs.UndoName.{und_name, undo_name}
 use Rattle.edit_journal.proofs.NameLemmas.{undo-own}
 use Rattle.journal_store.specs.Replaced.{HasClosedGate, MayReplaceRecovered, ReplacesRecovered}

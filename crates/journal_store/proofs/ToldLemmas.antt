@@ -6,8 +6,7 @@ use Rattle.std.proofs.lemmas.Bool.{cases_Bool, cond-false, cond-true, false≢tr
 use Rattle.outside.specs.Unsynced.{Names}
 use Rattle.outside.specs.World.{KeepsOthers, World}
 use Rattle.outside.proofs.WorldLemmas.{bytes_eq-ne, bytes_eq-same, bytes_eq-true}
-use Rattle.edit_journal.specs.Recovery.{RecoversSame}
-use Rattle.edit_journal.specs.Settled.{KeepsOtherThree}
+use Rattle.edit_journal.specs.Recovered.{RecoversSame, KeepsOtherThree}
 use Rattle.edit_journal.specs.Spans.{Span, laid}
 use Rattle.edit_journal.specs.Undo.{recovered}
 use Rattle.edit_journal.specs.UndoName.{und_name, undo_name}

@@ -3,7 +3,7 @@ use Rattle.std.specs.Prelude.{◌≡◌, ◌≤◌, ◌⊎◌, ℕ, List, [], �
 use Rattle.std.proofs.Common.{inl, inr, ⊎_elim, ◌∙◌, arith}
 use Rattle.outside.specs.World.{World}
 use Rattle.disk.specs.DiskSeen.{DiskSeen, EachImage}
-use Rattle.edit_journal.specs.Recovery.{RecoversAsBefore}
+use Rattle.edit_journal.specs.Recovered.{RecoversAsBefore}
 use Rattle.edit_journal.specs.Undo.{recovered}
 use Rattle.edit_journal.specs.UndoName.{undo_name}
 use Rattle.journal_store.specs.Kinds.{kind_of}

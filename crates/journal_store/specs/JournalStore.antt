@@ -4,7 +4,7 @@ use Rattle.outside.specs.Seen.{StoreSeen}
 use Rattle.outside.specs.World.{World}
 use Rattle.disk.specs.DiskSeen.{DiskSeen}
 use Rattle.disk.specs.declared.disk.Disk.{Ghosts}
-use Rattle.edit_journal.specs.Recovery.{RecoversAsBefore}
+use Rattle.edit_journal.specs.Recovered.{RecoversAsBefore}
 use Rattle.edit_journal.specs.Spans.{Span, spans_of}
 use Rattle.edit_journal.specs.Undo.{recovered}
 use Rattle.journal_store.specs.Kinds.{kind_of}

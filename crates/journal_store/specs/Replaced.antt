@@ -4,7 +4,7 @@ use Rattle.outside.specs.World.{World}
 use Rattle.disk.specs.DiskSeen.{DiskSeen, EachImage}
 use Rattle.disk.specs.Steps.{IsRenamed, MayBeRenamed}
 use Rattle.quota_types.specs.Bytes.{byte_at}
-use Rattle.edit_journal.specs.Recovery.{RecoversSame}
+use Rattle.edit_journal.specs.Recovered.{RecoversSame}
 use Rattle.edit_journal.specs.UndoName.{und_name, undo_name}
 
 -- the gate of the undo file of a name is closed in each image, so that a recovery leaves its file as it is

@@ -2,7 +2,7 @@
 
 ghost use Rattle.std.specs.Prelude.{◌≡◌, ◌≤◌, IsSome, IsTrue, length};
 ghost use Rattle.std.proofs.Props.{props};
-ghost use Rattle.edit_journal.specs.Settled.{IsRecovered};
+ghost use Rattle.edit_journal.specs.Recovered.{IsRecovered};
 ghost use Rattle.edit_journal.specs.UndoName.{undo_name};
 ghost use Rattle.journal_store.specs.Kinds.{kind_of};
 ghost use Rattle.journal_store.specs.declared.kinds.NameKind.TheVariants.{Plain};
@@ -37,8 +37,8 @@ impl<D: Disk> Journal<D> {
     ghost use Rattle.std.specs.Str.{bytes_eq};
     ghost use Rattle.disk.specs.DiskSeen.{ChangesNothing, Follows, OnlyLeaves, Passes};
     ghost use Rattle.disk.specs.Steps.{IsRenamed, MayBeRenamed};
-    ghost use Rattle.edit_journal.specs.Recovery.{IsSame, RecoversSame};
-    ghost use Rattle.edit_journal.specs.Settled.{KeepsOtherThree};
+    ghost use Rattle.edit_journal.specs.Recovery.{IsSame};
+    ghost use Rattle.edit_journal.specs.Recovered.{RecoversSame, KeepsOtherThree};
     ghost use Rattle.edit_journal.specs.Undo.{recovered};
     ghost use Rattle.edit_journal.specs.UndoName.{und_name};
     ghost use Rattle.journal_store.specs.Commits.{Commits};

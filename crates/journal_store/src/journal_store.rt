@@ -2,8 +2,7 @@
 
 ghost use Rattle.std.specs.Prelude.{List, ℕ, ◌≡◌, ◌≢◌, ◌⊎◌, ◌↔◌, ◌^◌, ◌≤◌, ◌∷◌, [], None, Some, length, option_map, take, false, true, if◌then◌else◌, IfOk, IsErr, IsSome, IsTrue, OnErr, OnOk, is_ok};
 ghost use Rattle.disk.specs.DiskSeen.{Follows, OnlyLeaves, Passes};
-ghost use Rattle.edit_journal.specs.Recovery.{RecoversSame};
-ghost use Rattle.edit_journal.specs.Settled.{IsRecovered, KeepsOtherThree};
+ghost use Rattle.edit_journal.specs.Recovered.{RecoversSame, IsRecovered, KeepsOtherThree};
 ghost use Rattle.edit_journal.specs.Undo.{recovered};
 ghost use Rattle.edit_journal.specs.UndoName.{und_name, undo_name};
 ghost use Rattle.journal_store.specs.Kinds.{is_new, kind_of};

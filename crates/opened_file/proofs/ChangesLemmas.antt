@@ -4,9 +4,11 @@ use Rattle.std.specs.Prelude.{IsSomeAnd}
 use Rattle.std.proofs.lemmas.Bool.{false≢true}
 use Rattle.opened_file.specs.Changes.{Changes, FileAt, FileLaws, IsRefused, LacksRoom, LacksRoomFor, StandsForEdited}
 use Rattle.outside.specs.Count.{Rose}
-use Rattle.opened_file.specs.FileChange.{FileChange, IsLeft, changed_value, edit_by, has_nothing_to_do, may_lack_room}
+use Rattle.opened_file.specs.FileChange.{FileChange, changed_value}
+use Rattle.opened_file.specs.ValueEdits.{IsLeft, edit_by, has_nothing_to_do, may_lack_room}
 use Rattle.opened_file.specs.EditsOne.{EditsOne}
-use Rattle.outside.specs.Frame.{IsSynced, OnlyReads}
+use Rattle.outside.specs.Frame.{OnlyReads}
+use Rattle.outside.specs.ManyCalls.{IsSynced}
 use Rattle.opened_file.specs.QuotaFile.{CountsRefusal, IfFull, IsChangeFault, UnlessStoreFailed, is_store_fault}
 use Rattle.quota_value.specs.QuotaValue.{QuotaValue}
 use Rattle.outside.specs.World.{World}

@@ -4,7 +4,8 @@ use Rattle.std.proofs.lemmas.Option.{IfSome_then}
 use Rattle.opened_file.specs.Changes.{FileAt, FileLaws, file_at, file_in}
 use Rattle.outside.specs.World.{World}
 use Rattle.opened_file.specs.LooksUp.{LooksUp}
-use Rattle.opened_file.specs.QuotaFile.{FileSeen, IsLookupFault}
+use Rattle.opened_file.specs.QuotaFile.{IsLookupFault}
+use Rattle.opened_file.specs.FileSeen.{FileSeen}
 use Rattle.quota_value.specs.QuotaValue.{QuotaValue}
 use Rattle.outside.specs.Seen.{StoreSeen}
 use Rattle.opened_file.specs.declared.quota_file.FileFault.{FileFault}

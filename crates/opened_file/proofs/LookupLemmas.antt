@@ -5,9 +5,10 @@ use Rattle.std.proofs.lemmas.Option.{IfSome_then}
 use Rattle.std.proofs.lemmas.Result.{IfOk-weaker}
 use Rattle.opened_file.specs.Changes.{EditsValue, FileAt, FileLaws, IsDone, IsRefused, LacksRoomFor, file_at}
 use Rattle.quota_types.specs.declared.field.Field.{Field}
-use Rattle.opened_file.specs.FileChange.{IsLeft, ValueEdit}
+use Rattle.opened_file.specs.ValueEdits.{IsLeft, ValueEdit}
 use Rattle.outside.specs.Frame.{OnlyReads}
-use Rattle.opened_file.specs.QuotaFile.{FileSeen, IsChangeFault, UnlessStoreFailed}
+use Rattle.opened_file.specs.QuotaFile.{IsChangeFault, UnlessStoreFailed}
+use Rattle.opened_file.specs.FileSeen.{FileSeen}
 use Rattle.quota_value.specs.QuotaValue.{QuotaValue}
 use Rattle.outside.specs.Seen.{StoreSeen}
 use Rattle.outside.specs.World.{World}

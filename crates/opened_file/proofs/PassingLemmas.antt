@@ -6,9 +6,10 @@ use Rattle.quota_types.specs.declared.record.Rec.{Rec}
 use Rattle.opened_file.specs.Changes.{FileAt, FileLaws, file_in}
 use Rattle.opened_file.specs.LooksUp.{LooksUp}
 use Rattle.opened_file.specs.Passing.{first_after, passed_up_to, reads_over}
-use Rattle.opened_file.specs.QuotaFile.{FileSeen}
+use Rattle.opened_file.specs.FileSeen.{FileSeen}
 use Rattle.quota_types.specs.Ids.{IsAfter}
-use Rattle.quota_value.specs.QuotaValue.{IsNextAfter, Records}
+use Rattle.quota_value.specs.QuotaValue.{Records}
+use Rattle.quota_value.specs.NextRecord.{IsNextAfter}
 use Rattle.opened_file.specs.declared.quota_file.FileFault.{FileFault}
 use Rattle.quota_value.proofs.EntriesLemmas.{entries_after, entries_after-all, entries_after-next}
 use Rattle.opened_file.proofs.LooksUpLemmas.{looks_up-seen}

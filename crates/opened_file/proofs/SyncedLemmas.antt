@@ -1,10 +1,10 @@
 -- What has been synced where an edit of an opened file was refused.
 use Rattle.std.proofs.Common.{false, refl}
-use Rattle.outside.specs.Frame.{Syncs}
+use Rattle.outside.specs.ManyCalls.{Syncs}
 use Rattle.outside.proofs.FrameLemmas.{syncs-failed, syncs-read}
 use Rattle.opened_file.specs.Changes.{FileAt, FileLaws, IsRefused}
 use Rattle.opened_file.specs.EditsOne.{EditsOne}
-use Rattle.opened_file.specs.FileChange.{ValueEdit}
+use Rattle.opened_file.specs.ValueEdits.{ValueEdit}
 use Rattle.opened_file.specs.declared.quota_file.FileFault.{FileFault}
 use Rattle.opened_file.specs.declared.quota_file.FileFault.TheVariants.{Store, Damage, Full, Memory}
 

@@ -2,10 +2,13 @@
 -- means that it was done, why it is refused, and what it leaves then. Source: this project's own.
 use Rattle.std.specs.Prelude.{◌≡◌, ◌⊎◌, ℕ, ◌+◌, ◌<◌, ◌≤◌, Bool, true, false, IsTrue, is_ok, IsOk, IsOkAnd, IfOk, IfErr, IfSome, OnErr, OnOk, List, Option, Some, Result}
 use Rattle.quota_types.specs.declared.file_kind.Format.{Format}
-use Rattle.opened_file.specs.FileChange.{FileChange, IsLeft, ValueEdit, edit_by}
+use Rattle.opened_file.specs.FileChange.{FileChange}
+use Rattle.opened_file.specs.ValueEdits.{IsLeft, ValueEdit, edit_by}
 use Rattle.opened_file.specs.EditsOne.{EditsOne}
-use Rattle.outside.specs.Frame.{IsSynced, OnlyReads}
-use Rattle.opened_file.specs.QuotaFile.{CountsRefusal, FileSeen, IfFull, IsChangeFault, UnlessStoreFailed, is_store_fault}
+use Rattle.outside.specs.Frame.{OnlyReads}
+use Rattle.outside.specs.ManyCalls.{IsSynced}
+use Rattle.opened_file.specs.QuotaFile.{CountsRefusal, IfFull, IsChangeFault, UnlessStoreFailed, is_store_fault}
+use Rattle.opened_file.specs.FileSeen.{FileSeen}
 use Rattle.quota_value.specs.QuotaValue.{QuotaValue}
 use Rattle.outside.specs.Seen.{StoreSeen}
 use Rattle.outside.specs.World.{World}

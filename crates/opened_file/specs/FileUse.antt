@@ -1,7 +1,7 @@
 -- What an opened quota file keeps besides its name and its bytes, as it is seen.
 use Rattle.std.specs.Prelude.{ℕ, List}
 use Rattle.quota_types.specs.declared.file_kind.Format.{Format}
-use Rattle.opened_file.specs.QuotaFile.{FileSeen}
+use Rattle.opened_file.specs.FileSeen.{FileSeen}
 use Rattle.opened_file.specs.declared.file_use.FileUse.{FileUse}
 
 -- an opened file of this name and this format, which may have at most this many blocks, with this use and count of refusals

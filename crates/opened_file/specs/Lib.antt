@@ -2,6 +2,7 @@ pub mod Changes
 pub mod Committed
 pub mod EditsOne
 pub mod FileChange
+pub mod FileSeen
 pub mod FileUse
 pub mod Load
 pub mod LooksUp
@@ -9,3 +10,4 @@ pub mod Opening
 pub mod Passing
 pub mod QuotaFile
 pub mod Replace
+pub mod ValueEdits

@@ -3,7 +3,8 @@
 use Rattle.std.specs.Prelude.{◌≡◌, ℕ, ◌+◌, ◌≤◌, true, is_ok, IfErr, IfSome, OnOk, Option, None, Some, Result}
 use Rattle.outside.specs.Frame.{OnlyReads}
 use Rattle.opened_file.specs.Changes.{FileAt, FileLaws}
-use Rattle.opened_file.specs.QuotaFile.{CountsRefusal, FileSeen, IsLookupFault}
+use Rattle.opened_file.specs.QuotaFile.{CountsRefusal, IsLookupFault}
+use Rattle.opened_file.specs.FileSeen.{FileSeen}
 use Rattle.quota_value.specs.QuotaValue.{QuotaValue}
 use Rattle.opened_file.specs.declared.quota_file.FileFault.{FileFault}
 

@@ -1,23 +1,14 @@
--- What is seen of an opened quota file, and why a call on it may be refused.
+-- Why a call on an opened quota file may be refused.
 use Rattle.std.specs.Prelude.{◌≡◌, ℕ, ◌*◌, ◌<◌, ◌≤◌, max, Bool, true, false, IsTrue, IfErr, List, length, Result, ⊤}
 use Rattle.quota_types.specs.Times.{StandsIn, times}
 use Rattle.quota_types.specs.declared.damage.Damage.{Damage as Damaged}
-use Rattle.quota_types.specs.declared.file_kind.Format.{Format}
 use Rattle.file_blocks.specs.Block.{block_of, file_of}
 use Rattle.outside.specs.Count.{Rose, counted}
 use Rattle.outside.specs.World.{KeepsOthers, World}
 use Rattle.quota_value.specs.QuotaValue.{QuotaValue}
 use Rattle.opened_file.specs.declared.quota_file.FileFault.{FileFault}
 use Rattle.opened_file.specs.declared.quota_file.FileFault.TheVariants.{Store, Damage, Full, Memory}
-
--- An opened quota file: its name, its format, whether it may still be used, how many blocks it may have (0 where its
--- format has none), and how many of its calls were refused, up to the last value of a counter of 64 bits.
-pub record FileSeen : Type 0 where
-  pub name : List ℕ
-  pub format : Format
-  pub usable : Bool
-  pub limit : ℕ
-  pub refusals : ℕ
+use Rattle.opened_file.specs.FileSeen.{FileSeen}
 
 -- A refused call counts once, and leaves the name, the format and the limit; it tells whether the file may still be used.
 pub record CountsRefusal (still_usable : Bool) (old new : FileSeen) : Type 0 where

@@ -1,9 +1,10 @@
 ghost use Rattle.std.specs.Prelude.{◌≡◌, ◌+◌, ◌^◌, ◌≤◌, length, false, None, Some, IsTrue, IfOk, IfErr, OnOk, OnErr, [], ◌∷◌, ℕ, List};
 ghost use Rattle.std.specs.String.{string_bytes};
 ghost use Rattle.outside.specs.Count.{Rose};
-ghost use Rattle.outside.specs.Frame.{ChangesOne, ReplacesOne, replaced_names};
+ghost use Rattle.outside.specs.Frame.{ChangesOne};
+ghost use Rattle.outside.specs.ManyCalls.{ReplacesOne, replaced_names, replaced_files};
 ghost use Rattle.opened_file.specs.Replace.{IsReplaceFault, OnNoMemory, pieces_of};
-ghost use Rattle.outside.specs.Replacement.{replaced_files, replacement_name};
+ghost use Rattle.outside.specs.Replacement.{replacement_name};
 ghost use Rattle.outside.specs.Unsynced.{with_name};
 ghost use Rattle.outside.specs.World.{KeepsOthers, with_file};
 ghost use Rattle.opened_file.specs.declared.replacement.ReplaceFault.TheVariants.{Store as StoreFailed, Memory};

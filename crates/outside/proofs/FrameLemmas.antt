@@ -3,7 +3,8 @@ use Rattle.std.proofs.Common.{◌≡◌, ◌≤◌, inl, inr, ℕ, Bool, true, f
 use Rattle.std.specs.Result.{is_ok}
 use Rattle.std.proofs.lemmas.Bool.{cases_Bool, false≢true}
 use Rattle.outside.specs.Count.{Rose}
-use Rattle.outside.specs.Frame.{AreSynced, ChangesOne, IsSynced, IsUnfailed, OnlyReads, ReplacesOne, Syncs}
+use Rattle.outside.specs.Frame.{AreSynced, ChangesOne, IsUnfailed, OnlyReads}
+use Rattle.outside.specs.ManyCalls.{IsSynced, ReplacesOne, Syncs}
 use Rattle.outside.specs.Replacement.{replacement_name}
 use Rattle.outside.specs.Seen.{StoreSeen}
 use Rattle.outside.specs.Unsynced.{AddsNone, Names}

@@ -1,6 +1,7 @@
 -- What a sink has got of a text, step by step.
 use Rattle.std.proofs.Common.{◌≡◌, ℕ, List, ◌++◌, sym, ap, ◌∙◌, append_assoc}
-use Rattle.outside.specs.Text.{AppendsPrefix, IsGathered}
+use Rattle.outside.specs.Text.{AppendsPrefix}
+use Rattle.outside.specs.Gathering.{IsGathered}
 
 -- a prefix of a text is a prefix of a longer one
 pub appends_more : (old new bytes more : List ℕ) → AppendsPrefix old new bytes → AppendsPrefix old new (bytes ++ more)

@@ -5,7 +5,7 @@ use Rattle.std.specs.Str.{bytes_eq}
 use Rattle.std.specs.String.{string_bytes}
 use Rattle.std.specs.declared.alloc.Global.{Global}
 use Rattle.std.proofs.lemmas.Bool.{cases_Bool, cond-true, cond-false, false≢true, true≢false}
-use Rattle.outside.specs.Frame.{replaced_names}
+use Rattle.outside.specs.ManyCalls.{replaced_names}
 use Rattle.outside.specs.Replacement.{ReplacesOnly, replacement_name}
 use Rattle.outside.specs.Unsynced.{AddsNone, Names, with_handed, with_name}
 use Rattle.outside.specs.World.{KeepsOthers, KeepsOtherTwo, World, with_file}

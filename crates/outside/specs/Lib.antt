@@ -1,6 +1,8 @@
 pub mod Behind
 pub mod Count
 pub mod Frame
+pub mod Gathering
+pub mod ManyCalls
 pub mod Replacement
 pub mod Seen
 pub mod Text

@@ -149,13 +149,11 @@ pub trait Store {
         → commits worlds between last → commits worlds first last } = { λ worlds. commits_on [] worlds };
 
     /// What put nothing there put there no more than any worlds.
-    ghost commits_more: { (worlds : List World) (old new : Self) → commits [] old new → commits worlds old new }
-        = { λ worlds old new none. commits_on [] worlds old new new none (commits_nothing worlds new) };
+    ghost commits_more: { (worlds : List World) (old new : Self) → commits [] old new → commits worlds old new } = { λ worlds old new none. commits_on [] worlds old new new none (commits_nothing worlds new) };
 
     /// A look behind calls that put the files of one world there, as they are then, leaves it so.
     ghost commits_look: { (first between last : Self) → commits ((seen between).files ∷ []) first between
         → commits [] between last → (seen last).files ≡ (seen between).files
-        → commits ((seen last).files ∷ []) first last }
-        = { λ first between last once none same. subst (λ (world : World). commits (world ∷ []) first last) (sym same)
+        → commits ((seen last).files ∷ []) first last } = { λ first between last once none same. subst (λ (world : World). commits (world ∷ []) first last) (sym same)
             (commits_on ((seen between).files ∷ []) [] first between last once none) };
 }

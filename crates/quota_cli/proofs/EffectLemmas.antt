@@ -5,7 +5,8 @@ use Rattle.refusals.specs.declared.reason.Refusal.{Refusal}
 use Rattle.refusals.specs.Status.{end_status, group_of}
 use Rattle.refusals.proofs.GroupLemmas.{status_in-some}
 use Rattle.run_steps.specs.Act.{Act}
-use Rattle.run_steps.specs.Done.{AreDoneInPart, Outside, RunSeen, RunTells, outside_of}
+use Rattle.run_steps.specs.Done.{Outside, RunSeen, RunTells, outside_of}
+use Rattle.run_steps.specs.Carrying.{AreDoneInPart}
 use Rattle.run_steps.specs.Meaning.{EndsBy, IsSure, closing}
 use Rattle.run_steps.specs.OneCommand.{LooksFirst, LooksFirstBy, UnlessFull}
 use Rattle.run_steps.specs.Run.{IsDoneInPart}

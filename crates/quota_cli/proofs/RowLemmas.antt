@@ -3,7 +3,8 @@ use Rattle.std.proofs.Common.{◌≡◌, ◌⊎◌, ℕ, IsTrue, List, [], ◌�
 use Rattle.std.specs.Prelude.{is_none, map}
 use Rattle.refusals.specs.declared.reason.Refusal.{Refusal}
 use Rattle.run_steps.specs.OneCommand.{ReadsToEnd}
-use Rattle.run_steps.specs.Steps.{Before, InARow, Steps}
+use Rattle.run_steps.specs.Steps.{Before, Steps}
+use Rattle.run_steps.specs.Carrying.{InARow}
 use Rattle.run_steps.specs.declared.invocation.Invocation.{Invocation}
 use Rattle.quota_cli.specs.Script.{LineSteps, LinesSteps, ScriptSteps}
 use Rattle.script_lines.specs.Script.{LineSaid, script_said}

@@ -4,7 +4,8 @@ use Rattle.std.specs.Prelude.{⊤, ◌↔◌, IfErr, IfSome, IsErr, IsErrAnd, On
 use Rattle.std.specs.Result.{result_err}
 use Rattle.std.proofs.lemmas.Option.{none-some}
 use Rattle.outside.specs.Count.{Rose}
-use Rattle.outside.specs.Frame.{AreSynced, Syncs}
+use Rattle.outside.specs.Frame.{AreSynced}
+use Rattle.outside.specs.ManyCalls.{Syncs}
 use Rattle.outside.specs.Seen.{SinkSeen, StoreSeen}
 use Rattle.outside.proofs.CountLemmas.{Rose-since}
 use Rattle.refusals.specs.declared.cause.Cause.{Cause}
@@ -17,13 +18,16 @@ use Rattle.refusals.proofs.GroupLemmas.{ByFault, ByMemory, ByStep, GroupCase, by
 use Rattle.run_steps.specs.Act.{err_bytes}
 use Rattle.run_steps.specs.Done.{IsAllTold, IsLater, IsUnwritten, IsWorldTold, NoFault, RunSeen, RunTells, outside_of}
 use Rattle.run_steps.specs.Meaning.{EndsBy, IsSure, closing}
-use Rattle.run_steps.specs.OneCommand.{AreReceived, ReadsToEnd, Receives}
-use Rattle.run_steps.specs.Run.{CarriesOut, HasFailed, HasReason, HasSteps, IsDoneInPart, Uses}
+use Rattle.run_steps.specs.OneCommand.{ReadsToEnd}
+use Rattle.run_steps.specs.Received.{AreReceived, Receives}
+use Rattle.run_steps.specs.Run.{HasFailed, HasReason, HasSteps, IsDoneInPart, Uses}
+use Rattle.run_steps.specs.Carrying.{CarriesOut}
 use Rattle.run_steps.specs.Writes.{ReadsWithin}
 use Rattle.quota_cli.specs.Headline.{HasEffect, HasEffectUpToErr, HasSaid, IsRefusedRun, IsRefusedWord, IsStopped, Keeps, LeavesLink, Setting, asked, steps_asked, uses_asked}
 use Rattle.quota_cli.specs.Script.{StandsInScript}
 use Rattle.command_words.specs.Asked.{command_of}
-use Rattle.command_table.specs.Description.{IsLeftByEdit, IsOnlyRead, StopsIt, IsCarriedOut}
+use Rattle.command_table.specs.Description.{IsLeftByEdit, IsOnlyRead}
+use Rattle.command_table.specs.CarriedOut.{StopsIt, IsCarriedOut}
 use Rattle.run_steps.proofs.ActLemmas.{done_and_said, more_err, nothing_before}
 use Rattle.run_steps.proofs.MeaningLemmas.{received, sure_ends, to_end}
 use Rattle.run_steps.proofs.PartLemmas.{part_but_err}

@@ -15,7 +15,8 @@ use Rattle.run_steps.specs.Done.{Outside}
 use Rattle.run_steps.specs.InputLine.{says_nothing}
 use Rattle.run_steps.specs.Meaning.{EndsBy}
 use Rattle.run_steps.specs.declared.invocation.Invocation.{Invocation}
-use Rattle.script_lines.specs.Script.{IsOfScript, LineSaid, ScriptMayRefuse, ScriptSaid, lines_say, says_then, script_refusal, script_said}
+use Rattle.script_lines.specs.Script.{LineSaid, ScriptMayRefuse, ScriptSaid, lines_say, says_then, script_refusal, script_said}
+use Rattle.script_lines.specs.ScriptReading.{IsOfScript}
 use Rattle.command_table.specs.Table.{described}
 use Rattle.command_table.proofs.FullLemmas.{IsFullSo, asked_by_full, command_full}
 use Rattle.quota_cli.specs.Script.{IsFullInLine, LinesSteps, asked_in_script, line_invocation, scripting}

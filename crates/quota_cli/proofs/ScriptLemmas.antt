@@ -8,7 +8,7 @@ use Rattle.std.proofs.lemmas.Option.{none-some}
 use Rattle.std.proofs.lemmas.Result.{IfErr-weaker}
 use Rattle.outside.specs.Behind.{IsBehind}
 use Rattle.outside.specs.Count.{Rose}
-use Rattle.outside.specs.Frame.{Syncs}
+use Rattle.outside.specs.ManyCalls.{Syncs}
 use Rattle.input_text.specs.InputLines.{InputLines, NoLine, LineThen, LongNext, PastNext, input_lines}
 use Rattle.outside.specs.Seen.{SourceSeen}
 use Rattle.input_text.specs.Words.{words_of}
@@ -21,19 +21,21 @@ use Rattle.refusals.specs.Outcome.{Passed, Refused}
 use Rattle.refusals.specs.Refusals.{in_line, nowhere, refusal_of}
 use Rattle.run_steps.specs.Done.{Outside, RunSeen, RunTells, outside_of, IsWorldTold}
 use Rattle.run_steps.specs.Meaning.{IsSure, IsTaken}
-use Rattle.run_steps.specs.Run.{HasReason, Uses, IsDoneInPart, cause_in}
+use Rattle.run_steps.specs.Run.{HasReason, Uses, IsDoneInPart}
+use Rattle.run_steps.specs.Carrying.{cause_in}
 use Rattle.run_steps.specs.declared.invocation.Invocation.{Invocation}
 use Rattle.run_steps.proofs.CarryingLemmas.{MayUseAll, carried_before, carried_in_line, carried_stopped, finish_carried, lined}
 use Rattle.run_steps.proofs.OpeningLemmas.{with_input}
 use Rattle.run_steps.proofs.PartLemmas.{nothing_begun}
 use Rattle.run_steps.proofs.ReasonLemmas.{reason_but_stated}
 use Rattle.run_steps.proofs.PhaseLemmas.{LeadsTo, carries_more, carries_since, leads_reading, nothing_carried, placed_nowhere, stop_carried}
-use Rattle.script_lines.specs.Script.{IsOfScript, LineSaid, ScriptMayRefuse, ScriptSaid, lines_say, says_then, script_refusal, script_said}
+use Rattle.script_lines.specs.Script.{LineSaid, ScriptMayRefuse, ScriptSaid, lines_say, says_then, script_refusal, script_said}
+use Rattle.script_lines.specs.ScriptReading.{IsOfScript}
 use Rattle.run_steps.specs.InputLine.{says_nothing}
 use Rattle.command_words.specs.Asked.{command_of}
 use Rattle.script_lines.specs.declared.script.ScriptFault.{ScriptFault}
 use Rattle.script_lines.specs.declared.script.ScriptFault.TheVariants.{Source, Memory as NoMemory}
-use Rattle.command_table.specs.Description.{IsCarriedOut, StopsIt}
+use Rattle.command_table.specs.CarriedOut.{IsCarriedOut, StopsIt}
 use Rattle.command_table.specs.Table.{asked_by, described}
 use Rattle.command_table.proofs.CommandLemmas.{of_done}
 use Rattle.command_table.proofs.InputLemmas.{spares_input}

@@ -1,12 +1,12 @@
 -- Lines of a script that were carried out, but for an error line.
 use Rattle.std.specs.Prelude.{◌≡◌, ◌<◌, ℕ, ⊤, false, IfErr, IsSome, IsTrue, List, [], ◌∷◌, Option, None, Result, is_ok}
 use Rattle.std.specs.Result.{result_err}
-use Rattle.outside.specs.Frame.{Syncs}
+use Rattle.outside.specs.ManyCalls.{Syncs}
 use Rattle.refusals.specs.declared.cause.Cause.{Cause}
 use Rattle.refusals.specs.declared.cause.Cause.TheVariants.{Memory, SourceFault}
 use Rattle.refusals.specs.declared.reason.Refusal.{Refusal}
 use Rattle.run_steps.specs.Done.{RunSeen, RunTells}
-use Rattle.run_steps.specs.Run.{CarriesOut}
+use Rattle.run_steps.specs.Carrying.{CarriesOut}
 use Rattle.script_lines.specs.Script.{LineSaid, ScriptMayRefuse}
 use Rattle.script_lines.specs.declared.script.ScriptFault.{ScriptFault}
 use Rattle.script_lines.specs.declared.script.ScriptFault.TheVariants.{Source, Memory as NoMemory}

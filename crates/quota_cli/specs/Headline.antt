@@ -11,7 +11,7 @@ use Rattle.refusals.specs.Status.{end_status, status_of}
 use Rattle.run_steps.specs.Act.{Act}
 use Rattle.run_steps.specs.Done.{AreDone, IsLater, IsUnwritten, IsWorldTold, NoFault, Outside, RunSeen, RunTells, outside_of}
 use Rattle.run_steps.specs.Meaning.{HasEffectOf, IsSure}
-use Rattle.run_steps.specs.OneCommand.{AreReceived, Receives}
+use Rattle.run_steps.specs.Received.{AreReceived, Receives}
 use Rattle.run_steps.specs.Run.{HasReason, HasSteps, IsDoneInPart, IsPlacedBy, Uses}
 use Rattle.run_steps.specs.Steps.{Steps}
 use Rattle.run_steps.specs.Writes.{ReadsWithin}

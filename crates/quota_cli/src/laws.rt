@@ -7,11 +7,11 @@ ghost use Rattle.command_table.specs.Views.{AreAlike, SameUnlessFull, edits_reco
 ghost use Rattle.command_words.specs.Asked.{command_of};
 ghost use Rattle.command_words.specs.declared.command.Command.{Command};
 ghost use Rattle.quota_cli.specs.Script.{LineSteps, LinesSteps, is_script};
-ghost use Rattle.run_steps.specs.Steps.{InARow};
+ghost use Rattle.run_steps.specs.Carrying.{InARow, AreDoneInPart};
 ghost use Rattle.script_lines.specs.Script.{LineSaid};
 ghost use Rattle.quota_cli.specs.Headline.{Effect, Setting, asked, steps_asked, uses_asked};
 ghost use Rattle.run_steps.specs.Act.{Act};
-ghost use Rattle.run_steps.specs.Done.{AreDoneInPart, Outside, RunSeen, RunTells, outside_of};
+ghost use Rattle.run_steps.specs.Done.{Outside, RunSeen, RunTells, outside_of};
 ghost use Rattle.refusals.specs.declared.cause.Cause.{Cause};
 ghost use Rattle.refusals.specs.declared.reason.Refusal.{Refusal};
 ghost use Rattle.run_steps.specs.Meaning.{EndsBy, IsSure};

@@ -4,7 +4,7 @@ ghost use Rattle.outside.specs.Count.{Rose};
 ghost use Rattle.run_steps.specs.Done.{IsAllTold, NoFault, seen_of, tells_of};
 ghost use Rattle.quota_cli.specs.Headline.{HasEffect, Keeps, asked, setting_of, uses_asked};
 ghost use Rattle.command_words.specs.Asked.{command_of};
-ghost use Rattle.command_table.specs.Description.{IsCarriedOut};
+ghost use Rattle.command_table.specs.CarriedOut.{IsCarriedOut};
 ghost use Rattle.quota_cli.specs.Script.{StandsInScript, commanded, is_script};
 ghost use Rattle.refusals.specs.declared.cause.Cause.TheVariants.{Memory};
 ghost use Rattle.refusals.specs.declared.reason.Refusal.{Refusal};

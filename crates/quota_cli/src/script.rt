@@ -2,7 +2,7 @@
 
 ghost use Rattle.std.specs.Prelude.{◌≡◌, [], false, true, map, IfErr, IfSome, Some};
 ghost use Rattle.std.specs.Result.{result_err};
-ghost use Rattle.command_table.specs.Description.{IsCarriedOut};
+ghost use Rattle.command_table.specs.CarriedOut.{IsCarriedOut};
 ghost use Rattle.command_table.specs.Table.{asked_by, described};
 ghost use Rattle.command_words.specs.Asked.{command_of};
 ghost use Rattle.option_words.specs.Items.{texts_of};
@@ -10,7 +10,7 @@ ghost use Rattle.quota_cli.specs.Carrying.{AreCarried, IsLineCarried, unread_cau
 ghost use Rattle.quota_cli.specs.Script.{StandsInScript, asked_in_script, scripting};
 ghost use Rattle.refusals.specs.Refusals.{in_line, refusal_of};
 ghost use Rattle.run_steps.specs.Done.{seen_of, tells_of};
-ghost use Rattle.script_lines.specs.Script.{IsOfScript, line_read};
+ghost use Rattle.script_lines.specs.ScriptReading.{IsOfScript, line_read};
 
 use command_table::{carry_out, usage_refusal};
 use command_words::read_words;

@@ -5,7 +5,8 @@ use Rattle.std.specs.List.{concat}
 use Rattle.outside.specs.Seen.{SinkSeen}
 use Rattle.outside.specs.declared.sink.SinkFault.{SinkFault}
 use Rattle.outside.specs.Count.{Rose}
-use Rattle.outside.specs.Text.{AppendsPrefix, IsGathered}
+use Rattle.outside.specs.Text.{AppendsPrefix}
+use Rattle.outside.specs.Gathering.{IsGathered}
 use Rattle.outside.proofs.CountLemmas.{Rose-since}
 use Rattle.outside.proofs.TextLemmas.{appends_front, appends_more}
 use Rattle.refusals.proofs.PieceLemmas.{gathered_flushed, prefix_flushed}

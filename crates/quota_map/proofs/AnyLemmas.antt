@@ -11,7 +11,8 @@ use Rattle.std.proofs.lemmas.Result.{IfErr-weaker}
 use Rattle.opened_file.specs.Changes.{Changes}
 use Rattle.opened_file.specs.LooksUp.{LooksUp}
 use Rattle.opened_file.specs.FileChange.{FileChange, Put, Remove, SetGrace, changed_value}
-use Rattle.opened_file.specs.QuotaFile.{FileSeen, StaysInPlace}
+use Rattle.opened_file.specs.QuotaFile.{StaysInPlace}
+use Rattle.opened_file.specs.FileSeen.{FileSeen}
 use Rattle.quota_value.specs.QuotaValue.{QuotaValue}
 use Rattle.outside.specs.Seen.{StoreSeen}
 use Rattle.outside.specs.World.{World}
@@ -21,13 +22,15 @@ use Rattle.tree_meaning.specs.Ids.{ids_in}
 use Rattle.tree_meaning.specs.TreeFile.{TreeStandsFor}
 use Rattle.quota_pages.specs.Pages.{name_of}
 use Rattle.tree_file.specs.Room.{blocks_wanted}
-use Rattle.tree_file.specs.TreeChange.{TreeLeaves, most_blocks, tree_at, tree_change_reads, tree_change_writes, tree_done_writes, tree_laws}
+use Rattle.tree_file.specs.TreeChange.{TreeLeaves}
+use Rattle.tree_file.specs.TreeCalls.{most_blocks, tree_at, tree_change_reads, tree_change_writes, tree_done_writes, tree_laws}
 use Rattle.tree_file.specs.declared.opened_tree.TreeFile.{TreeFile}
 use Rattle.quota_v1.specs.Opened.{flat_at, flat_laws, most_next_reads, HoldsFlat}
 use Rattle.quota_v1.specs.declared.flat_file.V1File.{V1File}
 use Rattle.quota_map.specs.declared.any_file.AnyFile.{AnyFile}
 use Rattle.quota_map.specs.declared.any_file.AnyFile.TheVariants.{V1, Tree}
-use Rattle.quota_map.specs.AnyFile.{AnyLeaves, any_at, any_change_reads, any_change_writes, any_done_writes, any_get_reads, any_laws, any_next_reads, any_seen, done_writes_of, reads_of_change, reads_of_get, reads_of_next, writes_of_change, HoldsAny}
+use Rattle.quota_map.specs.AnyFile.{any_at, any_change_reads, any_change_writes, any_done_writes, any_get_reads, any_laws, any_next_reads, any_seen, done_writes_of, reads_of_change, reads_of_get, reads_of_next, writes_of_change, HoldsAny}
+use Rattle.quota_map.specs.AnyChange.{AnyLeaves}
 use Rattle.quota_map.specs.Rests.{stands_as_tree}
 use Rattle.quota_map.specs.StandsFor.{StandsForAs}
 use Rattle.std.specs.String.{string_bytes}

@@ -4,7 +4,8 @@ use Rattle.std.specs.Prelude.{IsSomeAnd}
 use Rattle.quota_types.specs.Format.{IsTreeFormat}
 use Rattle.quota_types.specs.declared.file_kind.Format.{Format}
 use Rattle.quota_types.specs.declared.file_kind.Format.TheVariants.{V1, V2R0, V2R1}
-use Rattle.opened_file.specs.FileChange.{FileChange, IsLeft}
+use Rattle.opened_file.specs.FileChange.{FileChange}
+use Rattle.opened_file.specs.ValueEdits.{IsLeft}
 use Rattle.quota_value.specs.QuotaValue.{QuotaValue}
 use Rattle.outside.specs.World.{World}
 use Rattle.entry_codec.specs.Header.{header_of}
@@ -15,7 +16,8 @@ use Rattle.tree_file.specs.TreeChange.{TreeMakes}
 use Rattle.quota_v1.specs.Change.{FitsFlat, FlatChanged, FlatMakes}
 use Rattle.quota_v1.specs.FlatFile.{FlatStandsFor}
 use Rattle.quota_v1.specs.View.{flat_limit}
-use Rattle.quota_map.specs.AnyFile.{AnyLeaves, AnyMakes, HoldsAny, any_seen}
+use Rattle.quota_map.specs.AnyFile.{HoldsAny, any_seen}
+use Rattle.quota_map.specs.AnyChange.{AnyLeaves, AnyMakes}
 use Rattle.quota_map.specs.StandsFor.{StandsForAs}
 use Rattle.quota_map.specs.View.{IsView, fresh_seen, most_blocks}
 use Rattle.quota_map.specs.declared.any_file.AnyFile.{AnyFile}

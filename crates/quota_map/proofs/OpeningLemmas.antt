@@ -10,8 +10,8 @@ use Rattle.quota_types.specs.declared.file_kind.Kind.{Kind}
 use Rattle.opened_file.specs.declared.quota_file.OpenFault.{OpenFault}
 use Rattle.opened_file.specs.declared.quota_file.OpenFault.TheVariants.{Store, NoFile, TooLarge, Memory, NotQuota, WrongKind, UnknownVersion, BadBlockCount, FormatMismatch, Damage}
 use Rattle.outside.proofs.CountLemmas.{Rose-since}
-use Rattle.tree_file.specs.View.{IsTreeFault}
-use Rattle.quota_v1.specs.View.{IsFlatFault}
+use Rattle.tree_file.specs.TreeCalls.{IsTreeFault}
+use Rattle.quota_v1.specs.FlatFaults.{IsFlatFault}
 use Rattle.quota_map.specs.View.{IsDamageAs, IsOpenFault, asks_tree, most_blocks}
 
 tree_since : (before between now : ℕ) (tells : Bool) (named : Option (List ℕ)) (kind : Kind) (asked : Option Format) (limit : ℕ) (fault : OpenFault) → before ≤ between

@@ -11,7 +11,8 @@ use Rattle.quota_types.specs.declared.record.Entry.{Entry}
 use Rattle.quota_types.specs.declared.record.Rec.{Rec}
 use Rattle.quota_value.specs.Listed.{records_of}
 use Rattle.quota_types.specs.Ids.{IsAfter}
-use Rattle.quota_value.specs.QuotaValue.{IsNextAfter, Records}
+use Rattle.quota_value.specs.QuotaValue.{Records}
+use Rattle.quota_value.specs.NextRecord.{IsNextAfter}
 use Rattle.quota_value.proofs.EntriesLemmas.{entries_after, entries_after-all, entries_after-end, entries_after-next, ids_after}
 use Rattle.quota_value.proofs.ListedLemmas.{pairs_of}
 

@@ -1,6 +1,7 @@
 -- What a file that was replaced leaves of a store.
 use Rattle.std.proofs.Common.{◌≡◌, ◌≤◌, ℕ, false, List, sym, subst}
-use Rattle.outside.specs.Frame.{AreSynced, ReplacesOne, Syncs, replaced_names}
+use Rattle.outside.specs.Frame.{AreSynced}
+use Rattle.outside.specs.ManyCalls.{ReplacesOne, Syncs, replaced_names}
 use Rattle.outside.specs.Seen.{StoreSeen}
 use Rattle.opened_file.specs.declared.replacement.ReplaceFault.{ReplaceFault}
 use Rattle.opened_file.specs.declared.replacement.ReplaceFault.TheVariants.{Store, Full, Memory}

@@ -8,7 +8,7 @@ use Rattle.quota_map.specs.Size.{blocks_after}
 use Rattle.quota_types.specs.declared.file_kind.Format.{Format}
 use Rattle.quota_types.specs.declared.file_kind.Kind.{Kind}
 use Rattle.quota_types.specs.declared.file_kind.Format.TheVariants.{V1, V2R0, V2R1}
-use Rattle.opened_file.specs.QuotaFile.{FileSeen}
+use Rattle.opened_file.specs.FileSeen.{FileSeen}
 use Rattle.outside.specs.World.{World}
 use Rattle.tree_file.specs.Opened.{LacksRoom}
 use Rattle.tree_file.specs.Room.{blocks_wanted, blocks_with_new, has_no_leaf, tree_blocks_wanted}
@@ -19,10 +19,10 @@ use Rattle.quota_map.specs.declared.any_file.AnyFile.TheVariants.{V1 as FlatFile
 use Rattle.quota_map.proofs.SeenLemmas.{tree_limit}
 use Rattle.entry_codec.specs.Header.{header_of}
 use Rattle.free_chains.specs.declared.heads.Heads.{Heads}
-use Rattle.quota_radix.specs.Way.{blocks_on_way}
-use Rattle.tree_meaning.specs.IsTree.{heads_of}
+use Rattle.quota_radix.specs.OnWay.{blocks_on_way}
+use Rattle.tree_meaning.specs.TreeHeads.{heads_of}
 use Rattle.tree_meaning.specs.TreeFile.{TreeStandsFor}
-use Rattle.tree_change.specs.Putting.{blocks_taken}
+use Rattle.tree_change.specs.BlocksWanted.{blocks_taken}
 
 -- this file would have the first number of blocks with an edited value, and may have only the second
 abbrev pub IsLacking : Option (List ℕ) → QuotaValue → ℕ → ℕ → Type 0

@@ -17,19 +17,21 @@ use Rattle.quota_pages.specs.Pages.{name_of}
 use Rattle.entry_codec.specs.declared.header.Header.{Header}
 use Rattle.tree_file.specs.Opened.{HoldsTree}
 use Rattle.tree_file.specs.declared.coming.Coming.{Coming}
-use Rattle.tree_file.specs.View.{FitsRequest, IsAsAsked, IsRefusedFor, IsTreeFault, IsTreeView}
+use Rattle.tree_file.specs.View.{FitsRequest, IsAsAsked, IsRefusedFor, IsTreeView}
+use Rattle.tree_file.specs.TreeCalls.{IsTreeFault}
 use Rattle.tree_meaning.proofs.DefectLemmas.{no_defect_of_sound}
 use Rattle.quota_types.specs.declared.record.Grace.{Grace}
 use Rattle.quota_v1.specs.Opened.{HoldsFlat}
 use Rattle.quota_v1.specs.declared.window.Window.{Window}
-use Rattle.quota_v1.specs.View.{IsFlatFault, IsFlatView}
+use Rattle.quota_v1.specs.View.{IsFlatView}
+use Rattle.quota_v1.specs.FlatFaults.{IsFlatFault}
 use Rattle.quota_v1.proofs.ViewLemmas.{seen_or_refused}
 use Rattle.quota_map.specs.AnyFile.{HoldsAny, any_seen}
 use Rattle.quota_map.specs.View.{IsOpenFault, IsView, blocks_allowed, fresh_seen, most_blocks}
 use Rattle.quota_map.specs.declared.any_file.AnyFile.{AnyFile}
 use Rattle.quota_map.specs.declared.any_file.AnyFile.TheVariants.{V1 as FlatFile, Tree as TreeFile}
 use Rattle.std.specs.String.{string_bytes}
-use Rattle.opened_file.specs.QuotaFile.{FileSeen}
+use Rattle.opened_file.specs.FileSeen.{FileSeen}
 use Rattle.outside.specs.World.{World}
 
 -- a version that is known is below 2

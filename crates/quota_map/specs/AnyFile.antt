@@ -9,20 +9,21 @@ use Rattle.quota_types.specs.declared.file_kind.Format.TheVariants.{V1 as Flat, 
 use Rattle.opened_file.specs.Changes.{FileAt, FileLaws, file_at, laws_of}
 use Rattle.opened_file.specs.FileChange.{FileChange}
 use Rattle.opened_file.specs.FileUse.{seen_in}
-use Rattle.opened_file.specs.QuotaFile.{FileSeen}
+use Rattle.opened_file.specs.FileSeen.{FileSeen}
 use Rattle.quota_value.specs.QuotaValue.{QuotaValue}
 use Rattle.outside.specs.Seen.{StoreSeen}
 use Rattle.outside.specs.World.{World}
 use Rattle.opened_file.specs.declared.quota_file.FileFault.{FileFault}
 use Rattle.quota_pages.specs.Pages.{name_of}
 use Rattle.tree_file.specs.Opened.{HoldsTree, IsNamedDefect, LacksRoom, MayRefuse as MayRefuseTree}
-use Rattle.tree_file.specs.TreeChange.{TreeLeaves, TreeMakes, tree_change_reads, tree_change_writes, tree_done_writes}
-use Rattle.quota_v1.specs.Change.{FlatLeaves, FlatMakes, MayRefuse as MayRefuseFlat}
+use Rattle.tree_file.specs.TreeCalls.{tree_change_reads, tree_change_writes, tree_done_writes}
+use Rattle.quota_v1.specs.FlatCalls.{MayRefuse as MayRefuseFlat}
 use Rattle.quota_v1.specs.Opened.{HoldsFlat, IsNamedDefect as IsCutOff, flat_seen, most_next_reads}
 use Rattle.quota_v1.specs.Window.{passing_reads}
 use Rattle.quota_map.specs.StandsFor.{StandsForAs}
 use Rattle.quota_map.specs.declared.any_file.AnyFile.{AnyFile}
 use Rattle.quota_map.specs.declared.any_file.AnyFile.TheVariants.{V1, Tree}
+use Rattle.quota_map.specs.AnyChange.{AnyMakes, AnyLeaves}
 
 -- the opened file, with a store that tells its files or does not, holds a value as one of its format does
 abbrev pub HoldsAny : (tells : Bool) (files : World) → AnyFile → QuotaValue → Type 0
@@ -48,18 +49,6 @@ pub record MayRefuse (format : Format) (fault : FileFault) : Type 0 where
 abbrev pub IsAnyDamage : (tells : Bool) → World → AnyFile → Damage → Type 0
 IsAnyDamage tells files (V1 file) damage = IsCutOff tells (files (string_bytes file.name)) damage
 IsAnyDamage tells files (Tree file) damage = IsNamedDefect tells (files (name_of file.pages)) file.header damage
-
--- A change of a file that is seen so makes what one of a flat file makes, or what one of a tree file makes.
-pub record AnyMakes (seen : FileSeen) (change : FileChange) (name : List ℕ) (old new : World) : Type 0 where
-  pub flat : is_flat seen.format ≡ true → FlatMakes change name old new
-  pub tree : IsTreeFormat seen.format → TreeMakes seen.limit change name old new
-
--- what a change of a file of this format that failed may leave it as, between the bytes before and those that it would have made:
--- of a flat file one of the two
-abbrev pub AnyLeaves : Format → (old after left : Option (List ℕ)) → Type 0
-AnyLeaves Flat old after left = FlatLeaves old after left
-AnyLeaves V2R0 old after left = TreeLeaves old after left
-AnyLeaves V2R1 old after left = TreeLeaves old after left
 
 -- how many calls of `read` a change of a file that is seen so makes at most, by its format
 abbrev pub reads_of_change : Format → FileSeen → FileChange → ℕ

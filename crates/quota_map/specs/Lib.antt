@@ -1,3 +1,4 @@
+pub mod AnyChange
 pub mod AnyFile
 pub mod Passing
 pub mod Reading

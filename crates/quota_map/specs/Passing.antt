@@ -4,7 +4,7 @@ use Rattle.std.proofs.Common.{arith}
 use Rattle.file_blocks.specs.Block.{bytes_of}
 use Rattle.quota_types.specs.declared.file_kind.Format.{Format}
 use Rattle.quota_types.specs.declared.file_kind.Format.TheVariants.{V1 as Flat, V2R0, V2R1}
-use Rattle.opened_file.specs.QuotaFile.{FileSeen}
+use Rattle.opened_file.specs.FileSeen.{FileSeen}
 use Rattle.quota_v1.specs.Passing.{passing_adds_up}
 use Rattle.quota_map.specs.AnyFile.{any_passing_reads, reads_of_passing}
 

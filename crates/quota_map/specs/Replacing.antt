@@ -4,7 +4,7 @@ use Rattle.quota_types.specs.declared.file_kind.Format.{Format}
 use Rattle.quota_types.specs.declared.file_kind.Format.TheVariants.{V1, V2R0, V2R1}
 use Rattle.outside.specs.Count.{Rose}
 use Rattle.quota_value.specs.QuotaValue.{QuotaValue}
-use Rattle.outside.specs.Replacement.{replaced_files}
+use Rattle.outside.specs.ManyCalls.{replaced_files}
 use Rattle.outside.specs.World.{World}
 use Rattle.opened_file.specs.declared.replacement.ReplaceFault.{ReplaceFault}
 use Rattle.opened_file.specs.declared.replacement.ReplaceFault.TheVariants.{Store, Full, Memory}

@@ -6,11 +6,13 @@ use Rattle.quota_types.specs.declared.file_kind.Format.{Format}
 use Rattle.quota_types.specs.declared.file_kind.Format.TheVariants.{V1, V2R0, V2R1}
 use Rattle.quota_types.specs.declared.file_kind.Kind.{Kind}
 use Rattle.entry_codec.specs.Header.{header_of}
-use Rattle.opened_file.specs.QuotaFile.{FileSeen}
+use Rattle.opened_file.specs.FileSeen.{FileSeen}
 use Rattle.quota_value.specs.QuotaValue.{QuotaValue}
 use Rattle.opened_file.specs.declared.quota_file.OpenFault.{OpenFault}
-use Rattle.tree_file.specs.View.{IsTreeFault, IsTreeView}
-use Rattle.quota_v1.specs.View.{IsFlatFault, IsFlatView}
+use Rattle.tree_file.specs.View.{IsTreeView}
+use Rattle.tree_file.specs.TreeCalls.{IsTreeFault}
+use Rattle.quota_v1.specs.View.{IsFlatView}
+use Rattle.quota_v1.specs.FlatFaults.{IsFlatFault}
 use Rattle.opened_file.specs.declared.quota_file.OpenFault.TheVariants.{Damage as Damaged}
 use Rattle.quota_types.specs.declared.damage.Damage.{Damage}
 use Rattle.quota_types.specs.declared.damage.DamageKind.TheVariants.{PartialRecord}

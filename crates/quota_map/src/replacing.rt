@@ -4,7 +4,7 @@ ghost use Rattle.quota_types.specs.Format.{is_flat};
 ghost use Rattle.quota_types.specs.Kept.{kept_of};
 ghost use Rattle.quota_types.specs.Range.{grace_unfit, unfit};
 ghost use Rattle.quota_types.specs.Rec.{is_zeros};
-ghost use Rattle.outside.specs.Frame.{ReplacesOne, replaced_names};
+ghost use Rattle.outside.specs.ManyCalls.{ReplacesOne, replaced_names};
 ghost use Rattle.quota_value.specs.Listed.{ids_of, value_of};
 ghost use Rattle.outside.specs.Replacement.{replacement_name};
 ghost use Rattle.outside.specs.World.{KeepsOthers};

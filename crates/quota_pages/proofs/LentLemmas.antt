@@ -14,7 +14,8 @@ use Rattle.quota_pages.specs.Flushed.{flushed_files}
 use Rattle.quota_pages.proofs.FlushLemmas.{bytes_flushed}
 use Rattle.quota_pages.specs.Page.{Page, are_distinct, is_buffered, is_lent, lent_count, lent_numbers, shown}
 use Rattle.quota_pages.specs.Pages.{pages_of}
-use Rattle.quota_pages.specs.Used.{KeepsBlocksBut, LendsSome}
+use Rattle.quota_pages.specs.Used.{LendsSome}
+use Rattle.quota_pages.specs.KeptBlocks.{KeepsBlocksBut}
 use Rattle.quota_pages.specs.declared.page_buffer.Pages.{Pages}
 use Rattle.quota_pages.proofs.BufferLemmas.{few_pages}
 use Rattle.quota_pages.proofs.PageLemmas.{block_of-shown_other, is_lent-none, shown-ends, shown-grows}

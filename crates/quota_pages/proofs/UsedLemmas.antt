@@ -19,7 +19,8 @@ use Rattle.file_blocks.proofs.WordLemmas.{length-block_of}
 use Rattle.quota_pages.specs.Overlay.{whole_block, with_block}
 use Rattle.quota_pages.specs.Page.{HasRoomFor, IsClean, Page, is_buffered, is_lent, lent_count, shown}
 use Rattle.quota_pages.specs.Pages.{Brings, HoldsAsBuffered, Lent, LooksAt, StaysAsItWas, name_of, pages_of}
-use Rattle.quota_pages.specs.Used.{HasWord, IsKnown, KeepsBlocksBut, LendsSome, LooksAtSome, file_under, missing, shown_over}
+use Rattle.quota_pages.specs.Used.{HasWord, IsKnown, LendsSome, LooksAtSome, file_under, missing, shown_over}
+use Rattle.quota_pages.specs.KeptBlocks.{KeepsBlocksBut}
 use Rattle.quota_pages.specs.declared.page_buffer.Pages.{Pages}
 use Rattle.quota_pages.proofs.BlockLemmas.{block_of-with_block_other, block_of-with_block_same, byte_at-whole_block, length-whole_block, length-with_block}
 

@@ -4,3 +4,4 @@ pub mod Held
 pub mod Pages
 pub mod Flushed
 pub mod Used
+pub mod KeptBlocks

@@ -1,7 +1,7 @@
 -- What calls over a buffer of pages leave of it, and of what it shows over its file.
-use Rattle.std.specs.Prelude.{◌≡◌, ◌⊎◌, ℕ, ◌+◌, ◌*◌, ◌<◌, ◌≤◌, Bool, true, IsTrue, List, [], ◌∷◌, length, max, if◌then◌else◌}
+use Rattle.std.specs.Prelude.{◌≡◌, ◌⊎◌, ℕ, ◌+◌, ◌≤◌, Bool, true, IsTrue, List, [], ◌∷◌, length, if◌then◌else◌}
 use Rattle.quota_types.specs.Bytes.{number_at}
-use Rattle.quota_types.specs.Times.{StandsIn, times}
+use Rattle.quota_types.specs.Times.{times}
 use Rattle.file_blocks.specs.Block.{block_of, file_of}
 use Rattle.outside.specs.Frame.{OnlyReads}
 use Rattle.outside.specs.Seen.{StoreSeen}
@@ -9,6 +9,7 @@ use Rattle.quota_types.specs.Span.{KeepsOutside}
 use Rattle.quota_pages.specs.Page.{IsClean, Page, is_buffered, is_lent, lent_count, shown}
 use Rattle.quota_pages.specs.Pages.{name_of, pages_of}
 use Rattle.quota_pages.specs.declared.page_buffer.Pages.{Pages}
+use Rattle.quota_pages.specs.KeptBlocks.{KeepsBlocksBut}
 
 -- the bytes of a buffer's file, as a store has it
 abbrev pub file_under : StoreSeen → Pages → List ℕ
@@ -61,13 +62,6 @@ pub record LooksAtSome (tells ok : Bool) (count : ℕ) (before now : StoreSeen) 
   pub known : IsKnown tells before old → IsKnown tells now new
   pub leaves : OnlyReads ok (name_of old) before now
   pub reads : now.reads ≤ before.reads + count
-
--- Of a file's blocks all but those of a list have the bytes that they had, and the file grows no further than to the end of
--- the last of those.
-pub record KeepsBlocksBut (numbers : List ℕ) (old new : List ℕ) : Type 0 where
-  pub others : (number : ℕ) → times numbers number ≡ 0 → block_of new number ≡ block_of old number
-  pub longer : length old ≤ length new
-  pub within : (blocks : ℕ) → ((number : ℕ) → StandsIn numbers number → number < blocks) → length new ≤ max (length old) (1024 * blocks)
 
 -- Pages of no blocks but those of a list were lent for writing, and at most this many were read: the name and what was
 -- buffered stay, and so does what the buffer shows of other blocks, over any file; a page that was lent before still is, no

@@ -11,7 +11,8 @@ ghost use Rattle.quota_pages.specs.Overlay.{with_block};
 ghost use Rattle.quota_pages.specs.Flushed.{IsPartlyFlushed, counted_by, flushed_files};
 ghost use Rattle.quota_pages.specs.Page.{IsClean, Page, is_buffered, is_lent, lent_count, lent_numbers, shown};
 ghost use Rattle.quota_pages.specs.Pages.{name_of, pages_of};
-ghost use Rattle.quota_pages.specs.Used.{KeepsBlocksBut, LendsSome, LooksAtSome, Uses, file_under, shown_over};
+ghost use Rattle.quota_pages.specs.Used.{LendsSome, LooksAtSome, Uses, file_under, shown_over};
+ghost use Rattle.quota_pages.specs.KeptBlocks.{KeepsBlocksBut};
 ghost use Rattle.quota_pages.specs.declared.page_buffer.Pages.{Pages as Buffer};
 
 use crate::Pages;

@@ -10,9 +10,10 @@ use Rattle.quota_types.specs.declared.damage.Damage.{Damage}
 use Rattle.quota_types.specs.declared.damage.DamageKind.TheVariants.{RefOut}
 use Rattle.quota_types.proofs.TimesLemmas.{range_with_len-add}
 use Rattle.file_blocks.specs.Block.{word_at, leads}
-use Rattle.quota_radix.specs.Descent.{block_led_to, leaf_block, led_by}
+use Rattle.quota_radix.specs.Descent.{leaf_block}
+use Rattle.quota_radix.specs.OnWay.{block_led_to, led_by, block_on_way, blocks_on_way}
 use Rattle.quota_radix.specs.Digits.{digits_of}
-use Rattle.quota_radix.specs.Way.{IsInsideOnWay, IsOutOnWay, block_on_way, blocks_on_way, digit_on_way}
+use Rattle.quota_radix.specs.Way.{IsInsideOnWay, IsOutOnWay, digit_on_way}
 use Rattle.quota_radix.proofs.StepLemmas.{leads_on}
 
 pub divided : (id gone : ℕ) → gone < 4 → id / 256 ^ (3 - gone) / 256 ≡ id / 256 ^ (4 - gone)

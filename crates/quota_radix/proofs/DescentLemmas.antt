@@ -8,7 +8,8 @@ use Rattle.std.specs.List.{cons_option, filter_map, flat_map, range_with_len}
 use Rattle.std.specs.Option.{option_or}
 use Rattle.quota_radix.specs.declared.tree_path.TreePath.{TreePath}
 use Rattle.file_blocks.specs.Block.{word_at, leads}
-use Rattle.quota_radix.specs.Descent.{block_led_to, leaf_block, leaf_from, led_by, path_from, paths_below}
+use Rattle.quota_radix.specs.Descent.{leaf_block, leaf_from, path_from, paths_below}
+use Rattle.quota_radix.specs.OnWay.{block_led_to, led_by}
 use Rattle.quota_radix.specs.Tree.{leaves, paths, step, steps}
 use Rattle.quota_radix.proofs.OrderLemmas.{rises_bound}
 use Rattle.quota_radix.proofs.FindLemmas.{find_first, find_later}

@@ -11,11 +11,12 @@ use Rattle.quota_types.specs.declared.damage.DamageKind.{DamageKind}
 use Rattle.quota_types.specs.declared.damage.DamageKind.TheVariants.{RefOut}
 use Rattle.file_blocks.specs.Block.{word_at, leads}
 use Rattle.quota_radix.specs.declared.tree_path.TreePath.{TreePath}
-use Rattle.quota_radix.specs.Descent.{block_led_to, later_steps, led_by, path_from, paths_below, with_digits}
+use Rattle.quota_radix.specs.Descent.{later_steps, path_from, paths_below, with_digits}
+use Rattle.quota_radix.specs.OnWay.{block_led_to, led_by, block_on_way}
 use Rattle.quota_radix.specs.Digits.{id_of}
 use Rattle.quota_radix.specs.Lookup.{IsWayFault}
 use Rattle.quota_radix.specs.Tree.{level, step}
-use Rattle.quota_radix.specs.Way.{IsClearTo, IsInsideBy, IsInsideFrom, IsInsideOnWay, IsInsideUpTo, IsOutOnWay, block_on_way, digit_on_way, number_in}
+use Rattle.quota_radix.specs.Way.{IsClearTo, IsInsideBy, IsInsideFrom, IsInsideOnWay, IsInsideUpTo, IsOutOnWay, digit_on_way, number_in}
 use Rattle.quota_radix.proofs.AlongLemmas.{divided}
 use Rattle.quota_radix.proofs.DescentLemmas.{Rises-paths_below, not_some, some_same}
 use Rattle.quota_radix.proofs.FirstLemmas.{digits_above}

@@ -10,7 +10,7 @@ use Rattle.quota_types.specs.Times.{StandsIn, times}
 use Rattle.file_blocks.specs.Block.{block_of, word_at, leads}
 use Rattle.quota_pages.specs.Used.{HasWord}
 use Rattle.quota_radix.specs.declared.tree_path.TreePath.{TreePath}
-use Rattle.quota_radix.specs.Descent.{block_led_to, led_by}
+use Rattle.quota_radix.specs.OnWay.{block_led_to, led_by}
 use Rattle.quota_radix.specs.Link.{GainsBlocks, HasWay, path_along}
 use Rattle.quota_radix.specs.Tree.{blocks_of, level, paths, steps, tree_blocks}
 use Rattle.quota_types.proofs.TimesLemmas.{times-append, times-cons-same}

@@ -6,14 +6,15 @@ use Rattle.std.proofs.lemmas.List.{ext_get_or, get_or-append-add, get_or-drop, g
 use Rattle.std.proofs.lemmas.List.FromFn.{get_or-map-range_with_len, length-map-range_with_len}
 use Rattle.quota_types.specs.Times.{StandsIn, times}
 use Rattle.file_blocks.specs.Block.{leads}
-use Rattle.quota_radix.specs.Descent.{block_led_to}
+use Rattle.quota_radix.specs.OnWay.{block_led_to, block_on_way, blocks_on_way}
 use Rattle.quota_radix.specs.Link.{AreBuffered, AreDistinct, IsLinkable, LeadsAlong, changed_blocks, path_along, whole_way}
 use Rattle.quota_radix.specs.declared.tree_path.TreePath.{TreePath}
 use Rattle.quota_radix.specs.Tree.{tree_blocks}
-use Rattle.quota_radix.specs.Way.{block_on_way, blocks_on_way, digit_on_way}
+use Rattle.quota_radix.specs.Way.{digit_on_way}
 use Rattle.quota_types.proofs.TimesLemmas.{only_one, stands_cons, stands_either, times-append, times-cons-same, StandsIn-get_or}
 use Rattle.quota_pages.specs.Page.{Page, is_buffered}
-use Rattle.quota_pages.specs.Used.{HasWord, KeepsBlocksBut}
+use Rattle.quota_pages.specs.Used.{HasWord}
+use Rattle.quota_pages.specs.KeptBlocks.{KeepsBlocksBut}
 use Rattle.quota_radix.proofs.AlongLemmas.{none_later}
 use Rattle.quota_radix.proofs.DescentLemmas.{option_cases}
 use Rattle.quota_radix.proofs.LinkPathLemmas.{IsLinked, front_of, last_in_tree}

@@ -4,7 +4,8 @@ use Rattle.std.proofs.lemmas.Bool.{cases_eq, cases_lt}
 use Rattle.std.proofs.lemmas.List.{get_or-drop, take_more}
 use Rattle.quota_types.specs.Times.{times}
 use Rattle.file_blocks.specs.Block.{block_of}
-use Rattle.quota_pages.specs.Used.{HasWord, KeepsBlocksBut}
+use Rattle.quota_pages.specs.Used.{HasWord}
+use Rattle.quota_pages.specs.KeptBlocks.{KeepsBlocksBut}
 use Rattle.quota_pages.proofs.UsedLemmas.{HasWord-earlier, HasWord-later}
 use Rattle.quota_radix.specs.Link.{AreDistinct}
 use Rattle.quota_radix.specs.Way.{digit_on_way}

@@ -7,9 +7,8 @@ use Rattle.quota_types.specs.Times.{StandsIn}
 use Rattle.quota_types.proofs.TimesLemmas.{times-cons, times-cons-same}
 use Rattle.file_blocks.specs.Block.{leads, word_at}
 use Rattle.quota_radix.specs.declared.tree_path.TreePath.{TreePath}
-use Rattle.quota_radix.specs.Descent.{block_led_to}
+use Rattle.quota_radix.specs.OnWay.{block_led_to, block_on_way, blocks_on_way}
 use Rattle.quota_radix.specs.Tree.{leaves, level, lower_blocks, paths, step, steps, tree_blocks}
-use Rattle.quota_radix.specs.Way.{block_on_way, blocks_on_way}
 use Rattle.quota_radix.proofs.DescentLemmas.{path_led_to}
 use Rattle.quota_radix.proofs.LinkPathLemmas.{front_of, front_small, level_in_tree}
 

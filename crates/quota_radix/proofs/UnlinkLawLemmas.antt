@@ -8,13 +8,14 @@ use Rattle.quota_types.specs.Times.{StandsIn, times}
 use Rattle.file_blocks.specs.Block.{word_at}
 use Rattle.quota_pages.specs.Used.{HasWord}
 use Rattle.quota_radix.specs.declared.tree_path.TreePath.{TreePath}
-use Rattle.quota_radix.specs.Descent.{block_led_to, leaf_block}
+use Rattle.quota_radix.specs.Descent.{leaf_block}
+use Rattle.quota_radix.specs.OnWay.{block_led_to, block_on_way, blocks_on_way}
 use Rattle.quota_radix.specs.Link.{AreDistinct, GainsBlocks, HasWay, IsLinkable, LeadsAlong, changed_blocks, path_along, whole_way}
 use Rattle.quota_radix.specs.Tree.{lower_blocks, paths, tree_blocks}
 use Rattle.quota_radix.specs.TreeDefect.{IsEmpty}
 use Rattle.quota_radix.specs.Undone.{ClearsWay, SetsWay}
 use Rattle.quota_radix.specs.Unlink.{IsUnlinkable, LosesLeaf, lowest_blocks}
-use Rattle.quota_radix.specs.Way.{IsInsideOnWay, block_on_way, blocks_on_way, digit_on_way}
+use Rattle.quota_radix.specs.Way.{IsInsideOnWay, digit_on_way}
 use Rattle.quota_radix.proofs.AlongLemmas.{fifth_is_leaf}
 use Rattle.quota_radix.proofs.DescentLemmas.{path_led_to}
 use Rattle.quota_radix.proofs.StepLemmas.{word_in, zero_of}

@@ -11,13 +11,14 @@ use Rattle.quota_types.specs.Times.{StandsIn, times}
 use Rattle.quota_types.proofs.TimesLemmas.{times-append, times-cons-other, times-cons-same}
 use Rattle.file_blocks.specs.Block.{block_of, leads, word_at}
 use Rattle.file_blocks.proofs.WordLemmas.{length-block_of}
-use Rattle.quota_pages.specs.Used.{HasWord, KeepsBlocksBut}
-use Rattle.quota_radix.specs.Descent.{block_led_to}
+use Rattle.quota_pages.specs.Used.{HasWord}
+use Rattle.quota_pages.specs.KeptBlocks.{KeepsBlocksBut}
+use Rattle.quota_radix.specs.OnWay.{block_led_to, block_on_way, blocks_on_way}
 use Rattle.quota_radix.specs.Link.{GainsBlocks, HasWay, IsLinkable, LeadsAlong, with_path}
 use Rattle.quota_radix.specs.Tree.{leaves, level, lower_blocks, tree_blocks}
 use Rattle.quota_radix.specs.TreeDefect.{IsEmpty}
 use Rattle.quota_radix.specs.Unlink.{AreAllWithoutOther, ClearsAlong, IsUnlinkable, LosesLeaf, lowest_blocks}
-use Rattle.quota_radix.specs.Way.{block_on_way, blocks_on_way, digit_on_way}
+use Rattle.quota_radix.specs.Way.{digit_on_way}
 use Rattle.quota_radix.proofs.AlongLemmas.{given_all, given_more, none_later}
 use Rattle.quota_radix.proofs.DownLemmas.{times_in_tree}
 use Rattle.quota_radix.proofs.StepLemmas.{word_in}

@@ -7,7 +7,7 @@ use Rattle.quota_types.proofs.TimesLemmas.{times-cons-same}
 use Rattle.file_blocks.specs.Block.{block_of, word_at, leads}
 use Rattle.quota_pages.specs.Used.{HasWord}
 use Rattle.quota_radix.specs.declared.tree_path.TreePath.{TreePath}
-use Rattle.quota_radix.specs.Descent.{block_led_to, led_by}
+use Rattle.quota_radix.specs.OnWay.{block_led_to, led_by}
 use Rattle.quota_radix.specs.Link.{path_along}
 use Rattle.quota_radix.specs.Tree.{level, paths, tree_blocks}
 use Rattle.quota_radix.proofs.DescentLemmas.{path_led_to}

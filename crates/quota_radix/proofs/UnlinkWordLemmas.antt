@@ -5,7 +5,8 @@ use Rattle.std.proofs.lemmas.List.{get_or-take, take_more}
 use Rattle.quota_types.specs.Times.{times}
 use Rattle.quota_types.proofs.TimesLemmas.{times-cons-other}
 use Rattle.file_blocks.specs.Block.{block_of}
-use Rattle.quota_pages.specs.Used.{HasWord, KeepsBlocksBut}
+use Rattle.quota_pages.specs.Used.{HasWord}
+use Rattle.quota_pages.specs.KeptBlocks.{KeepsBlocksBut}
 use Rattle.quota_pages.proofs.UsedLemmas.{HasWord-earlier, HasWord-later, keeps_beside}
 use Rattle.quota_radix.specs.Link.{AreDistinct}
 use Rattle.quota_radix.specs.TreeDefect.{IsEmpty}

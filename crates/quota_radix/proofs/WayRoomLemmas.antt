@@ -8,7 +8,8 @@ use Rattle.quota_pages.specs.Page.{Page, is_buffered}
 use Rattle.quota_pages.specs.Used.{HasRoomWithin, missing, missing_among}
 use Rattle.quota_pages.proofs.UsedLemmas.{missing-stay}
 use Rattle.quota_pages.proofs.UsesLemmas.{missing_among-append, missing_among-cons, missing_among-nil}
-use Rattle.quota_radix.specs.Way.{block_on_way, tree_on_way}
+use Rattle.quota_radix.specs.Way.{tree_on_way}
+use Rattle.quota_radix.specs.OnWay.{block_on_way}
 use Rattle.quota_radix.proofs.AlongLemmas.{IsAlong, given_more}
 
 -- the blocks to which the first digits of an identifier lead, fewer than this many of them

@@ -1,21 +1,10 @@
 -- The way down the tree of a file by the digits of a number, and the leaves from one on. Source: the kernel's
 -- `fs/quota/quota_tree.c` (`find_tree_dqentry` and `find_next_id`).
-use Rattle.std.specs.Prelude.{ℕ, zero, suc, ◌+◌, ◌-◌, ◌*◌, ◌/◌, ◌%◌, nat_le, if◌then◌else◌, List, [], ◌∷◌, find, fold, Option, Some, None}
+use Rattle.std.specs.Prelude.{ℕ, zero, suc, ◌+◌, ◌-◌, ◌*◌, nat_le, List, [], ◌∷◌, find, fold, Option}
 use Rattle.std.specs.List.{filter_map, flat_map, range_with_len}
-use Rattle.std.specs.Option.{option_and_then}
 use Rattle.quota_radix.specs.declared.tree_path.TreePath.{TreePath}
-use Rattle.file_blocks.specs.Block.{word_at, leads}
 use Rattle.quota_radix.specs.Tree.{leaves, step, steps}
-
--- the block to which a digit leads from a block of the tree, or none
-abbrev pub led_by : List ℕ → ℕ → ℕ → ℕ → Option ℕ
-led_by file blocks digit block = if leads blocks (word_at file block digit) then Some (word_at file block digit) else None
-
--- The block to which a number of this many digits to the base 256 leads, or none: the root where there is no digit, and
--- otherwise where the last digit leads from the block to which the digits before it lead.
-abbrev pub block_led_to : List ℕ → ℕ → ℕ → ℕ → Option ℕ
-block_led_to file blocks zero number = Some 1
-block_led_to file blocks (suc digits) number = option_and_then (led_by file blocks (number % 256)) (block_led_to file blocks digits (number / 256))
+use Rattle.quota_radix.specs.OnWay.{block_led_to}
 
 -- the data block to which an identifier leads by its four digits, or none
 abbrev pub leaf_block : List ℕ → ℕ → ℕ → Option ℕ

@@ -5,6 +5,7 @@ pub mod LeafAfter
 pub mod Levels
 pub mod Link
 pub mod Lookup
+pub mod OnWay
 pub mod Reads
 pub mod Tree
 pub mod TreeDefect

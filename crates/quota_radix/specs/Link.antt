@@ -7,7 +7,8 @@ use Rattle.quota_pages.specs.Page.{Page, is_buffered}
 use Rattle.quota_pages.specs.Used.{HasWord}
 use Rattle.quota_radix.specs.declared.tree_path.TreePath.{TreePath}
 use Rattle.quota_radix.specs.Tree.{level, paths, tree_blocks}
-use Rattle.quota_radix.specs.Way.{blocks_on_way, digit_on_way}
+use Rattle.quota_radix.specs.Way.{digit_on_way}
+use Rattle.quota_radix.specs.OnWay.{blocks_on_way}
 
 -- Paths with one more in its place: behind those of lower numbers, and before those of greater ones.
 abbrev pub with_path : List TreePath → TreePath → List TreePath

@@ -1,6 +1,6 @@
 -- What linking a leaf and unlinking one change of the bytes of a file.
 use Rattle.std.specs.Prelude.{◌≡◌, ℕ, ◌-◌, List, [], ◌∷◌, ◌++◌, length, slice_index}
-use Rattle.quota_pages.specs.Used.{KeepsBlocksBut}
+use Rattle.quota_pages.specs.KeptBlocks.{KeepsBlocksBut}
 use Rattle.quota_radix.specs.Link.{LeadsAlong, changed_blocks, whole_way}
 use Rattle.quota_radix.specs.Unlink.{AreAllWithoutOther, ClearsAlong, lowest_blocks}
 

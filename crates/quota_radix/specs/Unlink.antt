@@ -6,7 +6,8 @@ use Rattle.quota_pages.specs.Used.{HasWord}
 use Rattle.quota_radix.specs.Link.{AreDistinct, GainsBlocks, HasWay, IsLinkable, LeadsAlong, with_path}
 use Rattle.quota_radix.specs.Tree.{leaves, lower_blocks, tree_blocks}
 use Rattle.quota_radix.specs.TreeDefect.{IsEmpty}
-use Rattle.quota_radix.specs.Way.{blocks_on_way, digit_on_way}
+use Rattle.quota_radix.specs.Way.{digit_on_way}
+use Rattle.quota_radix.specs.OnWay.{blocks_on_way}
 
 -- the tree blocks of a whole way below the root, this many of them, the lowest first
 abbrev pub lowest_blocks : List ℕ → (count : ℕ) → List ℕ

@@ -5,20 +5,11 @@ use Rattle.std.specs.List.{filter_map, range_with_len}
 use Rattle.std.specs.Option.{option_map}
 use Rattle.quota_radix.specs.declared.tree_path.TreePath.{TreePath}
 use Rattle.file_blocks.specs.Block.{leads, word_at}
-use Rattle.quota_radix.specs.Descent.{block_led_to}
-
--- the block to which the first digits of an identifier lead, this many of them, or none
-unfoldable pub block_on_way : List ℕ → (blocks id gone : ℕ) → Option ℕ
-block_on_way file blocks id gone = block_led_to file blocks gone (id / 256 ^ (4 - gone))
+use Rattle.quota_radix.specs.OnWay.{block_led_to, block_on_way}
 
 -- the digit of an identifier behind its first ones, this many of them
 unfoldable pub digit_on_way : (id gone : ℕ) → ℕ
 digit_on_way id gone = id / 256 ^ (3 - gone) % 256
-
--- The blocks to which the first 0, 1, 2, 3 and 4 digits of an identifier lead, as far as they do: the root first, and the
--- data block fifth.
-unfoldable pub blocks_on_way : List ℕ → (blocks id : ℕ) → List ℕ
-blocks_on_way file blocks id = filter_map (block_on_way file blocks id) (range_with_len 0 5)
 
 -- The blocks of the tree on the way of an identifier, as far as it goes: those to which its first 0, 1, 2 and 3 digits lead.
 unfoldable pub tree_on_way : List ℕ → (blocks id : ℕ) → List ℕ

@@ -7,7 +7,8 @@ ghost use Rattle.quota_pages.specs.Used.{HasRoomWithin, IsKnown, LooksAtSome, mi
 ghost use Rattle.quota_radix.specs.Descent.{leaf_block};
 ghost use Rattle.quota_radix.specs.Link.{AreBuffered};
 ghost use Rattle.quota_radix.specs.WalkFault.{IfDamaged, IsWalkFault};
-ghost use Rattle.quota_radix.specs.Way.{IsFromRoot, IsInsideOnWay, IsOutOnWay, blocks_on_way, tree_on_way};
+ghost use Rattle.quota_radix.specs.Way.{IsFromRoot, IsInsideOnWay, IsOutOnWay, tree_on_way};
+ghost use Rattle.quota_radix.specs.OnWay.{blocks_on_way};
 
 use crate::levels::ROOT;
 use crate::{Path, WalkFault, digits};

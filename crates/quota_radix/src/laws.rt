@@ -9,7 +9,8 @@ ghost use Rattle.quota_radix.specs.Tree.{lower_blocks, paths, tree_blocks};
 ghost use Rattle.quota_radix.specs.TreeDefect.{IsEmpty};
 ghost use Rattle.quota_radix.specs.Undone.{ClearsWay, SetsWay};
 ghost use Rattle.quota_radix.specs.Unlink.{IsUnlinkable, LosesLeaf};
-ghost use Rattle.quota_radix.specs.Way.{IsInsideOnWay, blocks_on_way};
+ghost use Rattle.quota_radix.specs.Way.{IsInsideOnWay};
+ghost use Rattle.quota_radix.specs.OnWay.{blocks_on_way};
 
 /// A leaf that was linked can be unlinked: the whole way of its identifier is that by which it was linked.
 pub fn a_linked_leaf_can_be_unlinked()

@@ -8,5 +8,6 @@ pub mod Kind
 pub mod Range
 pub mod Rec
 pub mod Span
+pub mod TimerRoom
 pub mod Timers
 pub mod Times

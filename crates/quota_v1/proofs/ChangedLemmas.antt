@@ -2,7 +2,8 @@
 use Rattle.std.proofs.Common.{◌≡◌, ◌⊎◌, ℕ, zero, suc, ◌+◌, ◌*◌, ◌≤◌, Bool, true, false, IsTrue, List, length, Result, Ok, Err, OnErr, OnOk, inl, inr, refl, sym, ap, subst, ◌∙◌, arith}
 use Rattle.file_blocks.specs.Block.{bytes_of}
 use Rattle.outside.specs.Count.{Rose}
-use Rattle.outside.specs.Frame.{ChangesOne, IsSynced, OnlyReads}
+use Rattle.outside.specs.Frame.{ChangesOne, OnlyReads}
+use Rattle.outside.specs.ManyCalls.{IsSynced}
 use Rattle.outside.specs.Seen.{StoreSeen}
 use Rattle.outside.specs.World.{World, overwritten, with_bytes}
 use Rattle.outside.proofs.FrameLemmas.{is_synced-read, is_synced-then}

@@ -15,7 +15,8 @@ use Rattle.quota_types.specs.Range.{grace_unfit, unfit}
 use Rattle.quota_types.specs.Rec.{IsNull}
 use Rattle.std.proofs.lemmas.Bool.Decides.{nat_tests}
 use Rattle.opened_file.specs.Changes.{Changes, FileAt}
-use Rattle.opened_file.specs.FileChange.{FileChange, Put, Remove, SetGrace, changed_value, has_nothing_to_do}
+use Rattle.opened_file.specs.FileChange.{FileChange, Put, Remove, SetGrace, changed_value}
+use Rattle.opened_file.specs.ValueEdits.{has_nothing_to_do}
 use Rattle.opened_file.specs.FileUse.{seen_in}
 use Rattle.opened_file.specs.QuotaFile.{ChangesBlocks, CountsRefusal, IfFull, StaysInPlace, WantsNoMemory}
 use Rattle.quota_value.specs.QuotaValue.{QuotaValue}
@@ -23,7 +24,8 @@ use Rattle.opened_file.specs.declared.file_use.FileUse.{FileUse}
 use Rattle.opened_file.specs.declared.quota_file.FileFault.{FileFault}
 use Rattle.opened_file.specs.declared.quota_file.FileFault.TheVariants.{Store, Damage, Full, Memory}
 use Rattle.opened_file.proofs.ChangesLemmas.{IsWanted, changes-done, changes-torn}
-use Rattle.quota_v1.specs.Change.{FitsFlat, FlatChanged, FlatGraced, IsFlatChange, MayRefuse, WritesFlat}
+use Rattle.quota_v1.specs.Change.{FitsFlat, FlatChanged, FlatGraced, WritesFlat}
+use Rattle.quota_v1.specs.FlatCalls.{IsFlatChange, MayRefuse}
 use Rattle.quota_v1.specs.FlatFile.{FlatStandsFor, flat_record, unless_zeros}
 use Rattle.quota_v1.specs.Opened.{AgreesFlat, HoldsFlat, flat_at, flat_laws}
 use Rattle.quota_v1.specs.Slot.{ChangesFile, MakesOne, PutsRecord}

@@ -9,7 +9,8 @@ use Rattle.quota_types.specs.declared.file_kind.Kind.{Kind}
 use Rattle.quota_types.specs.declared.file_kind.Format.TheVariants.{V1}
 use Rattle.quota_types.specs.declared.record.Rec.{Rec}
 use Rattle.quota_types.specs.declared.record.Entry.{Entry}
-use Rattle.quota_value.specs.QuotaValue.{QuotaValue, Records, IsNextAfter}
+use Rattle.quota_value.specs.QuotaValue.{QuotaValue, Records}
+use Rattle.quota_value.specs.NextRecord.{IsNextAfter}
 use Rattle.quota_types.specs.Ids.{IsAfter}
 use Rattle.quota_v1.specs.FlatFile.{flat_record, flat_grace, FlatStandsFor, timed_record, unless_zeros}
 use Rattle.quota_v1.specs.Slot.{IsFirstRecord}

@@ -17,7 +17,7 @@ use Rattle.opened_file.specs.declared.file_use.FileUse.{FileUse}
 use Rattle.opened_file.specs.declared.quota_file.FileFault.{FileFault}
 use Rattle.opened_file.specs.declared.quota_file.FileFault.TheVariants.{Store, Damage, Full, Memory}
 use Rattle.opened_file.proofs.ChangesLemmas.{changes-idle, changes-refused, changes-unwritten}
-use Rattle.quota_v1.specs.Change.{MayRefuse}
+use Rattle.quota_v1.specs.FlatCalls.{MayRefuse}
 use Rattle.quota_v1.specs.FlatFile.{flat_record}
 use Rattle.quota_v1.specs.Opened.{HoldsFlat, IsNamedDefect, flat_at, flat_laws}
 use Rattle.quota_v1.specs.Slot.{IsRecordFault}

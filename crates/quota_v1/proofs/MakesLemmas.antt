@@ -10,7 +10,8 @@ use Rattle.quota_types.specs.declared.record.Rec.{Rec}
 use Rattle.quota_types.specs.Rec.{IsNull}
 use Rattle.opened_file.specs.FileChange.{Put, Remove, SetGrace}
 use Rattle.quota_value.specs.QuotaValue.{QuotaValue}
-use Rattle.quota_v1.specs.Change.{FlatGraced, IsFlatChange}
+use Rattle.quota_v1.specs.Change.{FlatGraced}
+use Rattle.quota_v1.specs.FlatCalls.{IsFlatChange}
 use Rattle.quota_v1.specs.FlatFile.{FlatStandsFor, flat_record, unless_zeros}
 use Rattle.quota_v1.specs.Slot.{PutsRecord}
 use Rattle.quota_v1.specs.Place.{block_time_start, inode_time_start, record_start}

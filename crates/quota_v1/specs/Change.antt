@@ -1,16 +1,12 @@
 -- What a change of a flat file makes of it, and why a call on it may be refused.
-use Rattle.std.specs.Prelude.{◌≡◌, ◌⊎◌, ℕ, ◌+◌, ◌≤◌, max, IsSomeAnd, List, length, Option, None, Some, ⊤}
-use Rattle.quota_types.specs.declared.damage.DamageKind.TheVariants.{PartialRecord}
+use Rattle.std.specs.Prelude.{◌≡◌, ◌⊎◌, ℕ, ◌+◌, ◌≤◌, max, IsSomeAnd, List, length, Option, None, Some}
 use Rattle.quota_types.specs.declared.record.Grace.{Grace}
 use Rattle.quota_types.specs.declared.record.Rec.{Rec}
 use Rattle.quota_types.specs.Bytes.{number_at}
-use Rattle.opened_file.specs.FileChange.{FileChange, Put, Remove, SetGrace, changed_value}
-use Rattle.quota_value.specs.QuotaValue.{QuotaValue}
+use Rattle.opened_file.specs.FileChange.{FileChange, Put, Remove, SetGrace}
 use Rattle.quota_types.specs.Span.{KeepsOutside}
 use Rattle.outside.specs.World.{KeepsOthers, World}
-use Rattle.opened_file.specs.declared.quota_file.FileFault.{FileFault}
-use Rattle.opened_file.specs.declared.quota_file.FileFault.TheVariants.{Store, Damage, Full, Memory}
-use Rattle.quota_v1.specs.FlatFile.{FlatStandsFor, flat_record}
+use Rattle.quota_v1.specs.FlatFile.{flat_record}
 use Rattle.quota_v1.specs.Place.{block_time_start, inode_time_start, record_size, record_start}
 use Rattle.quota_v1.specs.View.{flat_limit}
 
@@ -45,11 +41,6 @@ FlatChanged (Put id rec) = FlatPut id rec
 FlatChanged (Remove id) = FlatRemoved id
 FlatChanged (SetGrace grace) = FlatGraced grace
 
--- Bytes are what a change makes of others: of each value that those stand for they stand for the changed one.
-pub record IsFlatChange (change : FileChange) (before after : List ℕ) : Type 0 where
-  pub changed : FlatChanged change before after
-  pub stands : (value : QuotaValue) → FlatStandsFor before value → FlatStandsFor after (changed_value change value)
-
 -- The named file is there before and after, with bytes that are related so, and no other file has changed.
 pub record WritesFlat (so : List ℕ → List ℕ → Type 0) (name : List ℕ) (old new : World) : Type 0 where
   pub named : IsSomeAnd (old name) (λ before. IsSomeAnd (new name) (so before))
@@ -66,11 +57,3 @@ FlatMakes change = WritesFlat (FitsFlat (FlatChanged change))
 -- what a change that failed leaves: the file as it was, or as the change makes it
 abbrev pub FlatLeaves : (old after left : Option (List ℕ)) → Type 0
 FlatLeaves old after left = (left ≡ old) ⊎ (left ≡ after)
-
--- The faults that a call on an opened flat file may answer, whatever the store tells: of damages, that a record is cut off. It is
--- never full, and takes no memory.
-abbrev pub MayRefuse : FileFault → Type 0
-MayRefuse Store = ⊤
-MayRefuse (Damage damage) = (damage.kind ≡ PartialRecord) × (damage.id ≡ 0)
-MayRefuse (Full _ _) = ⊥
-MayRefuse Memory = ⊥

@@ -29,10 +29,6 @@ stored_at bytes at = record {
 abbrev pub timed_at : List ℕ → (at id : ℕ) → Rec
 timed_at bytes at id = without_timers_of_zero id (stored_at bytes at)
 
--- the 40 bytes of an identifier, as a record
-abbrev pub stored_record : List ℕ → ℕ → Rec
-stored_record file id = stored_at file (record_start id)
-
 -- the record of an identifier
 abbrev pub timed_record : List ℕ → ℕ → Rec
 timed_record file id = timed_at file (record_start id) id

@@ -1,5 +1,7 @@
 pub mod Build
 pub mod Change
+pub mod FlatCalls
+pub mod FlatFaults
 pub mod FlatFile
 pub mod Opened
 pub mod Passing

@@ -7,11 +7,12 @@ use Rattle.quota_types.specs.declared.file_kind.Format.TheVariants.{V1}
 use Rattle.quota_types.specs.declared.record.Grace.{Grace}
 use Rattle.opened_file.specs.Changes.{FileAt, FileLaws, file_at, laws_of}
 use Rattle.opened_file.specs.FileUse.{seen_in}
-use Rattle.opened_file.specs.QuotaFile.{FileSeen}
+use Rattle.opened_file.specs.FileSeen.{FileSeen}
 use Rattle.quota_value.specs.QuotaValue.{QuotaValue}
 use Rattle.outside.specs.Seen.{StoreSeen}
 use Rattle.opened_file.specs.declared.file_use.FileUse.{FileUse}
-use Rattle.quota_v1.specs.Change.{FlatLeaves, FlatMakes, MayRefuse}
+use Rattle.quota_v1.specs.Change.{FlatLeaves, FlatMakes}
+use Rattle.quota_v1.specs.FlatCalls.{MayRefuse}
 use Rattle.quota_v1.specs.FlatFile.{FlatStandsFor}
 use Rattle.quota_v1.specs.Place.{block_time_start, inode_time_start}
 use Rattle.quota_v1.specs.View.{IsFlatDefect, flat_limit}

@@ -2,7 +2,7 @@
 use Rattle.std.specs.Prelude.{◌≡◌, ◌⊎◌, ℕ, ◌+◌, ◌<◌, ◌≤◌, max, Bool, IsTrue, List, length, None, OnErr, OnOk, Option, Result, Some}
 use Rattle.file_blocks.specs.Block.{file_of}
 use Rattle.outside.specs.Count.{Rose}
-use Rattle.outside.specs.Frame.{IsSynced}
+use Rattle.outside.specs.ManyCalls.{IsSynced}
 use Rattle.opened_file.specs.EditsOne.{EditsOne}
 use Rattle.outside.specs.Seen.{StoreSeen}
 use Rattle.outside.specs.World.{KeepsOthers, World, with_file}

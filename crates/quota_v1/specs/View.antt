@@ -1,12 +1,11 @@
 -- What is seen of a flat file by whoever opens it: the value that it stands for, or the first refusal that holds.
-use Rattle.std.specs.Prelude.{◌≡◌, ◌≢◌, ℕ, ◌/◌, ◌%◌, ◌<◌, ◌≤◌, Bool, IsTrue, List, length, Option, None, Result, Ok, Err, IsSomeAnd, ⊤}
+use Rattle.std.specs.Prelude.{◌≡◌, ◌≢◌, ℕ, ◌/◌, ◌%◌, ◌<◌, ◌≤◌, List, length, Option, None, Result, Ok, Err, IsSomeAnd}
 use Rattle.quota_types.specs.declared.file_kind.Kind.{Kind}
 use Rattle.quota_types.specs.declared.damage.Damage.{Damage}
 use Rattle.quota_types.specs.declared.damage.DamageKind.TheVariants.{PartialRecord}
-use Rattle.outside.specs.Count.{Rose}
 use Rattle.quota_value.specs.QuotaValue.{QuotaValue}
 use Rattle.opened_file.specs.declared.quota_file.OpenFault.{OpenFault}
-use Rattle.opened_file.specs.declared.quota_file.OpenFault.TheVariants.{Store, NoFile, TooLarge, Memory, Damage as Damaged}
+use Rattle.opened_file.specs.declared.quota_file.OpenFault.TheVariants.{NoFile, TooLarge, Damage as Damaged}
 use Rattle.quota_v1.specs.FlatFile.{FlatStandsFor}
 use Rattle.quota_v1.specs.Place.{record_size}
 
@@ -30,16 +29,3 @@ IsFlatView named kind (Err (TooLarge number limit)) =
     IsSomeAnd named (λ file. (flat_limit < length file) × (number ≡ length file)) × (limit ≡ flat_limit)
 IsFlatView named kind (Err (Damaged damage)) = IsSomeAnd named (λ file. (length file ≤ flat_limit) × IsFlatDefect file damage)
 IsFlatView named kind (Err _) = ⊥
-
--- Why opening is refused: the store's count of faults rose, there is not enough memory, there is no file, it is too
--- large, or its last record is cut off. What is said of the file holds where the store tells it, whatever kind is asked
--- for; that no other refusal comes, and where the limit lies, holds always.
-abbrev pub IsFlatFault : ℕ → ℕ → Bool → Option (List ℕ) → OpenFault → Type 0
-IsFlatFault before now tells named Store = Rose before now
-IsFlatFault before now tells named Memory = ⊤
-IsFlatFault before now tells named NoFile = IsTrue tells → named ≡ None
-IsFlatFault before now tells named (TooLarge number limit) =
-    (limit ≡ flat_limit) × (IsTrue tells → IsSomeAnd named (λ file. (flat_limit < length file) × (number ≡ length file)))
-IsFlatFault before now tells named (Damaged damage) =
-    ((damage.kind ≡ PartialRecord) × (damage.id ≡ 0)) × (IsTrue tells → IsSomeAnd named (λ file. (length file ≤ flat_limit) × IsFlatDefect file damage))
-IsFlatFault before now tells named _ = ⊥

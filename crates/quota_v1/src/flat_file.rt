@@ -27,7 +27,8 @@ pub struct V1File {
 impl<S: Store> QuotaFile<S> for V1File {
     ghost use Rattle.std.specs.String.{string_bytes};
     ghost use Rattle.file_blocks.specs.Block.{bytes_of};
-    ghost use Rattle.quota_v1.specs.Change.{FlatLeaves, FlatMakes, MayRefuse};
+    ghost use Rattle.quota_v1.specs.Change.{FlatLeaves, FlatMakes};
+    ghost use Rattle.quota_v1.specs.FlatCalls.{MayRefuse};
     ghost use Rattle.quota_v1.specs.FlatFile.{FlatStandsFor};
     ghost use Rattle.quota_v1.specs.Opened.{HoldsFlat, IsNamedDefect, flat_seen, most_next_reads};
     ghost use Rattle.quota_v1.specs.Passing.{passing_adds_up};

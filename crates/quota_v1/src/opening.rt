@@ -4,7 +4,8 @@ ghost use Rattle.quota_types.specs.declared.file_kind.Format.TheVariants.{V1};
 ghost use Rattle.outside.specs.Frame.{OnlyReads};
 ghost use Rattle.quota_value.specs.QuotaValue.{QuotaValue};
 ghost use Rattle.quota_v1.specs.Place.{record_size};
-ghost use Rattle.quota_v1.specs.View.{IsFlatView, IsFlatFault, flat_limit};
+ghost use Rattle.quota_v1.specs.View.{IsFlatView, flat_limit};
+ghost use Rattle.quota_v1.specs.FlatFaults.{IsFlatFault};
 
 use crate::V1File;
 use crate::flat_change::TIMES;

@@ -2,12 +2,14 @@ ghost use Rattle.std.specs.Prelude.{◌≡◌, ◌≢◌, ◌⊎◌, ◌+◌, �
 ghost use Rattle.opened_file.specs.Committed.{CommitsOnce};
 ghost use Rattle.file_blocks.specs.Block.{file_of};
 ghost use Rattle.outside.specs.Count.{Rose, counted};
-ghost use Rattle.outside.specs.Frame.{ChangesOne, IsSynced, OnlyReads};
+ghost use Rattle.outside.specs.Frame.{ChangesOne, OnlyReads};
+ghost use Rattle.outside.specs.ManyCalls.{IsSynced};
 ghost use Rattle.outside.specs.World.{with_bytes};
 ghost use Rattle.quota_types.specs.Kept.{IsKept};
 ghost use Rattle.quota_types.specs.Range.{unfit};
 ghost use Rattle.quota_types.specs.declared.file_kind.Format.TheVariants.{V1};
-ghost use Rattle.quota_v1.specs.Change.{FlatGraced, MayRefuse};
+ghost use Rattle.quota_v1.specs.Change.{FlatGraced};
+ghost use Rattle.quota_v1.specs.FlatCalls.{MayRefuse};
 ghost use Rattle.quota_v1.specs.FlatFile.{flat_record};
 ghost use Rattle.quota_v1.specs.Slot.{AreFrom, ChangesFile, IsRecordFault, PutsRecord, MakesOne};
 ghost use Rattle.quota_v1.specs.View.{IsFlatDefect, flat_limit};

@@ -8,7 +8,8 @@ use Rattle.std.specs.Cmp.{unsigned_tied}
 use Rattle.std.specs.FinMap.{entries, find, is_sorted, get-entries, entries_sorted}
 use Rattle.std.specs.FinMap.Entries.{below_all}
 use Rattle.quota_types.specs.declared.record.Entry.{Entry}
-use Rattle.quota_value.specs.QuotaValue.{Records, IsNextAfter}
+use Rattle.quota_value.specs.QuotaValue.{Records}
+use Rattle.quota_value.specs.NextRecord.{IsNextAfter}
 use Rattle.quota_types.specs.Ids.{IsAfter}
 
 -- whether an identifier comes after another one, or after none

@@ -1,13 +1,11 @@
 -- What a quota file stands for, whatever its format.
-use Rattle.std.specs.Prelude.{◌≡◌, ℕ, ◌<◌, Option, Some, None}
+use Rattle.std.specs.Prelude.{ℕ}
 use Rattle.std.specs.Ordering.{nat_cmp}
-use Rattle.std.specs.FinMap.{FinMap, get, insert, remove}
-use Rattle.quota_types.specs.Ids.{IsAfter}
+use Rattle.std.specs.FinMap.{FinMap, insert, remove}
 use Rattle.quota_types.specs.declared.file_kind.Kind.{Kind}
 use Rattle.quota_types.specs.declared.file_kind.Format.{Format}
 use Rattle.quota_types.specs.declared.record.Rec.{Rec}
 use Rattle.quota_types.specs.declared.record.Grace.{Grace}
-use Rattle.quota_types.specs.declared.record.Entry.{Entry}
 
 -- records by their identifiers
 abbrev pub Records : Type 0
@@ -32,11 +30,3 @@ without_record value id = record value { records = remove value.records id }
 -- the value with these grace periods
 abbrev pub with_grace : QuotaValue → Grace → QuotaValue
 with_grace value grace = record value { grace = grace }
-
--- the least identifier that comes after another one, with its record, or none where there is none
-abbrev pub IsNextAfter : Option ℕ → Records → Option Entry → Type 0
-IsNextAfter after records None = (id : ℕ) → IsAfter after id → get records id ≡ None
-IsNextAfter after records (Some entry) =
-    IsAfter after entry.id
-    × (get records entry.id ≡ Some entry.rec)
-    × ((id : ℕ) → IsAfter after id → id < entry.id → get records id ≡ None)

@@ -2,7 +2,8 @@
 use Rattle.std.proofs.Common.{◌≡◌, ℕ, ◌+◌, ◌<◌, ◌≤◌, List, [], ◌∷◌, ◌++◌, length, get_or, take, drop, sym, ap, subst, ◌∙◌, append_assoc}
 use Rattle.std.proofs.lemmas.List.{take_more, take-append-drop, append-nil, take_all}
 use Rattle.std.proofs.lemmas.List.Concat.{flat_map-append}
-use Rattle.outside.specs.Text.{AppendsPrefix, IsGathered}
+use Rattle.outside.specs.Text.{AppendsPrefix}
+use Rattle.outside.specs.Gathering.{IsGathered}
 use Rattle.outside.proofs.TextLemmas.{appends_at_flush, appends_more}
 use Rattle.refusals.specs.declared.piece.Piece.{Piece}
 use Rattle.refusals.specs.Piece.{joined, piece_bytes}

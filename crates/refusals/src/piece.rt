@@ -1,7 +1,8 @@
 ghost use Rattle.std.specs.Prelude.{◌≡◌, ◌≤◌, ◌++◌, ◌∷◌, [], List, ℕ, codes, IsTrue, OnOk, OnErr};
 ghost use Rattle.std.specs.List.{concat};
 ghost use Rattle.outside.specs.Count.{Rose};
-ghost use Rattle.outside.specs.Text.{AppendsPrefix, IsGathered};
+ghost use Rattle.outside.specs.Text.{AppendsPrefix};
+ghost use Rattle.outside.specs.Gathering.{IsGathered};
 ghost use Rattle.refusals.specs.Line.{front_of, line_text};
 ghost use Rattle.refusals.specs.Piece.{joined, piece_bytes};
 

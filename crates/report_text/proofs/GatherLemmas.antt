@@ -1,6 +1,7 @@
 -- Texts that are put one after another.
 use Rattle.std.proofs.Common.{◌≡◌, ℕ, Bool, List, [], ◌++◌, IsTrue, sym, ap, subst, ◌∙◌, append_assoc, append-nil}
-use Rattle.outside.specs.Text.{AppendsPrefix, Gathers, IsGathered, WritesPrefix}
+use Rattle.outside.specs.Text.{AppendsPrefix}
+use Rattle.outside.specs.Gathering.{Gathers, IsGathered, WritesPrefix}
 use Rattle.outside.proofs.TextLemmas.{appends_more, appends_at_flush}
 
 -- pieces that are appended one after another, the first two pairs each as one

@@ -5,10 +5,11 @@ use Rattle.quota_types.specs.declared.file_kind.Kind.{Kind}
 use Rattle.quota_types.specs.declared.record.Rec.{Rec}
 use Rattle.quota_types.specs.declared.record.Grace.{Grace}
 use Rattle.quota_types.specs.declared.record.Entry.{Entry}
-use Rattle.quota_value.specs.QuotaValue.{QuotaValue, Records, IsNextAfter}
+use Rattle.quota_value.specs.QuotaValue.{QuotaValue, Records}
+use Rattle.quota_value.specs.NextRecord.{IsNextAfter}
 use Rattle.quota_value.proofs.EntriesLemmas.{entries_after, entries_after-all, entries_after-next, entries_after-end}
 use Rattle.report_options.specs.declared.options.Options.{Options}
-use Rattle.outside.specs.Text.{Gathers, WritesPrefix}
+use Rattle.outside.specs.Gathering.{Gathers, WritesPrefix}
 use Rattle.report_text.specs.Report.{report_of, head_of, lines_of, shown_line}
 use Rattle.report_text.proofs.GatherLemmas.{gathers_none, gathers_then, writes_more, writes_then, writes_gathered}
 

@@ -3,7 +3,7 @@ use Rattle.std.proofs.Common.{◌≡◌, ℕ, ◌+◌, ◌*◌, ◌-◌, ◌^◌
 use Rattle.std.proofs.Math.Nat.{mul-le-mul_left}
 use Rattle.opened_file.specs.Changes.{FileAt, FileLaws, file_in}
 use Rattle.opened_file.specs.LooksUp.{LooksUp}
-use Rattle.opened_file.specs.QuotaFile.{FileSeen}
+use Rattle.opened_file.specs.FileSeen.{FileSeen}
 use Rattle.quota_types.specs.Ids.{IsAfter}
 use Rattle.opened_file.specs.declared.quota_file.FileFault.{FileFault}
 use Rattle.quota_value.proofs.EntriesLemmas.{ids_after}

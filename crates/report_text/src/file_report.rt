@@ -6,7 +6,8 @@ ghost use Rattle.outside.specs.Count.{Rose};
 ghost use Rattle.opened_file.specs.LooksUp.{LooksUp};
 ghost use Rattle.opened_file.specs.Passing.{reads_over};
 ghost use Rattle.quota_value.specs.QuotaValue.{QuotaValue};
-ghost use Rattle.outside.specs.Text.{AppendsPrefix, Gathers, WritesPrefix};
+ghost use Rattle.outside.specs.Text.{AppendsPrefix};
+ghost use Rattle.outside.specs.Gathering.{Gathers, WritesPrefix};
 ghost use Rattle.report_text.specs.Fault.{OnSink, file_fault};
 ghost use Rattle.report_text.specs.Report.{report_of, lines_of};
 

@@ -1,6 +1,6 @@
 ghost use Rattle.std.specs.Prelude.{◌≡◌, ◌+◌, ◌≤◌, ◌++◌, length, OnOk, OnErr};
 ghost use Rattle.outside.specs.Count.{Rose};
-ghost use Rattle.outside.specs.Text.{Gathers, WritesPrefix};
+ghost use Rattle.outside.specs.Gathering.{Gathers, WritesPrefix};
 ghost use Rattle.report_text.specs.Period.{period_of};
 ghost use Rattle.report_text.specs.Report.{head_of, title_front, title_line, grace_line, heading_line, hyphen_line};
 

@@ -1,6 +1,7 @@
 ghost use Rattle.std.specs.Prelude.{◌≡◌, ℕ, ◌+◌, ◌<◌, ◌≤◌, ◌++◌, [], length, max, take, drop, replicate, decimal, IsTrue, OnOk, OnErr};
 ghost use Rattle.outside.specs.Count.{Rose};
-ghost use Rattle.outside.specs.Text.{AppendsPrefix, Gathers, WritesPrefix};
+ghost use Rattle.outside.specs.Text.{AppendsPrefix};
+ghost use Rattle.outside.specs.Gathering.{Gathers, WritesPrefix};
 ghost use Rattle.report_text.specs.Report.{left_in, column};
 
 use itoa::{Buffer, write_digits};

@@ -9,16 +9,19 @@ use Rattle.std.proofs.lemmas.List.Elements.{All-push}
 use Rattle.quota_types.specs.declared.file_kind.Format.{Format}
 use Rattle.quota_types.specs.declared.file_kind.Format.TheVariants.{V1}
 use Rattle.file_blocks.specs.Block.{bytes_of}
-use Rattle.outside.specs.Frame.{OnlyReads, Syncs}
+use Rattle.outside.specs.Frame.{OnlyReads}
+use Rattle.outside.specs.ManyCalls.{Syncs}
 use Rattle.quota_value.specs.QuotaValue.{QuotaValue}
 use Rattle.outside.specs.Seen.{StoreSeen}
 use Rattle.outside.specs.World.{World}
 use Rattle.opened_file.specs.declared.quota_file.OpenFault.{OpenFault}
 use Rattle.outside.proofs.FrameLemmas.{syncs-after_read, syncs-none, syncs-read}
 use Rattle.quota_map.specs.View.{IsOpenFault, IsOpenedAs, IsView, opening_reads, fresh_seen}
-use Rattle.rquota_serve.specs.Adding.{AreAdded, AreToldOf, IsRefusedAt, MayAddAll, NewSeen, ReadsEach, added_of, new_seen, news_seen, one_later, reads_of, tried_of}
+use Rattle.rquota_serve.specs.Adding.{AreToldOf, MayAddAll, NewSeen, reads_of}
+use Rattle.rquota_serve.specs.Added.{AreAdded, IsRefusedAt, ReadsEach, added_of, new_seen, news_seen, one_later, tried_of}
 use Rattle.rquota_serve.specs.Exported.{Exported, with_export}
-use Rattle.rquota_serve.specs.Exports.{ExportSeen, IsServed, Serves, export_seen, fresh_export, is_exported, kept_in, may_add}
+use Rattle.rquota_serve.specs.Exports.{IsServed, Serves, export_seen, fresh_export, kept_in}
+use Rattle.rquota_serve.specs.ExportSeen.{ExportSeen, is_exported, may_add}
 use Rattle.rquota_serve.specs.declared.export.Export.{Export}
 use Rattle.rquota_serve.specs.declared.exports.Exports.{Exports}
 use Rattle.rquota_serve.specs.declared.new_export.AddFault.{AddFault}

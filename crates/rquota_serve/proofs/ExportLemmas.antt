@@ -19,7 +19,8 @@ use Rattle.quota_types.specs.Kind.{kinds_eq}
 use Rattle.quota_types.proofs.KindLemmas.{kinds_eq-same, kinds_eq-true}
 use Rattle.quota_types.specs.declared.record.Rec.{Rec}
 use Rattle.outside.specs.Frame.{OnlyReads}
-use Rattle.opened_file.specs.QuotaFile.{CountsRefusal, FileSeen, IsLookupFault}
+use Rattle.opened_file.specs.QuotaFile.{CountsRefusal, IsLookupFault}
+use Rattle.opened_file.specs.FileSeen.{FileSeen}
 use Rattle.opened_file.specs.declared.quota_file.FileFault.{FileFault}
 use Rattle.opened_file.specs.declared.quota_file.FileFault.TheVariants.{Store as CallFailed, Damage as Damaged, Full, Memory as NoMemory}
 use Rattle.quota_value.specs.QuotaValue.{QuotaValue}
@@ -27,7 +28,8 @@ use Rattle.outside.specs.Seen.{StoreSeen}
 use Rattle.outside.specs.World.{World}
 use Rattle.quota_map.specs.AnyFile.{HoldsAny, any_seen, MayRefuse}
 use Rattle.rquota_serve.specs.Exported.{Exported, names_eq, nothing_exported, with_export}
-use Rattle.rquota_serve.specs.Exports.{CountsOne, ExportSeen, IsServed, OnlyLooksUp, Serves, export_seen, exports_seen, is_exported, is_named, kept_in, may_add}
+use Rattle.rquota_serve.specs.Exports.{CountsOne, IsServed, OnlyLooksUp, Serves, export_seen, exports_seen, kept_in}
+use Rattle.rquota_serve.specs.ExportSeen.{ExportSeen, is_exported, is_named, may_add}
 use Rattle.rquota_serve.specs.Refusal.{IsAnswerFault, MayRefuseOne}
 use Rattle.rquota_serve.specs.Reply.{record_of, record_under}
 use Rattle.rquota_serve.specs.declared.export.Export.{Export}

@@ -8,7 +8,7 @@ use Rattle.opened_file.specs.declared.quota_file.FileFault.{FileFault}
 use Rattle.opened_file.specs.declared.quota_file.FileFault.TheVariants.{Store as CallFailed, Damage as Damaged, Full, Memory as NoMemory}
 use Rattle.outside.proofs.FrameLemmas.{syncs-none, syncs-then}
 use Rattle.rquota_serve.specs.Exported.{Exported}
-use Rattle.rquota_serve.specs.Exports.{ExportSeen}
+use Rattle.rquota_serve.specs.ExportSeen.{ExportSeen}
 use Rattle.rquota_serve.specs.Looking.{ExportsAt, LooksUpIn}
 use Rattle.rquota_serve.specs.Refusal.{IsAnswerFault, IsServeFault, OnFile, OnLink, file_in}
 use Rattle.rquota_serve.specs.declared.fault.ServeFault.{ServeFault}

@@ -18,7 +18,8 @@ use Rattle.rquota_xdr.specs.declared.span.Span.{Span}
 use Rattle.rquota_xdr.specs.declared.reply.Reply.{Reply}
 use Rattle.rquota_xdr.specs.declared.reply.Reply.TheVariants as reply
 use Rattle.rquota_serve.specs.Exported.{Exported}
-use Rattle.rquota_serve.specs.Exports.{ExportSeen, HasPaths, is_exported}
+use Rattle.rquota_serve.specs.Exports.{HasPaths}
+use Rattle.rquota_serve.specs.ExportSeen.{ExportSeen, is_exported}
 use Rattle.rquota_serve.specs.Refusal.{IsQuota}
 use Rattle.rquota_serve.specs.Reply.{may_ask, plain_reply, record_of, record_under, reply_for, reply_to, reply_with}
 

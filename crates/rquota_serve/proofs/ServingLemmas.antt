@@ -8,7 +8,8 @@ use Rattle.outside.specs.Seen.{Datagram, LinkSeen}
 use Rattle.rquota_xdr.specs.Reply.{spelling_of}
 use Rattle.rquota_xdr.specs.declared.reply.Reply.{Reply}
 use Rattle.rquota_serve.specs.Exported.{Exported}
-use Rattle.rquota_serve.specs.Serving.{HasReply, ReadsForTaken, Served, Stopped, answers_of, datagram_reply}
+use Rattle.rquota_serve.specs.Serving.{HasReply, Stopped, answers_of, datagram_reply}
+use Rattle.rquota_serve.specs.Served.{ReadsForTaken, Served}
 
 -- no datagrams have no answers
 answers-none : (exported : Exported) → answers_of exported [] ≡ []

@@ -1,33 +1,20 @@
 -- Quota files that are added to exports one after another.
-use Rattle.std.specs.Prelude.{◌≡◌, ◌+◌, ℕ, zero, suc, Bool, true, false, IsTrue, List, [], ◌∷◌, ◌++◌, map, take, Option, Result, Ok, Err, ⊤}
+use Rattle.std.specs.Prelude.{◌≡◌, ◌+◌, ℕ, IsTrue, List, [], ◌∷◌, ◌++◌, Option, Ok, ⊤}
 use Rattle.quota_types.specs.declared.file_kind.Format.{Format}
 use Rattle.quota_types.specs.declared.file_kind.Kind.{Kind}
 use Rattle.file_blocks.specs.Block.{file_of}
-use Rattle.outside.specs.Frame.{OnlyReads}
-use Rattle.opened_file.specs.QuotaFile.{FileSeen}
+use Rattle.opened_file.specs.FileSeen.{FileSeen}
 use Rattle.quota_value.specs.QuotaValue.{QuotaValue}
-use Rattle.outside.specs.Seen.{StoreSeen}
 use Rattle.outside.specs.World.{World}
-use Rattle.opened_file.specs.declared.quota_file.OpenFault.{OpenFault}
-use Rattle.quota_map.specs.View.{IsOpenFault, IsOpenedAs, IsView, opening_reads}
+use Rattle.quota_map.specs.View.{IsView, opening_reads}
 use Rattle.rquota_serve.specs.Exported.{Exported, with_export}
-use Rattle.rquota_serve.specs.Exports.{ExportSeen, fresh_export, may_add}
-use Rattle.rquota_serve.specs.declared.new_export.AddFault.{AddFault}
-use Rattle.rquota_serve.specs.declared.new_export.NewExport.{NewExport}
+use Rattle.rquota_serve.specs.ExportSeen.{ExportSeen, may_add}
 
 -- What is seen of a file that is to be exported: the bytes of its path, whose usage it tells, and its name.
 pub record NewSeen : Type 0 where
   pub path : List ℕ
   pub kind : Kind
   pub file : List ℕ
-
--- what is seen of one, without where its texts stand
-abbrev pub new_seen : NewExport → NewSeen
-new_seen new = record { path = new.path.now; kind = new.kind; file = new.file.now }
-
--- what is seen of all of them
-abbrev pub news_seen : List NewExport → List NewSeen
-news_seen news = map new_seen news
 
 -- These files may be exported one after another behind those that are exported before: there are 16 at most, and no two have the same
 -- path and kind.
@@ -37,28 +24,6 @@ MayAddAll before (new ∷ news) =
     IsTrue (may_add before new.path new.kind)
     × ((file : FileSeen) → MayAddAll (before ++ record { path = new.path; kind = new.kind; file = file } ∷ []) news)
 
--- those that were exported: all of them, or those before the first one that was refused
-abbrev pub added_of : List NewSeen → Result (Unit {0}) AddFault → List NewSeen
-added_of news (Ok _) = news
-added_of news (Err met) = take met.place news
-
--- those that were tried: all of them, or those up to the first one that was refused
-abbrev pub tried_of : List NewSeen → Result (Unit {0}) AddFault → List NewSeen
-tried_of news (Ok _) = news
-tried_of news (Err met) = take (met.place + 1) news
-
--- what came of adding files, told of these behind one more
-abbrev pub one_later : Result (Unit {0}) AddFault → Result (Unit {0}) AddFault
-one_later (Ok done) = Ok done
-one_later (Err met) = Err (record met { place = met.place + 1 })
-
--- The exports are the old ones, and behind them these files in their order, each opened as the format that is asked for.
-abbrev pub AreAdded : Option Format → List NewSeen → (old new : List ExportSeen) → Type 0
-AreAdded asked [] old new = new ≡ old
-AreAdded asked (one ∷ news) old new =
-    (opened : Format) × IsOpenedAs asked opened
-    × AreAdded asked news (old ++ fresh_export one.path one.kind one.file opened ∷ []) new
-
 -- These files are told of beside what is exported before: each is seen as a value, which is exported under its path for its kind.
 abbrev pub AreToldOf : Option Format → World → List NewSeen → (before exported : Exported) → Type 0
 AreToldOf asked files [] before exported = exported ≡ before
@@ -66,20 +31,7 @@ AreToldOf asked files (new ∷ news) before exported =
     (value : QuotaValue) × IsView (files new.file) new.kind asked (Ok value)
     × AreToldOf asked files news (with_export before new.path new.kind value) exported
 
--- The store was only read: each of these files, one after another.
-abbrev pub ReadsEach : List NewSeen → (old new : StoreSeen) → Type 0
-ReadsEach [] old new = new ≡ old
-ReadsEach (one ∷ news) old new = (between : StoreSeen) × OnlyReads true one.file old between × ReadsEach news between new
-
 -- how many calls of `read` the opening of these files makes at most
 abbrev pub reads_of : Option Format → World → List NewSeen → ℕ
 reads_of asked files [] = 0
 reads_of asked files (new ∷ news) = opening_reads asked (file_of files new.file) + reads_of asked files news
-
--- The file at this place was not opened, for this reason, once those before it were read; none behind it was tried.
-abbrev pub IsRefusedAt : Bool → Option Format → ℕ → List NewSeen → OpenFault → (old new : StoreSeen) → Type 0
-IsRefusedAt tells asked place [] fault old new = ⊥
-IsRefusedAt tells asked zero (one ∷ news) fault old new =
-    OnlyReads false one.file old new × IsOpenFault old.faults new.faults tells (old.files one.file) one.kind asked fault
-IsRefusedAt tells asked (suc place) (one ∷ news) fault old new =
-    (between : StoreSeen) × OnlyReads true one.file old between × IsRefusedAt tells asked place news fault between new

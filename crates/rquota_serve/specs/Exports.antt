@@ -1,24 +1,20 @@
 -- The exports as they are kept: opened quota files by paths and kinds, and the values that they stand for with a store.
-use Rattle.std.specs.Prelude.{◌≡◌, ◌≤◌, ℕ, Bool, true, false, not, ◌&&◌, nat_lt, is_some, List, length, map, slice_get, slice_set, None, Some}
-use Rattle.std.specs.List.{All, list_any}
+use Rattle.std.specs.Prelude.{◌≡◌, ◌≤◌, ℕ, Bool, true, false, is_some, List, map, slice_get, slice_set, None, Some}
+use Rattle.std.specs.List.{All}
 use Rattle.std.specs.String.{string_bytes}
 use Rattle.quota_types.specs.declared.file_kind.Format.{Format}
 use Rattle.quota_types.specs.declared.file_kind.Kind.{Kind}
-use Rattle.opened_file.specs.QuotaFile.{CountsRefusal, FileSeen}
+use Rattle.opened_file.specs.QuotaFile.{CountsRefusal}
+use Rattle.opened_file.specs.FileSeen.{FileSeen}
 use Rattle.quota_value.specs.QuotaValue.{QuotaValue}
 use Rattle.outside.specs.Seen.{StoreSeen}
 use Rattle.outside.specs.World.{World}
 use Rattle.quota_map.specs.AnyFile.{HoldsAny, any_seen}
 use Rattle.quota_map.specs.View.{fresh_seen}
-use Rattle.rquota_serve.specs.Exported.{Exported, names_eq}
+use Rattle.rquota_serve.specs.Exported.{Exported}
 use Rattle.rquota_serve.specs.declared.export.Export.{Export}
 use Rattle.rquota_serve.specs.declared.exports.Exports.{Exports}
-
--- What is seen of an export: the bytes of its path, whose usage it tells, and what is seen of its opened file.
-pub record ExportSeen : Type 0 where
-  pub path : List ℕ
-  pub kind : Kind
-  pub file : FileSeen
+use Rattle.rquota_serve.specs.ExportSeen.{ExportSeen, is_exported}
 
 -- what is seen of one that is kept
 abbrev pub export_seen : Export → ExportSeen
@@ -35,18 +31,6 @@ exports_seen exports = map export_seen (kept_in exports)
 -- what is seen of one whose file of this name was just opened as one of a format
 abbrev pub fresh_export : (path : List ℕ) → Kind → (name : List ℕ) → Format → ExportSeen
 fresh_export path kind name format = record { path = path; kind = kind; file = fresh_seen name format }
-
--- an export has this path and this kind
-abbrev pub is_named : (path : List ℕ) → Kind → ExportSeen → Bool
-is_named path kind export = names_eq export.path export.kind path kind
-
--- something is exported under this path for this kind
-abbrev pub is_exported : List ExportSeen → (path : List ℕ) → Kind → Bool
-is_exported seen path kind = list_any (is_named path kind) seen
-
--- one more may be exported: there are fewer than 16, and none has this path and this kind
-abbrev pub may_add : List ExportSeen → (path : List ℕ) → Kind → Bool
-may_add seen path kind = nat_lt (length seen) 16 && not (is_exported seen path kind)
 
 -- Values are exported under the paths of these exports, for their kinds, and under no others.
 abbrev pub HasPaths : List ExportSeen → Exported → Type 0

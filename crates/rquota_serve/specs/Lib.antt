@@ -6,3 +6,6 @@ pub mod Reply
 pub mod Refusal
 pub mod Looking
 pub mod Serving
+pub mod ExportSeen
+pub mod Added
+pub mod Served

@@ -1,11 +1,12 @@
 -- What is said of every call that only looks something up in the files of exports, whatever it answers. Source: this project's
 -- own.
 use Rattle.std.specs.Prelude.{◌≡◌, ℕ, ◌+◌, ◌≤◌, Bool, IfErr, IfSome, OnOk, List, Option, None, Some, Result, is_ok}
-use Rattle.outside.specs.Frame.{Syncs}
+use Rattle.outside.specs.ManyCalls.{Syncs}
 use Rattle.outside.specs.Seen.{StoreSeen}
 use Rattle.opened_file.specs.declared.quota_file.FileFault.{FileFault}
 use Rattle.rquota_serve.specs.Exported.{Exported}
-use Rattle.rquota_serve.specs.Exports.{CountsOne, ExportSeen, OnlyLooksUp, Serves, exports_seen}
+use Rattle.rquota_serve.specs.Exports.{CountsOne, OnlyLooksUp, Serves, exports_seen}
+use Rattle.rquota_serve.specs.ExportSeen.{ExportSeen}
 use Rattle.rquota_serve.specs.Refusal.{IsAnswerFault, MayRefuseOne}
 use Rattle.rquota_serve.specs.declared.exports.Exports.{Exports}
 

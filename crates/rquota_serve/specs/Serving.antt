@@ -1,5 +1,5 @@
 -- Datagrams that are taken from a link, and the answers to them.
-use Rattle.std.specs.Prelude.{◌≡◌, ℕ, ◌+◌, ◌*◌, ◌<◌, ◌≤◌, List, ◌++◌, length, map, take, filter_map, Option, IfSome}
+use Rattle.std.specs.Prelude.{◌≡◌, ℕ, ◌<◌, List, ◌++◌, length, map, take, filter_map, Option, IfSome}
 use Rattle.std.specs.Option.{option_to_list}
 use Rattle.outside.specs.Seen.{Datagram, LinkSeen}
 use Rattle.rquota_xdr.specs.Call.{call_of}
@@ -25,13 +25,6 @@ answers_of exported datagrams = map spelling_of (filter_map (datagram_reply expo
 abbrev pub HasReply : Datagram → Type 0
 HasReply datagram = ¬ (call_of (read_of datagram) ≡ Silent)
 
--- This many datagrams were taken, those without a reply counted too, and the answers to them were sent, and no others.
-pub record Served (serves : Exported → Type 0) (calls : ℕ) (old new : LinkSeen) : Type 0 where
-  pub taken : List Datagram
-  pub left : old.left ≡ taken ++ new.left
-  pub number : length taken ≡ calls
-  pub answers : (exported : Exported) → serves exported → new.answers ≡ old.answers ++ answers_of exported taken
-
 -- Serving ended before its time: fewer datagrams were handled than were asked for, and the answers to them were sent, and no
 -- others. At most one more was taken; it is one that is replied to, and its reply was not sent.
 pub record Stopped (serves : Exported → Type 0) (calls : ℕ) (old new : LinkSeen) : Type 0 where
@@ -41,9 +34,3 @@ pub record Stopped (serves : Exported → Type 0) (calls : ℕ) (old new : LinkS
   pub few : length done < calls
   pub answers : (exported : Exported) → serves exported → new.answers ≡ old.answers ++ answers_of exported done
   pub unsent : IfSome at_hand HasReply
-
--- Datagrams were taken from a link, and for each of them a store had at most `most` calls of `read`.
-pub record ReadsForTaken (most : ℕ) (old new : LinkSeen) (before now : ℕ) : Type 0 where
-  pub taken : List Datagram
-  pub left : old.left ≡ taken ++ new.left
-  pub few : now ≤ before + most * length taken

@@ -27,7 +27,8 @@ impl Export {
     ghost use Rattle.quota_map.specs.AnyFile.{HoldsAny, any_at, any_get_reads, any_laws};
     ghost use Rattle.quota_map.specs.View.{IsOpenFault, IsOpenedAs, IsView, opening_reads};
     ghost use Rattle.file_blocks.specs.Block.{bytes_of, file_of};
-    ghost use Rattle.rquota_serve.specs.Exports.{export_seen, fresh_export, is_named};
+    ghost use Rattle.rquota_serve.specs.Exports.{export_seen, fresh_export};
+    ghost use Rattle.rquota_serve.specs.ExportSeen.{is_named};
     ghost use Rattle.rquota_serve.specs.Reply.{record_of};
 
     /// Opens a file that is to be told of under this path.

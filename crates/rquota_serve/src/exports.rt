@@ -24,9 +24,11 @@ impl Exports {
     ghost use Rattle.quota_map.specs.AnyFile.{any_get_reads};
     ghost use Rattle.quota_map.specs.View.{IsOpenFault, IsOpenedAs, IsView, opening_reads};
     ghost use Rattle.file_blocks.specs.Block.{bytes_of, file_of};
-    ghost use Rattle.rquota_serve.specs.Adding.{AreAdded, AreToldOf, IsRefusedAt, MayAddAll, ReadsEach, added_of, news_seen, reads_of, tried_of};
+    ghost use Rattle.rquota_serve.specs.Adding.{AreToldOf, MayAddAll, reads_of};
+    ghost use Rattle.rquota_serve.specs.Added.{AreAdded, IsRefusedAt, ReadsEach, added_of, news_seen, tried_of};
     ghost use Rattle.rquota_serve.specs.Exported.{Exported, nothing_exported, with_export};
-    ghost use Rattle.rquota_serve.specs.Exports.{ExportSeen, Serves, export_seen, exports_seen, fresh_export, is_exported, is_named, kept_in, may_add};
+    ghost use Rattle.rquota_serve.specs.Exports.{Serves, export_seen, exports_seen, fresh_export, kept_in};
+    ghost use Rattle.rquota_serve.specs.ExportSeen.{ExportSeen, is_exported, is_named, may_add};
     ghost use Rattle.rquota_serve.specs.Looking.{LooksUpIn, exports_at};
     ghost use Rattle.rquota_serve.specs.Reply.{record_under};
 

@@ -1,5 +1,5 @@
 ghost use Rattle.std.specs.Prelude.{◌≡◌, ◌+◌, ◌<◌, ◌^◌, IfErr};
-ghost use Rattle.rquota_serve.specs.Adding.{one_later};
+ghost use Rattle.rquota_serve.specs.Added.{one_later};
 
 use opened_file::OpenFault;
 use quota_types::Kind;

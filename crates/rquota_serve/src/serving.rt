@@ -6,7 +6,8 @@ ghost use Rattle.rquota_xdr.specs.Reply.{spelling_of};
 ghost use Rattle.rquota_serve.specs.Exports.{Serves};
 ghost use Rattle.rquota_serve.specs.Looking.{LooksUpIn, exports_at};
 ghost use Rattle.rquota_serve.specs.Refusal.{OnLink, file_in};
-ghost use Rattle.rquota_serve.specs.Serving.{ReadsForTaken, Served, Stopped};
+ghost use Rattle.rquota_serve.specs.Serving.{Stopped};
+ghost use Rattle.rquota_serve.specs.Served.{ReadsForTaken, Served};
 
 use crate::{Exports, ServeFault, answer};
 use outside::{Link, LinkFault, Store};

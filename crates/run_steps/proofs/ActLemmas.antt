@@ -6,7 +6,8 @@ use Rattle.outside.specs.World.{KeepsOthers, World}
 use Rattle.refusals.specs.declared.reason.Refusal.{Refusal}
 use Rattle.refusals.specs.Line.{closing_line, error_line}
 use Rattle.run_steps.specs.Act.{Act, Behind, InPlace, LeavesOthers, Together, ToOut, ToErr, Start, Answer, Change, Replace, Way, Follows, FollowsInPart, answers, err_bytes, out_bytes, started_by}
-use Rattle.run_steps.specs.Done.{AreDone, AreDoneInPart, RunSeen, RunTells}
+use Rattle.run_steps.specs.Done.{AreDone, RunSeen, RunTells}
+use Rattle.run_steps.specs.Carrying.{AreDoneInPart}
 use Rattle.run_steps.specs.Meaning.{closing}
 use Rattle.run_steps.specs.Writes.{WritesInPart}
 use Rattle.run_steps.proofs.WritesLemmas.{writes_for-before, writes_in_part-next}

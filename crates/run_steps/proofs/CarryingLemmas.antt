@@ -12,7 +12,8 @@ use Rattle.refusals.specs.Refusals.{in_line, stands_in_line}
 use Rattle.refusals.specs.Status.{group_of}
 use Rattle.refusals.proofs.GroupLemmas.{by_group}
 use Rattle.run_steps.specs.Done.{IsLater, IsUnwritten, IsWorldTold, RunSeen, RunTells}
-use Rattle.run_steps.specs.Run.{CarriesOut, HasFailed, HasReason, HasSteps, IsPlacedBy, Uses}
+use Rattle.run_steps.specs.Run.{HasFailed, HasReason, HasSteps, IsPlacedBy, Uses}
+use Rattle.run_steps.specs.Carrying.{CarriesOut}
 use Rattle.run_steps.specs.Steps.{Before, Finish, InLine, Steps}
 use Rattle.run_steps.proofs.OpeningLemmas.{none_done, store_later}
 use Rattle.run_steps.proofs.PartLemmas.{carried_whole}

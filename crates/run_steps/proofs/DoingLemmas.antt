@@ -5,10 +5,10 @@ use Rattle.outside.specs.Seen.{Started, StoreSeen}
 use Rattle.outside.specs.World.{World}
 use Rattle.refusals.specs.declared.reason.Refusal.{Refusal}
 use Rattle.run_steps.specs.Act.{Act, Follows, FollowsInPart, answers, err_bytes, out_bytes, started_by}
-use Rattle.run_steps.specs.Done.{AreDone, AreDoneInPart, Outside, RunSeen, RunTells, outside_of}
+use Rattle.run_steps.specs.Done.{AreDone, Outside, RunSeen, RunTells, outside_of}
+use Rattle.run_steps.specs.Carrying.{AreDoneInPart, AreDoneThen}
 use Rattle.run_steps.specs.Meaning.{EndsBy}
 use Rattle.run_steps.specs.Run.{HasSteps}
-use Rattle.run_steps.specs.Steps.{AreDoneThen}
 use Rattle.run_steps.proofs.ActLemmas.{answers-append, appends_nothing, err_bytes-append, follows-append, out_bytes-append, started_by-append}
 use Rattle.run_steps.proofs.OpeningLemmas.{with_store}
 use Rattle.run_steps.specs.Writes.{WritesFor}

@@ -8,7 +8,8 @@ use Rattle.run_steps.specs.Act.{Act}
 use Rattle.run_steps.specs.Done.{Outside}
 use Rattle.run_steps.specs.Meaning.{EndsBy, HasBegun, IsSure}
 use Rattle.run_steps.specs.Row.{IsBegunAt, IsRefusedAtOne, next_of}
-use Rattle.run_steps.specs.Steps.{Steps, Before, InLine, Finish, InARow}
+use Rattle.run_steps.specs.Steps.{Steps, Before, InLine, Finish}
+use Rattle.run_steps.specs.Carrying.{InARow}
 use Rattle.run_steps.proofs.MeaningLemmas.{none_in_line}
 
 -- a row has begun where its first commands ended, and the next one has begun from what they left

@@ -12,7 +12,8 @@ use Rattle.run_steps.specs.Act.{Act}
 use Rattle.run_steps.specs.Done.{Outside}
 use Rattle.run_steps.specs.Naming.{names_of_file, names_seen}
 use Rattle.run_steps.specs.SameViews.{FileAsked, IsSameFile, LooksAlikeBy, Opens}
-use Rattle.run_steps.specs.Steps.{AreDoneThen, Naming, Opening, Steps, Then}
+use Rattle.run_steps.specs.Steps.{Naming, Opening, Steps, Then}
+use Rattle.run_steps.specs.Carrying.{AreDoneThen}
 use Rattle.run_steps.specs.Taking.{Taking, file_said}
 
 -- Their looks are alike.

@@ -10,7 +10,8 @@ use Rattle.run_steps.specs.Act.{Act, Follows}
 use Rattle.run_steps.specs.Done.{Outside, RunSeen, RunTells, outside_of}
 use Rattle.run_steps.specs.Meaning.{EndsBy, HasBegun, IsSure}
 use Rattle.run_steps.specs.OneCommand.{LooksFirstBy, ReadsToEnd, leaves_files}
-use Rattle.run_steps.specs.Run.{CarriesOut, HasSteps, IsDoneInPart, Uses}
+use Rattle.run_steps.specs.Run.{HasSteps, IsDoneInPart, Uses}
+use Rattle.run_steps.specs.Carrying.{CarriesOut}
 use Rattle.run_steps.specs.SameViews.{FileAsked, LooksAlikeBy, Opens}
 use Rattle.run_steps.specs.Steps.{DoingAll, Ending, Looking, Steps, Then}
 use Rattle.run_steps.proofs.PartLemmas.{part_from}

@@ -15,7 +15,8 @@ use Rattle.refusals.specs.Refusals.{in_line}
 use Rattle.run_steps.specs.Act.{Act, Change, Replace, Start, Follows, FollowsAct}
 use Rattle.run_steps.specs.Done.{Outside}
 use Rattle.run_steps.specs.Meaning.{EndsBy, HasBegun, IsSure}
-use Rattle.run_steps.specs.OneCommand.{AreReceived, AreSameSteps, IsFirstPart, LooksFirst, LooksFirstBy, ReadsToEnd, Receives, RestsOnNone, UnlessFull, leaves_files}
+use Rattle.run_steps.specs.OneCommand.{AreSameSteps, IsFirstPart, LooksFirst, LooksFirstBy, ReadsToEnd, RestsOnNone, UnlessFull, leaves_files}
+use Rattle.run_steps.specs.Received.{AreReceived, Receives}
 use Rattle.run_steps.specs.Steps.{Steps, Ending, Doing, Looking, Opening, Reading, Starting, Receiving, Before, InLine}
 use Rattle.run_steps.proofs.ActLemmas.{follows-append}
 use Rattle.run_steps.proofs.RoomLemmas.{full_begun, full_ended, full_in_line, strictly, unless_full}

@@ -14,7 +14,8 @@ use Rattle.run_steps.specs.Done.{Outside}
 use Rattle.run_steps.specs.Meaning.{IsSure}
 use Rattle.run_steps.specs.Naming.{names_seen}
 use Rattle.run_steps.specs.OneCommand.{LooksFirstBy, ReadsToEnd, leaves_files}
-use Rattle.run_steps.specs.Steps.{AreDoneThen, Naming, Opening, Steps, Then}
+use Rattle.run_steps.specs.Steps.{Naming, Opening, Steps, Then}
+use Rattle.run_steps.specs.Carrying.{AreDoneThen}
 use Rattle.run_steps.specs.Taking.{Taking, file_said, input_said, reads_whole}
 use Rattle.quota_map.proofs.SeenOnceLemmas.{seen_once}
 

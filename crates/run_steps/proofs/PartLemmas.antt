@@ -10,11 +10,12 @@ use Rattle.refusals.specs.declared.cause.Cause.{Cause}
 use Rattle.refusals.specs.declared.cause.Cause.TheVariants.{SinkFault}
 use Rattle.refusals.specs.declared.reason.Refusal.{Refusal}
 use Rattle.run_steps.specs.Act.{Act, Change, Replace, ToErr, ToOut, Follows, FollowsInPart, out_bytes, err_bytes}
-use Rattle.run_steps.specs.Done.{AreDoneInPart, IsLater, IsUnwritten, IsWorldTold, Outside, RunSeen, RunTells, outside_of}
+use Rattle.run_steps.specs.Done.{IsLater, IsUnwritten, IsWorldTold, Outside, RunSeen, RunTells, outside_of}
+use Rattle.run_steps.specs.Carrying.{AreDoneInPart, CarriesOut, AreDoneThen}
 use Rattle.run_steps.specs.Meaning.{EndsBy, HasBegun}
 use Rattle.run_steps.specs.OneCommand.{IsFirstPart, LooksFirstBy, UnlessFull}
-use Rattle.run_steps.specs.Run.{CarriesOut, FailsAtHand, HasSteps, IsDoneInPart, Uses}
-use Rattle.run_steps.specs.Steps.{AreDoneThen, Steps}
+use Rattle.run_steps.specs.Run.{FailsAtHand, HasSteps, IsDoneInPart, Uses}
+use Rattle.run_steps.specs.Steps.{Steps}
 use Rattle.run_steps.proofs.ActLemmas.{appends_nothing, none_appended, none_in_part}
 use Rattle.run_steps.proofs.MeaningLemmas.{begun_follow, ended_begun, first_part, looks_same, unbegun}
 use Rattle.run_steps.proofs.RoomLemmas.{unless_full}

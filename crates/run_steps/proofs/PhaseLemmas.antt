@@ -23,8 +23,10 @@ use Rattle.refusals.specs.Refusals.{nowhere}
 use Rattle.run_steps.specs.Act.{Act, Follows}
 use Rattle.run_steps.specs.Done.{IsUnwritten, IsWorldTold, Outside, RunSeen, RunTells, outside_of}
 use Rattle.run_steps.specs.Meaning.{EndsBy, HasBegun, IsTaken}
-use Rattle.run_steps.specs.Naming.{FileOfNamesMayRefuse, IsNamesFault, NamesMayRefuse, names_seen}
-use Rattle.run_steps.specs.Run.{CarriesOut, HasReason, HasSteps, IsDoneInPart, IsPlacedBy, Uses}
+use Rattle.run_steps.specs.Naming.{FileOfNamesMayRefuse, NamesMayRefuse, names_seen}
+use Rattle.run_steps.specs.Causes.{IsNamesFault}
+use Rattle.run_steps.specs.Run.{HasReason, HasSteps, IsDoneInPart, IsPlacedBy, Uses}
+use Rattle.run_steps.specs.Carrying.{CarriesOut}
 use Rattle.run_steps.specs.Steps.{Steps, Looking, Naming, Opening, Reading, Stop, Then}
 use Rattle.run_steps.specs.Writes.{WritesFor}
 use Rattle.outside.proofs.FrameLemmas.{only_reads-none}

@@ -22,7 +22,8 @@ use Rattle.refusals.specs.Refusals.{refusal_of}
 use Rattle.run_steps.specs.Act.{ToOut}
 use Rattle.run_steps.specs.Done.{IsUnwritten, IsWorldTold, RunSeen, RunTells, outside_of}
 use Rattle.run_steps.specs.Opening.{MayRefuseOpening, file_cause}
-use Rattle.run_steps.specs.Run.{CarriesOut, HasReason, HasSteps, IsDoneInPart, Uses}
+use Rattle.run_steps.specs.Run.{HasReason, HasSteps, IsDoneInPart, Uses}
+use Rattle.run_steps.specs.Carrying.{CarriesOut}
 use Rattle.run_steps.specs.Showing.{ShowingMayRefuse, ShowingSteps, showing_uses}
 use Rattle.run_steps.proofs.ActLemmas.{appends_nothing}
 use Rattle.run_steps.specs.Steps.{Doing, Finish}

@@ -7,7 +7,8 @@ use Rattle.refusals.specs.declared.reason.Refusal.{Refusal}
 use Rattle.run_steps.specs.Act.{Start}
 use Rattle.run_steps.specs.Done.{AreDone, IsLater, Outside, RunSeen, RunTells, outside_of}
 use Rattle.run_steps.specs.Meaning.{EndsBy, HasBegun}
-use Rattle.run_steps.specs.Run.{CarriesOut, HasSteps, IsDoneInPart, Uses}
+use Rattle.run_steps.specs.Run.{HasSteps, IsDoneInPart, Uses}
+use Rattle.run_steps.specs.Carrying.{CarriesOut}
 use Rattle.run_steps.specs.Steps.{Starting, Steps}
 use Rattle.run_steps.proofs.CarryingLemmas.{later_both}
 use Rattle.run_steps.proofs.ReasonLemmas.{reason_before}

@@ -12,9 +12,11 @@ use Rattle.refusals.specs.declared.reason.Refusal.{Refusal}
 use Rattle.refusals.specs.Outcome.{Outcome, Passed, Refused}
 use Rattle.run_steps.specs.Done.{IsWorldTold, Outside, RunSeen, RunTells, outside_of}
 use Rattle.run_steps.specs.Meaning.{IsTaken}
-use Rattle.run_steps.specs.Run.{CarriesOut, HasReason, HasSteps, IsPlacedBy, Uses}
+use Rattle.run_steps.specs.Run.{HasReason, HasSteps, IsPlacedBy, Uses}
+use Rattle.run_steps.specs.Carrying.{CarriesOut}
 use Rattle.run_steps.specs.Steps.{Steps, Then}
-use Rattle.run_steps.specs.Taking.{InputKind, InputMayRefuse, IsInputFault, Taking, file_said, input_said, reading, reads_whole}
+use Rattle.run_steps.specs.Taking.{InputKind, InputMayRefuse, Taking, file_said, input_said, reading, reads_whole}
+use Rattle.run_steps.specs.Causes.{IsInputFault}
 use Rattle.run_steps.proofs.OpeningLemmas.{none_done, refused_so, unwritten, with_input, with_store}
 use Rattle.run_steps.proofs.PartLemmas.{nothing_begun}
 use Rattle.run_steps.proofs.PhaseLemmas.{LeadsTo, carries_since, leads_looking, leads_reading, leads_same, outside_taken}

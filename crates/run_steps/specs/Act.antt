@@ -4,7 +4,7 @@ use Rattle.outside.specs.Replacement.{ReplacesOnly}
 use Rattle.outside.specs.Seen.{Datagram, Started, started_at}
 use Rattle.outside.specs.World.{KeepsOthers, World}
 use Rattle.quota_value.specs.QuotaValue.{QuotaValue}
-use Rattle.quota_map.specs.AnyFile.{AnyLeaves}
+use Rattle.quota_map.specs.AnyChange.{AnyLeaves}
 use Rattle.quota_map.specs.View.{IsView}
 
 -- How an opened file is edited: in its place; as the first change of edits that are made together, with this many others, either in

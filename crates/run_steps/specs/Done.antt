@@ -1,11 +1,10 @@
 -- What a run of the program has done to what is outside, as far as it is told.
-use Rattle.std.specs.Prelude.{◌≡◌, ◌≤◌, ℕ, Bool, IsTrue, List, ◌++◌, take}
+use Rattle.std.specs.Prelude.{◌≡◌, ◌≤◌, ℕ, Bool, IsTrue, List, ◌++◌}
 use Rattle.outside.specs.Count.{Rose}
 use Rattle.outside.specs.Seen.{Datagram, LinkSeen, SinkSeen, SourceSeen, StoreSeen}
-use Rattle.outside.specs.Text.{AppendsPrefix}
 use Rattle.outside.specs.World.{World}
-use Rattle.run_steps.specs.Act.{Act, Follows, FollowsInPart, answers, err_bytes, out_bytes, started_by}
-use Rattle.run_steps.specs.Writes.{WritesFor, WritesInPart}
+use Rattle.run_steps.specs.Act.{Act, Follows, answers, err_bytes, out_bytes, started_by}
+use Rattle.run_steps.specs.Writes.{WritesFor}
 
 -- whether the store, the input, the output, the error output and the link tell
 pub record RunTells : Type 0 where
@@ -78,19 +77,6 @@ pub record AreDone (tells : RunTells) (acts : List Act) (old new : RunSeen) : Ty
   pub answered : new.link.answers ≡ old.link.answers ++ answers acts
   pub started : new.link.started ≡ started_by acts old.link.started
   pub writes : WritesFor acts old.store.writes new.store.writes
-
--- Acts were done up to one that may have been done in part: bytes by a prefix of them, an edit as one that failed may leave
--- the file, and a replacement, a start of the link and an answer not at all.
-pub record AreDoneInPart (tells : RunTells) (acts : List Act) (old new : RunSeen) : Type 0 where
-  pub done : List Act
-  pub rest : List Act
-  pub whole : acts ≡ done ++ rest
-  pub files : (middle : World) × Follows done old.store.files middle × FollowsInPart rest middle new.store.files
-  pub out : IsTrue tells.out → AppendsPrefix (old.out.written ++ out_bytes done) new.out.written (out_bytes (take 1 rest))
-  pub err : IsTrue tells.err → AppendsPrefix (old.err.written ++ err_bytes done) new.err.written (err_bytes (take 1 rest))
-  pub answered : new.link.answers ≡ old.link.answers ++ answers done
-  pub started : new.link.started ≡ started_by done old.link.started
-  pub writes : WritesInPart (take 1 rest) (done ++ take 1 rest) old.store.writes new.store.writes
 
 -- no file was changed, and nothing was written
 pub record IsUnwritten (old new : StoreSeen) : Type 0 where

@@ -1,4 +1,6 @@
 pub mod Act
+pub mod Carrying
+pub mod Causes
 pub mod Changing
 pub mod Done
 pub mod InputLine
@@ -7,6 +9,7 @@ pub mod Naming
 pub mod Numbers
 pub mod OneCommand
 pub mod Opening
+pub mod Received
 pub mod Row
 pub mod Run
 pub mod SameViews

@@ -1,17 +1,11 @@
 -- The names that a command is given. Source: passwd(5) and group(5); that the file of names is named on the command line,
 -- and how large it may be, is this project's own.
-use Rattle.std.specs.Prelude.{◌≡◌, ℕ, IsTrue, Bool, nat_lt, if◌then◌else◌, List, [], length, Option, Some, None, ⊤}
+use Rattle.std.specs.Prelude.{◌≡◌, ℕ, nat_lt, if◌then◌else◌, List, [], length, Option, Some, None, ⊤}
 use Rattle.quota_types.specs.declared.file_kind.Kind.{Kind}
-use Rattle.outside.specs.Count.{Rose}
 use Rattle.outside.specs.World.{World}
-use Rattle.opened_file.specs.declared.whole_file.LoadFault.{LoadFault}
-use Rattle.opened_file.specs.declared.whole_file.LoadFault.TheVariants.{Store as StoreFailed, NoFile as Absent, TooLarge as Larger, Memory as NoMemory}
-use Rattle.id_names.specs.declared.fault.NamesFault.{NamesFault}
-use Rattle.id_names.specs.declared.fault.NamesFault.TheVariants.{BadLine as WrongLine, Memory as NamesWantMemory}
 use Rattle.id_names.specs.NamesFile.{NameLine, bad_line, names_in}
 use Rattle.refusals.specs.declared.cause.Cause.{Cause}
 use Rattle.refusals.specs.declared.cause.Cause.TheVariants.{StoreFault, NoFile, TooLarge, Memory, BadLine}
-use Rattle.refusals.specs.declared.reason.Refusal.{Refusal}
 use Rattle.refusals.specs.Refusals.{refusal_of}
 use Rattle.refusals.specs.Outcome.{Outcome, Passed, Refused}
 
@@ -54,22 +48,3 @@ FileOfNamesMayRefuse file _ name = ⊥
 abbrev pub NamesMayRefuse : Option (List ℕ) → Cause → List ℕ → Type 0
 NamesMayRefuse None cause name = ⊥
 NamesMayRefuse (Some file) cause name = FileOfNamesMayRefuse file cause name
-
--- Why the names were not read: the store's count of faults rose, or there was not enough memory, or what is seen of the file
--- of names is this refusal.
-abbrev pub IsNamesFault : (before now : ℕ) → (tells : Bool) → Outcome (List NameLine) → Refusal → Cause → Type 0
-IsNamesFault before now tells seen refusal StoreFault = Rose before now
-IsNamesFault before now tells seen refusal Memory = ⊤
-IsNamesFault before now tells seen refusal _ = IsTrue tells → seen ≡ Refused refusal
-
--- what is said where a file of names could not be read whole
-abbrev pub load_cause : LoadFault → Cause
-load_cause StoreFailed = StoreFault
-load_cause Absent = NoFile
-load_cause Larger = TooLarge
-load_cause NoMemory = Memory
-
--- what is said where its lines were not read
-abbrev pub names_cause : NamesFault → Cause
-names_cause (WrongLine line) = BadLine line
-names_cause NamesWantMemory = Memory

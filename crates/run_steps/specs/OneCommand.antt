@@ -1,6 +1,6 @@
--- Steps of single commands, as far as they are alike: that they look at files before they change one, that they read the input to
--- its end, and how many datagrams they receive.
-use Rattle.std.specs.Prelude.{◌≡◌, ◌⊎◌, ℕ, suc, ◌+◌, Bool, true, false, ◌&&◌, IsTrue, List, [], ◌++◌, length, take, Option, Some, None, ⊤}
+-- Steps of single commands, as far as they are alike: that they may rest on room, that they look at files before they
+-- change one, and that they read the input to its end.
+use Rattle.std.specs.Prelude.{◌≡◌, ◌⊎◌, ℕ, Bool, true, false, ◌&&◌, IsTrue, List, [], ◌++◌, take, Option, Some, None, ⊤}
 use Rattle.quota_value.specs.QuotaValue.{QuotaValue}
 use Rattle.outside.specs.Seen.{Datagram}
 use Rattle.outside.specs.World.{World}
@@ -86,25 +86,6 @@ ReadsToEnd (Starting port next) = ReadsToEnd next
 ReadsToEnd (Receiving next) = (datagram : Datagram) → ReadsToEnd (next datagram)
 ReadsToEnd (Before one others) = ReadsToEnd one ⊎ ReadsToEnd others
 ReadsToEnd (InLine line steps) = ReadsToEnd steps
-
--- Where these steps pass, this many datagrams were received.
-abbrev pub Receives : ℕ → Steps → Type 0
-Receives count (Ending None) = count ≡ 0
-Receives count (Ending (Some refusal)) = ⊤
-Receives count (Doing act next) = Receives count next
-Receives count (Looking next) = (files : World) → Receives count (next files)
-Receives count (Opening kind asked name next) = (value : QuotaValue) → Receives count (next value)
-Receives count (Reading whole next) = (bytes : List ℕ) → Receives count (next bytes)
-Receives count (Starting port next) = Receives count next
-Receives count (Receiving next) = (more : ℕ) × (count ≡ suc more) × ((datagram : Datagram) → Receives more (next datagram))
-Receives count (Before one others) = (first : ℕ) × (more : ℕ) × (count ≡ first + more) × Receives first one × Receives more others
-Receives count (InLine line steps) = Receives count steps
-
--- this many datagrams were taken, and these are left
-pub record AreReceived (count : ℕ) (old new : List Datagram) : Type 0 where
-  pub taken : List Datagram
-  pub behind : old ≡ taken ++ new
-  pub counted : length taken ≡ count
 
 -- acts that were done, and the one at hand, are the first of all acts
 pub record IsFirstPart (done hand acts : List Act) : Type 0 where

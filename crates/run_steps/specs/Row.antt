@@ -4,7 +4,8 @@ use Rattle.refusals.specs.declared.reason.Refusal.{Refusal}
 use Rattle.run_steps.specs.Act.{Act}
 use Rattle.run_steps.specs.Done.{Outside}
 use Rattle.run_steps.specs.Meaning.{EndsBy, HasBegun}
-use Rattle.run_steps.specs.Steps.{Finish, InARow, Steps}
+use Rattle.run_steps.specs.Steps.{Finish, Steps}
+use Rattle.run_steps.specs.Carrying.{InARow}
 
 -- the first of the commands that are left, or nothing where none is
 abbrev pub next_of : List Steps → Steps

@@ -1,14 +1,14 @@
 -- How a command is carried out, whichever it is.
-use Rattle.std.specs.Prelude.{◌≡◌, ◌≢◌, ◌⊎◌, ◌&&◌, ℕ, Bool, false, IsTrue, List, ◌∷◌, ◌++◌, Option, Some, None, Result, Ok, Err, OnOk, IfErr}
+use Rattle.std.specs.Prelude.{◌≡◌, ◌⊎◌, ◌&&◌, Bool, false, IsTrue, List, ◌∷◌, ◌++◌, Option, Some, None}
 use Rattle.outside.specs.Count.{Rose}
 use Rattle.outside.specs.Text.{AppendsPrefix}
 use Rattle.refusals.specs.declared.cause.Cause.{Cause}
 use Rattle.refusals.specs.declared.cause.Cause.TheVariants.{StoreFault, SourceFault, SinkFault, LinkFault}
 use Rattle.refusals.specs.declared.reason.Refusal.{Refusal}
 use Rattle.refusals.specs.Refusals.{stands_in_line}
-use Rattle.refusals.specs.Status.{ByGroup, group_of, status_of}
+use Rattle.refusals.specs.Status.{ByGroup, group_of}
 use Rattle.run_steps.specs.Act.{Act, ToErr, ToOut, FollowsInPart, answers, err_bytes, out_bytes, started_by}
-use Rattle.run_steps.specs.Done.{AreDone, IsLater, IsUnwritten, IsWorldTold, Outside, RunSeen, RunTells, outside_of}
+use Rattle.run_steps.specs.Done.{AreDone, Outside, RunSeen, RunTells, outside_of}
 use Rattle.run_steps.specs.Meaning.{EndsBy, HasBegun}
 use Rattle.run_steps.specs.Steps.{Steps}
 use Rattle.run_steps.specs.Writes.{WritesInPart}
@@ -56,11 +56,6 @@ pub record HasSteps (steps : Steps) (tells : RunTells) (refusal : Option Refusal
   pub by_steps : EndsBy steps (outside_of old) acts (outside_of new) refusal
   pub done : AreDone tells acts old new
 
--- the cause for which a command was refused, if it was
-abbrev pub cause_in : Result (Unit {0}) Refusal → Option Cause
-cause_in (Ok passed) = None
-cause_in (Err refusal) = Some refusal.cause
-
 -- bytes are at hand, and the output to which they go failed
 abbrev pub FailsAtHand : (hand : List Act) → (out err : Type 0) → Type 0
 FailsAtHand (ToOut bytes ∷ acts) out err = out
@@ -85,17 +80,3 @@ pub record IsDoneInPart (steps : Steps) (tells : RunTells) (why : Option Cause) 
   pub datagrams : new.link.left ≡ now.datagrams
   pub writes : WritesInPart hand (done ++ hand) old.store.writes new.store.writes
   pub failed : why ≡ Some SinkFault → IsTrue tells.err → FailsAtHand hand (Rose old.out.faults new.out.faults) (Rose old.err.faults new.err.faults)
-
--- A command was carried out but for the error line. Where it ended well or was refused by a step, its steps say so and
--- its acts were done. Where it was stopped, there is a reason. In every case its steps were done in part, if not whole. Nothing
--- was said, unless it warns, and the refusal is in no line of a script, unless it reads commands.
-pub record CarriesOut (steps : Steps) (uses : Uses) (may : Cause → List ℕ → Type 0) (tells : RunTells) (old new : RunSeen) (result : Result (Unit {0}) Refusal) : Type 0 where
-  pub done : OnOk result (IsWorldTold tells → HasSteps steps tells None old new)
-  pub refused : IfErr result (λ (refusal : Refusal). HasReason uses old new (IsWorldTold tells → HasSteps steps tells (Some refusal) old new) refusal.cause)
-  pub part : IsWorldTold tells → IsDoneInPart steps tells (cause_in result) old new
-  pub may_refuse : IfErr result (λ (refusal : Refusal). may refusal.cause refusal.name)
-  pub placed : IfErr result (IsPlacedBy uses)
-  pub only_reads : uses.changes ≡ false → IsUnwritten old.store new.store
-  pub all_or_nothing : IsTrue uses.all_or_nothing → IfErr result (λ (refusal : Refusal). status_of refusal.cause ≢ 4 → IsUnwritten old.store new.store)
-  pub quiet : uses.warns ≡ false → new.err ≡ old.err
-  pub later : IsLater old new

@@ -50,12 +50,3 @@ Naming kind names next = Looking (λ (files : World). Then (names_seen kind name
 abbrev pub DoingAll : List Act → Steps → Steps
 DoingAll [] next = next
 DoingAll (act ∷ acts) next = Doing act (DoingAll acts next)
-
--- acts are done, and then comes a refusal, if there is one
-abbrev pub AreDoneThen : List Act → Option Refusal → Steps
-AreDoneThen acts refusal = DoingAll acts (Ending refusal)
-
--- commands one after another, up to one that is refused
-abbrev pub InARow : List Steps → Steps
-InARow [] = Finish
-InARow (one ∷ others) = Before one (InARow others)

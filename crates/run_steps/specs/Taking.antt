@@ -1,11 +1,10 @@
 -- What a command takes from an input: the file of `--input`, or the standard input where there is none. Source: this
 -- project's own.
-use Rattle.std.specs.Prelude.{◌≡◌, ℕ, Bool, true, false, ◌||◌, IsTrue, List, [], Option, Some, None, IsSome, is_none, ⊤}
-use Rattle.input_text.specs.StoreInput.{left_from}
+use Rattle.std.specs.Prelude.{◌≡◌, ℕ, Bool, true, false, ◌||◌, IsTrue, List, [], Option, Some, None, IsSome, is_none}
+use Rattle.input_text.specs.InputLeft.{left_from}
 use Rattle.outside.specs.World.{World}
 use Rattle.refusals.specs.declared.cause.Cause.{Cause}
 use Rattle.refusals.specs.declared.cause.Cause.TheVariants.{NoFile, StoreFault, SourceFault, Memory, TooLarge, LongLine, BadForm, BadLine, Conflict}
-use Rattle.refusals.specs.declared.reason.Refusal.{Refusal}
 use Rattle.refusals.specs.Refusals.{refusal_of}
 use Rattle.refusals.specs.Outcome.{Outcome, Passed, Refused}
 use Rattle.run_steps.specs.Run.{Uses}
@@ -36,13 +35,6 @@ abbrev pub Taking : {V : Type 0} → Option (List ℕ) → (V → Bool) → (Lis
 Taking None is_whole read next =
     Reading (λ (bytes : List ℕ). reads_whole is_whole (read bytes)) (λ (bytes : List ℕ). Then (read bytes) next)
 Taking (Some name) is_whole read next = Looking (λ (files : World). Then (file_said name read (files name)) next)
-
--- Why an input was not read: a count of faults rose, there was not enough memory, or what it says, as it is seen, is this refusal.
-abbrev pub IsInputFault : {V : Type 0} → (store_rose input_rose told : Type 0) → Outcome V → Refusal → Cause → Type 0
-IsInputFault store_rose input_rose told said refusal StoreFault = store_rose
-IsInputFault store_rose input_rose told said refusal SourceFault = input_rose
-IsInputFault store_rose input_rose told said refusal Memory = ⊤
-IsInputFault store_rose input_rose told said refusal _ = told → said ≡ Refused refusal
 
 -- the same command, which reads the standard input where its input is no file
 abbrev pub reading : Option (List ℕ) → Uses → Uses

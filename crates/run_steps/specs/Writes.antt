@@ -1,7 +1,6 @@
 -- How many calls of `write` to the store acts take, and what bounds those of a command.
 use Rattle.std.specs.Prelude.{◌≡◌, ◌≤◌, ◌+◌, ◌*◌, ℕ, List, [], ◌∷◌, Option, IfSome, ⊤}
 use Rattle.outside.specs.Seen.{StoreSeen}
-use Rattle.outside.specs.World.{KeepsOthers}
 use Rattle.run_steps.specs.Act.{Act, Change, ChangesNone, Idle, Replace, Together}
 
 -- no file is replaced as a whole
@@ -33,12 +32,6 @@ others_at _ = 0
 pub record WritesInPart (hand acts : List Act) (old new : ℕ) : Type 0 where
   pub none : ChangesNone acts → new ≡ old
   pub few : ReplacesNone acts → new ≤ old + 12 * (edits_in acts + others_at hand)
-
--- However an edit of the named file ended, and whatever is told, all other files are as they were, with twelve calls of `write` at
--- most.
-pub record EditsAlone (name : List ℕ) (old new : StoreSeen) : Type 0 where
-  pub others : KeepsOthers name old.files new.files
-  pub writes : new.writes ≤ old.writes + 12
 
 -- there were no more calls of `read` than this number, where one is given
 abbrev pub ReadsWithin : Option ℕ → (old new : StoreSeen) → Type 0

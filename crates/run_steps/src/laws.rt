@@ -5,13 +5,15 @@ ghost use Rattle.refusals.specs.Refusals.{in_line};
 ghost use Rattle.refusals.specs.declared.cause.Cause.{Cause};
 ghost use Rattle.refusals.specs.declared.reason.Refusal.{Refusal};
 ghost use Rattle.run_steps.specs.Act.{Act, Follows};
-ghost use Rattle.run_steps.specs.Done.{AreDoneInPart, Outside, RunSeen, RunTells, outside_of};
+ghost use Rattle.run_steps.specs.Done.{Outside, RunSeen, RunTells, outside_of};
+ghost use Rattle.run_steps.specs.Carrying.{AreDoneInPart, InARow};
 ghost use Rattle.run_steps.specs.Meaning.{EndsBy, HasBegun, IsSure};
-ghost use Rattle.run_steps.specs.OneCommand.{AreReceived, IsFirstPart, LooksFirst, LooksFirstBy, ReadsToEnd, Receives, UnlessFull, UnlessOneFull};
+ghost use Rattle.run_steps.specs.OneCommand.{IsFirstPart, LooksFirst, LooksFirstBy, ReadsToEnd, UnlessFull, UnlessOneFull};
+ghost use Rattle.run_steps.specs.Received.{AreReceived, Receives};
 ghost use Rattle.run_steps.specs.Row.{IsBegunAt, IsRefusedAtOne};
 ghost use Rattle.run_steps.specs.Run.{IsDoneInPart};
 ghost use Rattle.run_steps.specs.SameViews.{EndsAlso, MeetsSame};
-ghost use Rattle.run_steps.specs.Steps.{InARow, InLine, Steps};
+ghost use Rattle.run_steps.specs.Steps.{InLine, Steps};
 
 /// What has ended has begun, with all its acts, and none is at hand.
 pub fn what_has_ended_has_begun()

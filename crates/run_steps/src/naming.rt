@@ -1,6 +1,7 @@
 ghost use Rattle.std.specs.Prelude.{◌≡◌, [], IfErr, IfOk, IsTrue, None, unwrap_or, is_ok};
 ghost use Rattle.outside.specs.Frame.{OnlyReads};
-ghost use Rattle.run_steps.specs.Naming.{FileOfNamesMayRefuse, IsNamesFault, MayBeNames, NamesMayRefuse, load_cause, names_cause, names_of_file, names_seen};
+ghost use Rattle.run_steps.specs.Naming.{FileOfNamesMayRefuse, MayBeNames, NamesMayRefuse, names_of_file, names_seen};
+ghost use Rattle.run_steps.specs.Causes.{IsNamesFault, load_cause, names_cause};
 ghost use Rattle.refusals.specs.Outcome.{Passed};
 ghost use Rattle.refusals.specs.Refusals.{nowhere};
 

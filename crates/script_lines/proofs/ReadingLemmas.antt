@@ -3,8 +3,8 @@ use Rattle.std.proofs.Common.{◌≡◌, ℕ, ◌+◌, Bool, true, false, cond, 
 use Rattle.std.specs.Prelude.{⊤, IfOk, IfSome, MatchResult}
 use Rattle.std.specs.Str.{is_utf8}
 use Rattle.std.proofs.lemmas.List.{map-append}
-use Rattle.input_text.specs.InputLines.{InputLines, NoLine, LineThen, LongNext, PastNext, lines_left}
-use Rattle.input_text.specs.Lines.{LinesSeen}
+use Rattle.input_text.specs.InputLines.{InputLines, NoLine, LineThen, LongNext, PastNext}
+use Rattle.input_text.specs.LineReading.{lines_left, LinesSeen}
 use Rattle.refusals.specs.declared.cause.Cause.TheVariants.{TooLarge, LongLine, BadLine}
 use Rattle.refusals.specs.declared.reason.Refusal.{Refusal}
 use Rattle.refusals.specs.Outcome.{Outcome, Passed, Refused}
@@ -14,7 +14,8 @@ use Rattle.script_lines.specs.declared.line.LineRead.TheVariants.{Nothing, Line 
 use Rattle.script_lines.specs.declared.script.ScriptFault.{ScriptFault}
 use Rattle.script_lines.specs.declared.script.ScriptFault.TheVariants.{Memory as NoMemory}
 use Rattle.script_lines.specs.declared.script.ScriptLine.{ScriptLine}
-use Rattle.script_lines.specs.Script.{IsOfScript, LineSaid, ScriptSaid, ends_with, line_outcome, line_read, line_says, lines_say, read_then, refusal_read, says_then, script_refusal}
+use Rattle.script_lines.specs.Script.{LineSaid, ScriptSaid, ends_with, line_says, lines_say, says_then, script_refusal}
+use Rattle.script_lines.specs.ScriptReading.{IsOfScript, line_outcome, line_read, read_then, refusal_read}
 
 -- a line is no text where it cannot be
 pub none_if : (text : Bool) → (text ≡ true → ⊥) → text ≡ false

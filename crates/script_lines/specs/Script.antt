@@ -1,18 +1,14 @@
 -- The lines of a script: the commands that an input gives, a line each, read whole before the first of them runs. Source:
 -- this project's own.
-use Rattle.std.specs.Prelude.{◌≡◌, ℕ, ◌+◌, List, [], ◌∷◌, map, codes, string_bytes, Option, Some, None, if◌then◌else◌}
+use Rattle.std.specs.Prelude.{◌≡◌, ℕ, ◌+◌, List, [], ◌∷◌, codes, Option, Some, None, if◌then◌else◌}
 use Rattle.std.specs.Str.{is_utf8}
 use Rattle.input_text.specs.InputLines.{InputLines, NoLine, LineThen, LongNext, PastNext, input_lines}
 use Rattle.refusals.specs.declared.cause.Cause.{Cause}
 use Rattle.refusals.specs.declared.cause.Cause.TheVariants.{TooLarge, LongLine, BadLine}
 use Rattle.refusals.specs.declared.reason.Refusal.{Refusal}
 use Rattle.refusals.specs.Outcome.{Outcome, Passed, Refused}
-use Rattle.refusals.specs.Refusals.{nowhere, refusal_of}
+use Rattle.refusals.specs.Refusals.{refusal_of}
 use Rattle.run_steps.specs.InputLine.{says_nothing}
-use Rattle.script_lines.specs.declared.line.LineRead.{LineRead}
-use Rattle.script_lines.specs.declared.line.LineRead.TheVariants.{Nothing, Line as Found, Refused as Faulty}
-use Rattle.script_lines.specs.declared.script.Script.{Script}
-use Rattle.script_lines.specs.declared.script.ScriptLine.{ScriptLine}
 
 -- What a script says.
 
@@ -64,40 +60,9 @@ script_said bytes = lines_say 1 (input_lines 4096 16777216 bytes)
 
 -- What was read.
 
--- what a line that was read says
-abbrev pub line_read : ScriptLine → LineSaid
-line_read line = record { number = line.number; text = string_bytes line.text }
-
--- what a script that was read says
-abbrev pub script_read : Script → ScriptSaid
-script_read script = record { lines = map line_read script.lines.items; refusal = script.refusal }
-
--- the answer that says what a line says
-abbrev pub line_outcome : LineRead → Outcome (Option LineSaid)
-line_outcome Nothing = Passed None
-line_outcome (Found line) = Passed (Some (line_read line))
-line_outcome (Faulty refusal) = Refused refusal
-
--- what a line says that was read, or that there is none, and the lines behind it
-abbrev pub read_then : Option LineRead → ScriptSaid → ScriptSaid
-read_then None more = ends_with None
-read_then (Some read) more = says_then (line_outcome read) more
-
--- the refusal of a line that was read
-abbrev pub refusal_read : Option LineRead → Option Refusal
-refusal_read None = None
-refusal_read (Some Nothing) = None
-refusal_read (Some (Found line)) = None
-refusal_read (Some (Faulty refusal)) = Some refusal
-
 -- the causes for which a script itself may be refused, whatever is told, with the name that is said
 abbrev pub ScriptMayRefuse : Cause → List ℕ → Type 0
 ScriptMayRefuse (BadLine line) name = name ≡ script_name
 ScriptMayRefuse (LongLine line) name = name ≡ script_name
 ScriptMayRefuse TooLarge name = name ≡ script_name
 ScriptMayRefuse _ name = ⊥
-
--- a refusal that a script itself may have, which stands in no line
-pub record IsOfScript (refusal : Refusal) : Type 0 where
-  pub may : ScriptMayRefuse refusal.cause refusal.name
-  pub place : refusal.place ≡ nowhere

@@ -1,6 +1,7 @@
 ghost use Rattle.std.specs.Prelude.{◌≡◌, false, true, IfOk, MatchOption};
 ghost use Rattle.std.specs.Str.{is_utf8};
-ghost use Rattle.script_lines.specs.Script.{line_outcome, line_says, script_refusal};
+ghost use Rattle.script_lines.specs.Script.{line_says, script_refusal};
+ghost use Rattle.script_lines.specs.ScriptReading.{line_outcome};
 ghost use Rattle.script_lines.specs.declared.line.LineRead.TheVariants.{Refused as Faulty};
 
 use crate::ScriptLine;

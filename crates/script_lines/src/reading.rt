@@ -1,8 +1,9 @@
 ghost use Rattle.std.specs.Prelude.{◌≡◌, ◌≤◌, ◌<◌, ◌-◌, [], IfErr, IfOk, IfSome, IsSome, IsTrue, MatchResult, None, Some, false, true};
 ghost use Rattle.outside.specs.Behind.{IsBehind};
 ghost use Rattle.outside.specs.Count.{Rose};
-ghost use Rattle.input_text.specs.InputLines.{lines_left};
-ghost use Rattle.script_lines.specs.Script.{IsOfScript, lines_say, read_then, refusal_read, script_read, script_refusal, script_said};
+ghost use Rattle.input_text.specs.LineReading.{lines_left};
+ghost use Rattle.script_lines.specs.Script.{lines_say, script_refusal, script_said};
+ghost use Rattle.script_lines.specs.ScriptReading.{IsOfScript, read_then, refusal_read, script_read};
 ghost use Rattle.script_lines.specs.declared.line.LineRead.TheVariants.{Refused as Faulty};
 ghost use Rattle.script_lines.specs.declared.script.ScriptFault.TheVariants.{Source as SourceFailed, Memory as NoMemory};
 

@@ -16,10 +16,11 @@ use Rattle.rquota_xdr.specs.declared.call.Call.{Call}
 use Rattle.rquota_xdr.specs.declared.call.Call.TheVariants.{Silent, OldRpc, NoProgram, NoVersion, NoProcedure, Auth, Garbage, Null, Get, Set}
 use Rattle.rquota_xdr.specs.declared.reply.Reply.{Reply}
 use Rattle.rquota_serve.specs.Exported.{Exported}
-use Rattle.rquota_serve.specs.Exports.{ExportSeen}
+use Rattle.rquota_serve.specs.ExportSeen.{ExportSeen}
 use Rattle.rquota_serve.specs.Refusal.{IsServeFault, MayRefuseOne, OnFile}
 use Rattle.rquota_serve.specs.Reply.{reply_to}
-use Rattle.rquota_serve.specs.Serving.{HasReply, Served, Stopped, answers_of, datagram_reply, read_of}
+use Rattle.rquota_serve.specs.Serving.{HasReply, Stopped, answers_of, datagram_reply, read_of}
+use Rattle.rquota_serve.specs.Served.{Served}
 use Rattle.rquota_serve.specs.declared.fault.ServeFault.{ServeFault}
 use Rattle.rquota_serve.specs.declared.fault.ServeFault.TheVariants.{Link as LinkFailed, File as FileFailed}
 use Rattle.refusals.specs.Refusals.{refusal_of}
@@ -28,14 +29,16 @@ use Rattle.refusals.specs.declared.cause.Cause.TheVariants.{LinkFault, SinkFault
 use Rattle.run_steps.specs.Act.{Act, Answer, Follows, answers, err_bytes, out_bytes, started_by}
 use Rattle.run_steps.specs.Done.{IsWorldTold, Outside, RunSeen, RunTells, outside_of}
 use Rattle.run_steps.specs.Meaning.{EndsBy, HasBegun}
-use Rattle.run_steps.specs.Run.{CarriesOut, HasReason, HasSteps, IsDoneInPart}
+use Rattle.run_steps.specs.Run.{HasReason, HasSteps, IsDoneInPart}
+use Rattle.run_steps.specs.Carrying.{CarriesOut}
 use Rattle.run_steps.specs.Steps.{Starting, Steps}
 use Rattle.run_steps.proofs.ActLemmas.{appends_nothing, none_in_part}
 use Rattle.run_steps.proofs.PartLemmas.{nothing_begun, whole_begun}
 use Rattle.run_steps.proofs.ShowingLemmas.{damage_may}
 use Rattle.run_steps.proofs.WritesLemmas.{writes_for-same, writes_in_part}
 use Rattle.serve_command.specs.Serve.{AnsweringSteps, Replying}
-use Rattle.serve_steps.specs.Exporting.{AnsweringMayRefuse, IsAsAsked, serve_cause, serve_uses}
+use Rattle.serve_steps.specs.Exporting.{AnsweringMayRefuse, serve_uses}
+use Rattle.serve_steps.specs.ServeCauses.{IsAsAsked, serve_cause}
 
 -- what is seen once the store and the link were used
 abbrev pub with_link : RunSeen → StoreSeen → LinkSeen → RunSeen

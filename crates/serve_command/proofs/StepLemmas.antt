@@ -8,7 +8,8 @@ use Rattle.rquota_serve.specs.Exported.{Exported, with_export}
 use Rattle.rquota_serve.specs.Serving.{datagram_reply}
 use Rattle.run_steps.specs.Done.{Outside}
 use Rattle.run_steps.specs.Meaning.{IsSure}
-use Rattle.run_steps.specs.OneCommand.{LooksFirst, Receives}
+use Rattle.run_steps.specs.OneCommand.{LooksFirst}
+use Rattle.run_steps.specs.Received.{Receives}
 use Rattle.run_steps.specs.Steps.{Steps}
 use Rattle.run_steps.proofs.OneCommandLemmas.{sure_opening}
 use Rattle.serve_command.specs.Serve.{AnsweringSteps, Replying}

@@ -14,10 +14,10 @@ use Rattle.quota_types.proofs.KindLemmas.{kinds_eq-same, kinds_eq-true}
 use Rattle.quota_types.specs.declared.file_kind.Kind.{Kind}
 use Rattle.quota_types.specs.declared.file_kind.Kind.TheVariants.{User, Group}
 use Rattle.input_text.specs.Numeral.{number_of}
-use Rattle.opened_file.specs.QuotaFile.{FileSeen}
+use Rattle.opened_file.specs.FileSeen.{FileSeen}
 use Rattle.outside.proofs.WorldLemmas.{bytes_eq-true}
 use Rattle.rquota_serve.specs.Exported.{names_eq}
-use Rattle.rquota_serve.specs.Exports.{ExportSeen, is_exported as is_served, is_named}
+use Rattle.rquota_serve.specs.ExportSeen.{ExportSeen, is_exported as is_served, is_named}
 use Rattle.refusals.specs.declared.cause.UsageKind.TheVariants.{BadValue, BadFileName, Repeated}
 use Rattle.option_words.specs.declared.export.Export.{Export}
 use Rattle.option_words.specs.declared.fault.Fault.{Fault}

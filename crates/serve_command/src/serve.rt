@@ -1,19 +1,20 @@
 ghost use Rattle.std.specs.Prelude.{◌≡◌, ◌<◌, ◌≤◌, ◌+◌, ◌*◌, [], Bool, IsTrue, IfErr, OnOk, OnErr, is_ok};
 ghost use Rattle.std.specs.List.{All};
 ghost use Rattle.outside.specs.Seen.{LinkSeen, SinkSeen, SourceSeen};
-ghost use Rattle.outside.specs.Frame.{Syncs};
+ghost use Rattle.outside.specs.ManyCalls.{Syncs};
 ghost use Rattle.refusals.specs.Status.{status_of};
 ghost use Rattle.refusals.specs.declared.cause.Cause.TheVariants.{LinkFault};
 ghost use Rattle.run_steps.specs.Done.{seen_of, tells_of};
-ghost use Rattle.run_steps.specs.OneCommand.{AreReceived};
-ghost use Rattle.run_steps.specs.Run.{CarriesOut};
+ghost use Rattle.run_steps.specs.Received.{AreReceived};
+ghost use Rattle.run_steps.specs.Carrying.{CarriesOut};
 ghost use Rattle.run_steps.specs.Steps.{Starting};
 ghost use Rattle.run_steps.specs.declared.invocation.Invocation.{Invocation};
 ghost use Rattle.rquota_serve.specs.Exported.{Exported, nothing_exported};
 ghost use Rattle.rquota_serve.specs.Exports.{Serves, exports_seen};
 ghost use Rattle.rquota_serve.specs.Serving.{Stopped};
 ghost use Rattle.serve_command.specs.Serve.{AnsweringSteps, ServeMayRefuse, ServeSteps, serving_reads};
-ghost use Rattle.serve_steps.specs.Exporting.{AnsweringMayRefuse, AreExported, IsAsAsked, MayExport, serve_uses};
+ghost use Rattle.serve_steps.specs.Exporting.{AnsweringMayRefuse, AreExported, MayExport, serve_uses};
+ghost use Rattle.serve_steps.specs.ServeCauses.{IsAsAsked};
 
 use option_words::ExportList;
 use outside::{Link, Store};

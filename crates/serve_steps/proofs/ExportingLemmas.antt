@@ -16,7 +16,8 @@ use Rattle.outside.specs.World.{World}
 use Rattle.opened_file.specs.declared.quota_file.OpenFault.{OpenFault}
 use Rattle.quota_map.specs.View.{IsOpenFault, IsView}
 use Rattle.option_words.specs.declared.export.Export.{Export}
-use Rattle.rquota_serve.specs.Adding.{IsRefusedAt, NewSeen, ReadsEach, new_seen, news_seen}
+use Rattle.rquota_serve.specs.Adding.{NewSeen}
+use Rattle.rquota_serve.specs.Added.{IsRefusedAt, ReadsEach, new_seen, news_seen}
 use Rattle.rquota_serve.specs.declared.new_export.NewExport.{NewExport}
 use Rattle.rquota_serve.specs.Exported.{Exported, nothing_exported, with_export}
 use Rattle.rquota_serve.specs.Exports.{IsServed, Serves, kept_in}
@@ -27,7 +28,7 @@ use Rattle.refusals.specs.declared.cause.Cause.{Cause}
 use Rattle.refusals.specs.declared.cause.Cause.TheVariants.{Memory}
 use Rattle.refusals.specs.declared.reason.Refusal.{Refusal}
 use Rattle.run_steps.specs.Done.{RunSeen, RunTells, outside_of, seen_of, tells_of}
-use Rattle.run_steps.specs.Run.{CarriesOut}
+use Rattle.run_steps.specs.Carrying.{CarriesOut}
 use Rattle.run_steps.specs.Steps.{Opening, Steps}
 use Rattle.run_steps.specs.Opening.{opening_cause}
 use Rattle.run_steps.proofs.OpeningLemmas.{not_opened}

@@ -4,16 +4,14 @@ use Rattle.std.specs.Prelude.{◌≡◌, ◌⊎◌, ℕ, true, false, List, [], 
 use Rattle.quota_types.specs.declared.file_kind.Format.{Format}
 use Rattle.quota_value.specs.QuotaValue.{QuotaValue}
 use Rattle.outside.specs.World.{World}
-use Rattle.quota_map.specs.View.{IsOpenedAs, IsDamageAs}
+use Rattle.quota_map.specs.View.{IsDamageAs}
 use Rattle.rquota_serve.specs.Adding.{AreToldOf, MayAddAll, NewSeen}
 use Rattle.rquota_serve.specs.Exported.{Exported, with_export}
-use Rattle.rquota_serve.specs.Exports.{ExportSeen}
-use Rattle.rquota_serve.specs.declared.fault.ServeFault.{ServeFault}
-use Rattle.rquota_serve.specs.declared.fault.ServeFault.TheVariants.{Link as LinkFailed, File as FileFailed}
+use Rattle.rquota_serve.specs.ExportSeen.{ExportSeen}
 use Rattle.option_words.specs.declared.export.Export.{Export}
 use Rattle.refusals.specs.declared.cause.Cause.{Cause}
 use Rattle.refusals.specs.declared.cause.Cause.TheVariants.{StoreFault, LinkFault, Memory, Damaged}
-use Rattle.run_steps.specs.Opening.{MayRefuseOpening, file_cause}
+use Rattle.run_steps.specs.Opening.{MayRefuseOpening}
 use Rattle.run_steps.specs.Run.{Uses}
 use Rattle.run_steps.specs.Steps.{Opening, Steps}
 
@@ -50,16 +48,7 @@ AreExported format files exports before exported = AreToldOf format files (news_
 abbrev pub MayExport : (before : List ExportSeen) → List Export → Type 0
 MayExport before exports = MayAddAll before (news_of exports)
 
--- the file of an export is opened in the format that is asked for, or as one that needs no asking
-abbrev pub IsAsAsked : Option Format → ExportSeen → Type 0
-IsAsAsked format export = IsOpenedAs format export.file.format
-
 -- What is said.
-
--- what is said where calls were not answered
-abbrev pub serve_cause : ServeFault → Cause
-serve_cause LinkFailed = LinkFault
-serve_cause (FileFailed fault) = file_cause fault
 
 -- the name of the first file
 abbrev pub first_file : List Export → List ℕ

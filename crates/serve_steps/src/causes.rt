@@ -1,7 +1,8 @@
 ghost use Rattle.std.specs.Prelude.{◌≡◌, [], IfErr, IfOk};
 ghost use Rattle.refusals.specs.Refusals.{refusal_of};
 ghost use Rattle.refusals.specs.declared.cause.Cause.TheVariants.{Memory};
-ghost use Rattle.serve_steps.specs.Exporting.{first_file, serve_cause};
+ghost use Rattle.serve_steps.specs.Exporting.{first_file};
+ghost use Rattle.serve_steps.specs.ServeCauses.{serve_cause};
 
 use option_words::Export;
 use refusals::{Cause, Refusal, Word};

@@ -1,17 +1,19 @@
 ghost use Rattle.std.specs.Prelude.{ℕ, Option, [], ◌≡◌, ◌≤◌, ◌+◌, ◌⊎◌, Bool, List, Result, IsTrue, IfOk, OnOk, OnErr, length, is_ok};
 ghost use Rattle.std.specs.List.{All};
 ghost use Rattle.outside.specs.Seen.{LinkSeen, SinkSeen, SourceSeen};
-ghost use Rattle.outside.specs.Frame.{Syncs};
+ghost use Rattle.outside.specs.ManyCalls.{Syncs};
 ghost use Rattle.refusals.specs.Refusals.{refusal_of};
 ghost use Rattle.refusals.specs.declared.cause.Cause.TheVariants.{Memory};
 ghost use Rattle.refusals.specs.declared.reason.Refusal.{Refusal};
 ghost use Rattle.run_steps.specs.Done.{IsUnwritten, RunSeen, seen_of, tells_of};
-ghost use Rattle.run_steps.specs.Run.{CarriesOut};
+ghost use Rattle.run_steps.specs.Carrying.{CarriesOut};
 ghost use Rattle.run_steps.specs.Steps.{Steps};
-ghost use Rattle.rquota_serve.specs.Adding.{news_seen, reads_of};
+ghost use Rattle.rquota_serve.specs.Adding.{reads_of};
+ghost use Rattle.rquota_serve.specs.Added.{news_seen};
 ghost use Rattle.rquota_serve.specs.Exported.{Exported};
 ghost use Rattle.rquota_serve.specs.Exports.{Serves, exports_seen};
-ghost use Rattle.serve_steps.specs.Exporting.{AnsweringMayRefuse, AreExported, ExportingMayRefuse, IsAsAsked, MayExport, OpeningAll, news_of, serve_uses};
+ghost use Rattle.serve_steps.specs.Exporting.{AnsweringMayRefuse, AreExported, ExportingMayRefuse, MayExport, OpeningAll, news_of, serve_uses};
+ghost use Rattle.serve_steps.specs.ServeCauses.{IsAsAsked};
 
 use arrayvec::ArrayVec;
 use option_words::Export;

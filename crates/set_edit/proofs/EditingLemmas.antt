@@ -5,10 +5,13 @@ use Rattle.std.proofs.lemmas.Result.{IfErr-weaker}
 use Rattle.quota_types.specs.declared.field.Field.{Field}
 use Rattle.quota_types.specs.declared.field.NoRoom.{NoRoom}
 use Rattle.opened_file.specs.Changes.{Changes, FileAt, FileLaws, IsDone, LacksRoomFor}
-use Rattle.opened_file.specs.FileChange.{FileChange, Remove, edit_by}
-use Rattle.outside.specs.Frame.{OnlyReads, Syncs}
+use Rattle.opened_file.specs.FileChange.{FileChange, Remove}
+use Rattle.opened_file.specs.ValueEdits.{edit_by}
+use Rattle.outside.specs.Frame.{OnlyReads}
+use Rattle.outside.specs.ManyCalls.{Syncs}
 use Rattle.opened_file.specs.LooksUp.{LooksUp}
-use Rattle.opened_file.specs.QuotaFile.{CountsRefusal, FileSeen, IfFull, IsChangeFault, IsLookupFault, UnlessStoreFailed, WantsNoMemory}
+use Rattle.opened_file.specs.QuotaFile.{CountsRefusal, IfFull, IsChangeFault, IsLookupFault, UnlessStoreFailed, WantsNoMemory}
+use Rattle.opened_file.specs.FileSeen.{FileSeen}
 use Rattle.quota_value.specs.QuotaValue.{QuotaValue}
 use Rattle.outside.specs.World.{World}
 use Rattle.opened_file.specs.declared.quota_file.FileFault.{FileFault}
@@ -20,7 +23,8 @@ use Rattle.opened_file.proofs.LookupLemmas.{IsLookedUp, IsSameAt, edits_value-af
 use Rattle.set_edit.specs.declared.fault.EditFault.{EditFault}
 use Rattle.set_edit.specs.declared.fault.EditFault.TheVariants.{File, NoRoom as Unfit}
 use Rattle.set_edit.specs.EditFault.{IfNoRoom, file_fault}
-use Rattle.set_edit.specs.Editing.{Edit, Edits, LacksField, ReadsOnce, value_edit}
+use Rattle.set_edit.specs.Editing.{Edit}
+use Rattle.set_edit.specs.EditCalls.{Edits, LacksField, ReadsOnce, value_edit}
 
 -- At the values that a file holds two edits are one; and whatever the store tells, the second may lack room only for what
 -- the first may.

@@ -12,7 +12,8 @@ use Rattle.quota_types.specs.declared.record.Grace.{Grace}
 use Rattle.quota_types.specs.declared.record.Rec.{Rec}
 use Rattle.quota_types.proofs.KeptLemmas.{kept_null}
 use Rattle.opened_file.specs.Changes.{Changes, FileAt, FileLaws}
-use Rattle.opened_file.specs.FileChange.{FileChange, Put, Remove, SetGrace, changed_value, edit_by, has_nothing_to_do, may_lack_room}
+use Rattle.opened_file.specs.FileChange.{FileChange, Put, Remove, SetGrace, changed_value}
+use Rattle.opened_file.specs.ValueEdits.{edit_by, has_nothing_to_do, may_lack_room}
 use Rattle.quota_value.specs.QuotaValue.{QuotaValue, with_grace}
 use Rattle.opened_file.specs.declared.quota_file.FileFault.{FileFault}
 use Rattle.outside.proofs.FrameLemmas.{only_reads-none}
@@ -20,8 +21,9 @@ use Rattle.opened_file.proofs.LookupLemmas.{IsLookedUp, IsSameAt}
 use Rattle.set_edit.specs.declared.limits.Limits.{Limits}
 use Rattle.set_edit.specs.declared.skipped.Skipped.{Skipped}
 use Rattle.set_edit.specs.declared.time_word.TimeWord.{TimeWord}
-use Rattle.set_edit.specs.Edited.{change_to, edited, kept_change, unless_unfit, wanted_limits, with_kept, with_limits, with_or_without}
-use Rattle.set_edit.specs.Editing.{Edit, Edits, value_edit}
+use Rattle.set_edit.specs.Edited.{edited, kept_change, unless_unfit, wanted_limits, with_kept, with_limits}
+use Rattle.set_edit.specs.EditCalls.{change_to, with_or_without, Edits, value_edit}
+use Rattle.set_edit.specs.Editing.{Edit}
 use Rattle.set_edit.specs.Edits.{grace_edit, limits_edit, times_edit}
 use Rattle.set_edit.specs.Times.{found_or_zeros, skips_both, times_skipped, wanted_times, with_times}
 use Rattle.set_edit.proofs.EditingLemmas.{edit_answer, edits-changed}

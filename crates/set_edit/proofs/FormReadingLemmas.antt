@@ -4,8 +4,8 @@ use Rattle.std.specs.Prelude.{◌&&◌, is_some, IfOk, IfErr, OnOk}
 use Rattle.std.specs.Str.{bytes_eq}
 use Rattle.quota_types.specs.declared.file_kind.Kind.{Kind}
 use Rattle.quota_types.specs.declared.file_kind.Kind.TheVariants.{User, Group}
-use Rattle.input_text.specs.InputLines.{line_then}
-use Rattle.input_text.specs.Lines.{IsLineFault, LinesSeen, NamesLine, line_given, next_line_of}
+use Rattle.input_text.specs.LineReading.{line_then, IsLineFault, LinesSeen, NamesLine, line_given}
+use Rattle.input_text.specs.Lines.{next_line_of}
 use Rattle.input_text.specs.Numeral.{number_of}
 use Rattle.input_text.specs.Words.{words_behind, words_eq, words_of}
 use Rattle.input_text.specs.declared.line_reader.LineFault.{LineFault}
@@ -13,7 +13,8 @@ use Rattle.input_text.specs.declared.line_reader.LineFault.TheVariants.{Source, 
 use Rattle.input_text.proofs.InputLinesLemmas.{input_lines-long, input_lines-past, lines_left-next}
 use Rattle.input_text.proofs.WordsLemmas.{words_eq_front, words_eq_front_none, words_of-append, words_of-blank, words_of-nil}
 use Rattle.set_edit.specs.Form.{form_title, id_front, name_front}
-use Rattle.set_edit.specs.FormReading.{IsFormFault, IsLinesFault, all_limits, form_in, form_lines, form_read, limits_in, then_read}
+use Rattle.set_edit.specs.FormReading.{all_limits, form_in, form_read, limits_in, then_read}
+use Rattle.set_edit.specs.FormFaults.{IsFormFault, IsLinesFault, form_lines}
 use Rattle.set_edit.specs.declared.form_reading.FormFault.{FormFault}
 use Rattle.set_edit.specs.declared.form_reading.FormFault.TheVariants.{Lines, BadForm}
 use Rattle.set_edit.specs.Number.{limit_of}

@@ -23,14 +23,6 @@ with_limits rec limits = record rec { ihard = limits.ihard; isoft = limits.isoft
 abbrev pub wanted_limits : Option Rec → Limits → Grace → ℕ → Rec
 wanted_limits old limits grace now = timers_of (with_limits (unwrap_or old zero_record) limits) grace now
 
--- the change that gives an identifier this record, or takes the one that it has away where this one is null
-abbrev pub change_to : ℕ → Rec → FileChange
-change_to id rec = if is_null_of rec then Remove id else Put id rec
-
--- the value with this record of the identifier, and with none where this one is null
-abbrev pub with_or_without : QuotaValue → ℕ → Rec → QuotaValue
-with_or_without value id rec = changed_value (change_to id rec) value
-
 -- the change that gives an identifier what the format keeps of this record, or takes the one that it has away where this
 -- one is null
 abbrev pub kept_change : Format → ℕ → Rec → FileChange

@@ -1,15 +1,12 @@
 -- What a form says that an editor gives back. Source: edquota(8), whose usage columns are shown and never set; the words
 -- that are needed, and the bounds, are this project's own.
-use Rattle.std.specs.Prelude.{◌≡◌, ℕ, ◌+◌, Bool, true, false, ◌&&◌, is_some, IsTrue, if◌then◌else◌, List, [], ◌∷◌, Option, Some, None, Result, Ok, Err}
+use Rattle.std.specs.Prelude.{ℕ, ◌+◌, Bool, true, false, ◌&&◌, is_some, if◌then◌else◌, List, [], ◌∷◌, Option, Some, None, Result, Ok, Err}
 use Rattle.std.specs.Str.{bytes_eq}
 use Rattle.quota_types.specs.declared.file_kind.Kind.{Kind}
-use Rattle.outside.specs.Count.{Rose}
-use Rattle.input_text.specs.InputLines.{InputLines, NoLine, LineThen, LongNext, PastNext, input_lines, lines_left}
-use Rattle.input_text.specs.Lines.{LinesSeen}
+use Rattle.input_text.specs.InputLines.{InputLines, NoLine, LineThen, LongNext, PastNext, input_lines}
 use Rattle.input_text.specs.Numeral.{number_of}
 use Rattle.input_text.specs.Words.{words_eq, words_of}
-use Rattle.input_text.specs.declared.line_reader.LineFault.{LineFault}
-use Rattle.input_text.specs.declared.line_reader.LineFault.TheVariants.{Source, Long, TooLarge}
+use Rattle.input_text.specs.declared.line_reader.LineFault.TheVariants.{Long, TooLarge}
 use Rattle.set_edit.specs.declared.form_reading.FormFault.{FormFault}
 use Rattle.set_edit.specs.declared.form_reading.FormFault.TheVariants.{Lines, BadForm}
 use Rattle.set_edit.specs.declared.limits.Limits.{Limits}
@@ -84,21 +81,3 @@ form_in kind name id file lines =
 -- What a form says: lines of at most 1,024 bytes, and 16,777,216 bytes in all.
 unfoldable pub form_read : Kind → (name : List ℕ) → (id : ℕ) → (file : List ℕ) → List ℕ → Result Limits FormFault
 form_read kind name id file bytes = form_in kind name id file (input_lines 1024 16777216 bytes)
-
--- The source's count of faults rose; or, of a source that tells what is left in it, reading leads to this fault.
-abbrev pub IsFormFault : {A : Type 0} → (before now : ℕ) → Bool → Result A FormFault → FormFault → Type 0
-IsFormFault before now tells read (Lines Source) = Rose before now
-IsFormFault before now tells read (Lines (Long number)) = IsTrue tells → read ≡ Err (Lines (Long number))
-IsFormFault before now tells read (Lines TooLarge) = IsTrue tells → read ≡ Err (Lines TooLarge)
-IsFormFault before now tells read (BadForm number) = IsTrue tells → read ≡ Err (BadForm number)
-
--- The source's count of faults rose; or, of a source that tells what is left in it, the next line is too long and has
--- this number, or it does not end within the bytes that may be read.
-abbrev pub IsLinesFault : (before now : ℕ) → Bool → (number : ℕ) → InputLines → LineFault → Type 0
-IsLinesFault before now tells number lines Source = Rose before now
-IsLinesFault before now tells number lines (Long named) = (named ≡ number) × (IsTrue tells → lines ≡ LongNext)
-IsLinesFault before now tells number lines TooLarge = IsTrue tells → lines ≡ PastNext
-
--- the lines of a form that a reader has still to give, where its source has these bytes left
-abbrev pub form_lines : LinesSeen → List ℕ → InputLines
-form_lines seen left = lines_left 1024 16777216 seen left

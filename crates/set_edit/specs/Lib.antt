@@ -1,8 +1,10 @@
+pub mod EditCalls
 pub mod EditFault
 pub mod Edited
 pub mod Editing
 pub mod Edits
 pub mod Form
+pub mod FormFaults
 pub mod FormReading
 pub mod Number
 pub mod Times

@@ -1,6 +1,6 @@
 ghost use Rattle.std.specs.Prelude.{◌≡◌, IsTrue};
 ghost use Rattle.opened_file.specs.Changes.{file_at, laws_of};
-ghost use Rattle.set_edit.specs.Editing.{Edits};
+ghost use Rattle.set_edit.specs.EditCalls.{Edits};
 ghost use Rattle.set_edit.specs.Edits.{copy_edit, limits_of};
 
 use crate::{EditFault, Limits, set_limits};

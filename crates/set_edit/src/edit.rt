@@ -4,8 +4,8 @@ ghost use Rattle.quota_types.specs.Rec.{zero_record};
 ghost use Rattle.opened_file.specs.Changes.{Changes, file_at, laws_of};
 ghost use Rattle.opened_file.specs.QuotaFile.{WantsNoMemory};
 ghost use Rattle.set_edit.specs.EditFault.{file_fault};
-ghost use Rattle.set_edit.specs.Edited.{change_to, with_limits};
-ghost use Rattle.set_edit.specs.Editing.{Edits, ReadsOnce};
+ghost use Rattle.set_edit.specs.Edited.{with_limits};
+ghost use Rattle.set_edit.specs.EditCalls.{change_to, Edits, ReadsOnce};
 ghost use Rattle.set_edit.specs.Edits.{limits_edit};
 
 use crate::{EditFault, Limits};

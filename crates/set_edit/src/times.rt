@@ -6,7 +6,7 @@ ghost use Rattle.quota_types.specs.declared.record.Rec.{Rec};
 ghost use Rattle.outside.specs.Frame.{OnlyReads};
 ghost use Rattle.quota_value.specs.QuotaValue.{QuotaValue};
 ghost use Rattle.opened_file.specs.Changes.{file_at, laws_of};
-ghost use Rattle.set_edit.specs.Editing.{Edits};
+ghost use Rattle.set_edit.specs.EditCalls.{Edits};
 ghost use Rattle.set_edit.specs.Edits.{times_edit};
 ghost use Rattle.set_edit.specs.Times.{found_or_zeros, record_in, skips_both, time_of, times_skipped, with_times};
 

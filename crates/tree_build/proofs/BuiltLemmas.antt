@@ -9,7 +9,8 @@ use Rattle.quota_types.specs.Format.{IsTreeFormat}
 use Rattle.quota_types.specs.declared.file_kind.Format.{Format}
 use Rattle.quota_types.specs.declared.file_kind.Format.TheVariants.{V1, V2R0, V2R1}
 use Rattle.quota_types.specs.declared.record.Entry.{Entry}
-use Rattle.entry_codec.specs.Entry.{entries_per_block, padding_of}
+use Rattle.entry_codec.specs.Entry.{entries_per_block}
+use Rattle.entry_codec.specs.Spelling.{padding_of}
 use Rattle.quota_radix.specs.declared.tree_path.TreePath.{TreePath}
 use Rattle.file_blocks.specs.Block.{block_of, word_at, leads}
 use Rattle.quota_value.specs.Listed.{ids_of}

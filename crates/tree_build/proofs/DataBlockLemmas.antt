@@ -15,7 +15,8 @@ use Rattle.quota_types.specs.declared.file_kind.Format.TheVariants.{V1, V2R0, V2
 use Rattle.quota_types.specs.declared.record.Entry.{Entry}
 use Rattle.quota_types.proofs.TimesLemmas.{range_with_len-add}
 use Rattle.quota_types.proofs.BytesLemmas.{number_at-zeros, number_same}
-use Rattle.entry_codec.specs.Entry.{IsEntry, entries_per_block, is_unused, padding_of, stored_id}
+use Rattle.entry_codec.specs.Entry.{entries_per_block, is_unused, stored_id}
+use Rattle.entry_codec.specs.Spelling.{IsEntry, padding_of}
 use Rattle.entry_codec.proofs.SpellingLemmas.{is_unused-zeros}
 use Rattle.tree_meaning.specs.Entries.{entry_bytes, entry_of, has_unused, stored_record, used_entries}
 use Rattle.tree_build.specs.NewFile.{IsDataBlock}

@@ -12,7 +12,8 @@ use Rattle.quota_types.specs.declared.file_kind.Format.TheVariants.{V1, V2R0, V2
 use Rattle.quota_types.specs.declared.record.Entry.{Entry}
 use Rattle.quota_types.proofs.AscendsLemmas.{Ascends, Ascends-of, IsStrictlyIncreasing-of}
 use Rattle.quota_types.proofs.ListLemmas.{AllByRecursion-weaker}
-use Rattle.entry_codec.specs.Header.{AreOf, format_of, header_of}
+use Rattle.entry_codec.specs.Header.{format_of, header_of}
+use Rattle.entry_codec.specs.Spelling.{AreOf}
 use Rattle.entry_codec.specs.declared.header.Header.{Header}
 use Rattle.quota_radix.specs.declared.tree_path.TreePath.{TreePath}
 use Rattle.file_blocks.specs.Block.{block_of, leads}

@@ -2,7 +2,8 @@
 use Rattle.std.specs.Prelude.{◌≡◌, ℕ, ◌<◌, ◌≤◌, IsTrue, List, ⊤}
 use Rattle.quota_types.specs.Bytes.{byte_at}
 use Rattle.quota_types.specs.declared.file_kind.Format.{Format}
-use Rattle.entry_codec.specs.Entry.{entries_per_block, padding_of}
+use Rattle.entry_codec.specs.Entry.{entries_per_block}
+use Rattle.entry_codec.specs.Spelling.{padding_of}
 use Rattle.tree_build.specs.declared.build_fault.BuildFault.{BuildFault}
 use Rattle.tree_build.specs.declared.build_fault.BuildFault.TheVariants.{Full, Memory}
 use Rattle.file_blocks.specs.Block.{block_of}

@@ -4,7 +4,8 @@ use Rattle.std.specs.List.{AllByRecursion, flat_map, range_with_len}
 use Rattle.quota_types.specs.Bytes.{byte_at, number_at}
 use Rattle.quota_types.specs.declared.file_kind.Format.{Format}
 use Rattle.quota_types.specs.declared.record.Entry.{Entry}
-use Rattle.entry_codec.specs.Entry.{entries_per_block, padding_of}
+use Rattle.entry_codec.specs.Entry.{entries_per_block}
+use Rattle.entry_codec.specs.Spelling.{padding_of}
 use Rattle.quota_radix.specs.declared.tree_path.TreePath.{TreePath}
 use Rattle.file_blocks.specs.Block.{block_of, word_at, leads}
 use Rattle.tree_meaning.specs.Entries.{entry_bytes, has_unused, used_entries}

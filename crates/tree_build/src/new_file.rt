@@ -1,5 +1,6 @@
 ghost use Rattle.std.specs.Prelude.{◌≡◌, ◌≢◌, ◌+◌, ◌*◌, ◌^◌, ◌<◌, ◌≤◌, ◌++◌, ℕ, vec_len, take, drop, IfOk, OnOk};
-ghost use Rattle.entry_codec.specs.Header.{AreOf, header_of};
+ghost use Rattle.entry_codec.specs.Header.{header_of};
+ghost use Rattle.entry_codec.specs.Spelling.{AreOf};
 ghost use Rattle.quota_types.specs.Bytes.{byte_at};
 ghost use Rattle.quota_types.specs.Format.{IsTreeFormat};
 

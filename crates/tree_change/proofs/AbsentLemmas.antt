@@ -11,7 +11,7 @@ use Rattle.file_blocks.specs.Block.{block_of}
 use Rattle.quota_value.specs.QuotaValue.{Records}
 use Rattle.quota_radix.specs.Descent.{leaf_block}
 use Rattle.quota_radix.specs.Tree.{ids_at, leaves}
-use Rattle.quota_radix.specs.Way.{blocks_on_way}
+use Rattle.quota_radix.specs.OnWay.{blocks_on_way}
 use Rattle.quota_radix.specs.declared.tree_path.TreePath.{TreePath}
 use Rattle.quota_radix.proofs.AlongLemmas.{fifth_is_leaf}
 use Rattle.quota_radix.proofs.DescentLemmas.{not_some, some_same}

@@ -11,7 +11,7 @@ use Rattle.entry_codec.specs.Entry.{is_unused}
 use Rattle.file_blocks.specs.Block.{block_of}
 use Rattle.file_blocks.proofs.LeadsLemmas.{leads_within}
 use Rattle.quota_value.specs.QuotaValue.{Records}
-use Rattle.quota_pages.specs.Used.{KeepsBlocksBut}
+use Rattle.quota_pages.specs.KeptBlocks.{KeepsBlocksBut}
 use Rattle.quota_radix.specs.declared.tree_path.TreePath.{TreePath}
 use Rattle.free_chains.specs.ChainFault.{IsChainFault}
 use Rattle.free_chains.specs.EntryList.{EntersList}

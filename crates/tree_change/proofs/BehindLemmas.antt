@@ -5,7 +5,7 @@ use Rattle.quota_types.specs.Bytes.{byte_at}
 use Rattle.quota_types.specs.Times.{StandsIn, times}
 use Rattle.file_blocks.specs.Block.{block_of}
 use Rattle.file_blocks.proofs.WordLemmas.{byte_at-block_of}
-use Rattle.quota_pages.specs.Used.{KeepsBlocksBut}
+use Rattle.quota_pages.specs.KeptBlocks.{KeepsBlocksBut}
 use Rattle.free_chains.specs.FreeList.{TakesHead}
 use Rattle.free_chains.specs.declared.heads.Heads.{Heads}
 use Rattle.tree_change.specs.Behind.{KeepsBehind}

@@ -7,9 +7,10 @@ use Rattle.quota_types.specs.declared.file_kind.Format.{Format}
 use Rattle.file_blocks.specs.Block.{block_of}
 use Rattle.entry_codec.specs.Entry.{entries_per_block, is_unused}
 use Rattle.quota_pages.specs.Overlay.{with_block}
-use Rattle.quota_pages.specs.Used.{KeepsBlocksBut}
+use Rattle.quota_pages.specs.KeptBlocks.{KeepsBlocksBut}
 use Rattle.quota_pages.proofs.BlockLemmas.{block_of-with_block_same, whole_block-same}
-use Rattle.tree_meaning.specs.Entries.{entry_bytes, record_by, stated_count, used_ids}
+use Rattle.tree_meaning.specs.Entries.{entry_bytes, stated_count, used_ids}
+use Rattle.tree_meaning.specs.EntryRecords.{record_by}
 use Rattle.tree_meaning.specs.EntryPlaces.{ClearsEntry, HasSameEntries, KeepsOtherEntries, KeepsOutsideEntry}
 use Rattle.tree_meaning.proofs.EntryPlaceLemmas.{before_entries, ids_kept, outside_entry}
 use Rattle.tree_steps.specs.EntrySteps.{LosesEntry}

@@ -12,7 +12,7 @@ use Rattle.quota_types.proofs.TimesLemmas.{only_one, stands_cons, stands_either,
 use Rattle.file_blocks.specs.Block.{block_of, next_of, previous_of}
 use Rattle.file_blocks.proofs.LeadsLemmas.{leads_within}
 use Rattle.quota_value.specs.QuotaValue.{Records}
-use Rattle.quota_pages.specs.Used.{KeepsBlocksBut}
+use Rattle.quota_pages.specs.KeptBlocks.{KeepsBlocksBut}
 use Rattle.quota_radix.specs.Tree.{blocks_of, leaves as tree_leaves}
 use Rattle.free_chains.specs.Chain.{IsChain}
 use Rattle.free_chains.specs.ChainFault.{IsChainFault}

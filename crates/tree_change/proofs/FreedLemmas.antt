@@ -11,9 +11,9 @@ use Rattle.quota_types.proofs.TimesLemmas.{only_one, stands_either, stands_left,
 use Rattle.file_blocks.specs.Block.{block_of, leads}
 use Rattle.file_blocks.proofs.LeadsLemmas.{leads_from, leads_within}
 use Rattle.quota_value.specs.QuotaValue.{Records}
-use Rattle.quota_pages.specs.Used.{KeepsBlocksBut}
+use Rattle.quota_pages.specs.KeptBlocks.{KeepsBlocksBut}
 use Rattle.quota_radix.specs.Tree.{blocks_of, data_blocks, leaves, tree_blocks}
-use Rattle.quota_radix.specs.Way.{blocks_on_way}
+use Rattle.quota_radix.specs.OnWay.{blocks_on_way}
 use Rattle.quota_radix.specs.declared.tree_path.TreePath.{TreePath}
 use Rattle.quota_radix.proofs.MoreBlocksLemmas.{KeepsReferences, leaves-among_more, way-among_more}
 use Rattle.free_chains.specs.Chain.{IsChain}
@@ -24,7 +24,8 @@ use Rattle.free_chains.proofs.SpliceLemmas.{chain-stays}
 use Rattle.tree_meaning.specs.Loose.{Loose, loose_of}
 use Rattle.tree_meaning.proofs.MovedLemmas.{times-roles}
 use Rattle.tree_steps.proofs.OneBlockLemmas.{one_role}
-use Rattle.tree_change.specs.Freed.{FreesBeside, FreesBlocks, HasLinkAlone, free_blocks, unnamed_of}
+use Rattle.tree_change.specs.Freed.{FreesBlocks, HasLinkAlone, free_blocks, unnamed_of}
+use Rattle.tree_change.specs.FreedTree.{FreesBeside}
 use Rattle.tree_change.specs.Shows.{IsWholeTree}
 use Rattle.tree_change.proofs.BehindLemmas.{behind_none, behind_of, behind_then}
 use Rattle.tree_change.proofs.FreshLemmas.{role_above}

@@ -8,7 +8,7 @@ use Rattle.quota_types.proofs.TimesLemmas.{only_one, stands_either, times-append
 use Rattle.file_blocks.specs.Block.{block_of, next_of}
 use Rattle.file_blocks.proofs.LeadsLemmas.{leads_within}
 use Rattle.quota_value.specs.QuotaValue.{Records}
-use Rattle.quota_pages.specs.Used.{KeepsBlocksBut}
+use Rattle.quota_pages.specs.KeptBlocks.{KeepsBlocksBut}
 use Rattle.quota_radix.specs.Tree.{blocks_of, tree_blocks}
 use Rattle.quota_radix.specs.declared.tree_path.TreePath.{TreePath}
 use Rattle.quota_radix.proofs.MoreBlocksLemmas.{KeepsReferences, leaves-among_more, way-among_more}

@@ -8,7 +8,8 @@ use Rattle.quota_value.specs.QuotaValue.{Records}
 use Rattle.outside.specs.Seen.{StoreSeen}
 use Rattle.quota_pages.specs.Page.{is_buffered}
 use Rattle.quota_pages.specs.Pages.{pages_of}
-use Rattle.quota_pages.specs.Used.{KeepsBlocksBut, Uses, missing}
+use Rattle.quota_pages.specs.Used.{Uses, missing}
+use Rattle.quota_pages.specs.KeptBlocks.{KeepsBlocksBut}
 use Rattle.quota_pages.specs.declared.page_buffer.Pages.{Pages}
 use Rattle.quota_pages.proofs.UsedLemmas.{missing-there}
 use Rattle.quota_pages.proofs.UsesLemmas.{uses_more, uses_then}
@@ -24,7 +25,7 @@ use Rattle.tree_meaning.proofs.FrameLemmas.{data_kept}
 use Rattle.tree_meaning.proofs.MovedLemmas.{keeps_entries, times-data_with, times-roles}
 use Rattle.tree_meaning.proofs.TakenLemmas.{given}
 use Rattle.tree_steps.proofs.OneBlockLemmas.{one_role}
-use Rattle.tree_change.specs.Freed.{FreesBeside}
+use Rattle.tree_change.specs.FreedTree.{FreesBeside}
 use Rattle.tree_change.specs.Shows.{IsWholeTree}
 use Rattle.tree_change.specs.Unlinked.{GivesHeld, TreeStays}
 use Rattle.tree_change.proofs.FreedLemmas.{beside_none, beside_then, frees_one}

@@ -1,6 +1,7 @@
 -- The heads that a header has.
 use Rattle.std.proofs.Common.{◌≡◌, List, [], ℕ, length, Some, None, refl, sym, ap, subst, ◌∙◌}
-use Rattle.entry_codec.specs.Header.{AreOf, HeaderNumbers, header_of}
+use Rattle.entry_codec.specs.Header.{HeaderNumbers, header_of}
+use Rattle.entry_codec.specs.Spelling.{AreOf}
 use Rattle.entry_codec.specs.declared.header.Header.{Header}
 use Rattle.quota_types.specs.Span.{KeepsOutside}
 use Rattle.quota_types.specs.declared.file_kind.Format.{Format}
@@ -9,7 +10,8 @@ use Rattle.file_blocks.specs.Block.{block_of}
 use Rattle.quota_pages.specs.Overlay.{with_block}
 use Rattle.quota_pages.proofs.BlockLemmas.{block_of-with_block_same, whole_block-same}
 use Rattle.free_chains.specs.declared.heads.Heads.{Heads}
-use Rattle.tree_meaning.specs.IsTree.{IsTree, header_with, heads_of}
+use Rattle.tree_meaning.specs.IsTree.{IsTree, header_with}
+use Rattle.tree_meaning.specs.TreeHeads.{heads_of}
 use Rattle.tree_meaning.specs.Loose.{loose_of, nothing_loose}
 use Rattle.tree_meaning.specs.TreeFile.{TreeStandsFor}
 use Rattle.tree_meaning.proofs.HeaderLemmas.{header_in_block}

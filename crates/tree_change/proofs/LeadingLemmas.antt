@@ -5,10 +5,10 @@ use Rattle.quota_types.specs.Times.{StandsIn, times}
 use Rattle.quota_types.proofs.TimesLemmas.{StandsIn-get_or, stands_cons, times-append}
 use Rattle.quota_value.specs.QuotaValue.{Records}
 use Rattle.quota_pages.specs.Page.{Page, is_buffered}
-use Rattle.quota_pages.specs.Used.{KeepsBlocksBut}
+use Rattle.quota_pages.specs.KeptBlocks.{KeepsBlocksBut}
 use Rattle.quota_radix.specs.Link.{AreBuffered, AreDistinct, GainsBlocks, IsLinkable, LeadsAlong, changed_blocks, whole_way, with_path}
 use Rattle.quota_radix.specs.Tree.{leaves, tree_blocks}
-use Rattle.quota_radix.specs.Way.{blocks_on_way}
+use Rattle.quota_radix.specs.OnWay.{blocks_on_way}
 use Rattle.quota_radix.specs.declared.tree_path.TreePath.{TreePath}
 use Rattle.quota_radix.proofs.LinkWayLemmas.{changed_distinct}
 use Rattle.free_chains.specs.declared.heads.Heads.{Heads}

@@ -10,7 +10,8 @@ use Rattle.file_blocks.specs.Block.{next_of, previous_of}
 use Rattle.file_blocks.proofs.LeadsLemmas.{leads_within}
 use Rattle.quota_value.specs.QuotaValue.{Records}
 use Rattle.outside.specs.Seen.{StoreSeen}
-use Rattle.quota_pages.specs.Used.{IsKnown, KeepsBlocksBut, shown_over}
+use Rattle.quota_pages.specs.Used.{IsKnown, shown_over}
+use Rattle.quota_pages.specs.KeptBlocks.{KeepsBlocksBut}
 use Rattle.quota_pages.specs.declared.page_buffer.Pages.{Pages}
 use Rattle.quota_pages.proofs.UsedLemmas.{shown_over-lends}
 use Rattle.quota_radix.specs.declared.tree_path.TreePath.{TreePath}
@@ -21,7 +22,7 @@ use Rattle.free_chains.specs.declared.heads.Heads.{Heads}
 use Rattle.tree_meaning.specs.Loose.{Loose, loose_of}
 use Rattle.tree_meaning.specs.Roles.{data_with, has_room}
 use Rattle.tree_meaning.proofs.ListedLemmas.{left_list, misplaced-same}
-use Rattle.tree_change.specs.Freed.{BecomesTree}
+use Rattle.tree_change.specs.FreedTree.{BecomesTree}
 use Rattle.tree_change.specs.Removes.{IsNoTreeMisplacing, LeavesTree}
 use Rattle.tree_change.specs.Shows.{IsWholeTree}
 use Rattle.tree_change.proofs.AddedLemmas.{led_is}

@@ -9,7 +9,7 @@ use Rattle.quota_types.specs.Times.{StandsIn, times}
 use Rattle.quota_value.specs.QuotaValue.{Records}
 use Rattle.quota_radix.specs.Descent.{leaf_block}
 use Rattle.quota_radix.specs.Tree.{tree_blocks}
-use Rattle.quota_radix.specs.Way.{blocks_on_way}
+use Rattle.quota_radix.specs.OnWay.{blocks_on_way}
 use Rattle.quota_radix.proofs.AlongLemmas.{fifth_is_leaf}
 use Rattle.quota_radix.proofs.LinkPathLemmas.{last_in_tree}
 use Rattle.free_chains.specs.declared.heads.Heads.{Heads}

@@ -9,9 +9,10 @@ use Rattle.quota_types.specs.declared.record.Entry.{Entry}
 use Rattle.entry_codec.specs.Entry.{entries_per_block, is_unused}
 use Rattle.file_blocks.specs.Block.{block_of}
 use Rattle.quota_pages.specs.Overlay.{with_block}
-use Rattle.quota_pages.specs.Used.{KeepsBlocksBut}
+use Rattle.quota_pages.specs.KeptBlocks.{KeepsBlocksBut}
 use Rattle.quota_pages.proofs.BlockLemmas.{block_of-with_block_same, whole_block-same}
-use Rattle.tree_meaning.specs.Entries.{entry_bytes, entry_of, has_unused, record_by, used_ids}
+use Rattle.tree_meaning.specs.Entries.{entry_bytes, entry_of, has_unused, used_ids}
+use Rattle.tree_meaning.specs.EntryRecords.{record_by}
 use Rattle.tree_meaning.specs.EntryPlaces.{HasSameEntries, KeepsOutsideEntry}
 use Rattle.tree_meaning.proofs.EntryPlaceLemmas.{before_entries, ids_kept, outside_entry}
 use Rattle.tree_steps.specs.EntrySteps.{RewritesEntry, WritesEntry}

@@ -15,7 +15,8 @@ use Rattle.quota_radix.specs.Descent.{leaf_block}
 use Rattle.quota_radix.specs.Lookup.{IsWayFault, IsWayFaultOf}
 use Rattle.quota_radix.specs.TreeDefect.{IsRefOut}
 use Rattle.quota_radix.specs.WalkFault.{IsWalkFault}
-use Rattle.quota_radix.specs.Way.{IsOutOnWay, blocks_on_way}
+use Rattle.quota_radix.specs.Way.{IsOutOnWay}
+use Rattle.quota_radix.specs.OnWay.{blocks_on_way}
 use Rattle.quota_radix.specs.declared.tree_path.TreePath.{TreePath}
 use Rattle.quota_radix.specs.declared.walk_fault.WalkFault.{WalkFault}
 use Rattle.quota_radix.specs.declared.walk_fault.WalkFault.TheVariants.{Store as NoStore, Damage as Damages}
@@ -31,7 +32,8 @@ use Rattle.tree_change.specs.Enters.{EntersRecord}
 use Rattle.tree_change.specs.Fresh.{IsTakeFault}
 use Rattle.tree_change.specs.Leads.{LeadsLeaf}
 use Rattle.tree_change.specs.Overwrites.{OverwritesRecord}
-use Rattle.tree_change.specs.Putting.{IsEnterFault, IsPutFault, IsPutInFault, PutsIn, TakesCounted, blocks_taken, blocks_wanted, blocks_with, data_wanted}
+use Rattle.tree_change.specs.Putting.{IsEnterFault, IsPutFault, IsPutInFault, PutsIn, TakesCounted}
+use Rattle.tree_change.specs.BlocksWanted.{blocks_taken, blocks_wanted, blocks_with, data_wanted}
 use Rattle.tree_change.specs.Room.{FileHasRoom, LeavesRoom, NeedsBlocks}
 use Rattle.tree_change.specs.Shows.{IsNoCompleteTree, IsNoTree, IsWholeTree}
 use Rattle.tree_change.proofs.ChangeFaultLemmas.{of_later}

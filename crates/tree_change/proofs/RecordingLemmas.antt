@@ -10,15 +10,16 @@ use Rattle.quota_types.specs.declared.record.Rec.{Rec}
 use Rattle.quota_types.specs.Span.{KeepsOutside}
 use Rattle.file_blocks.specs.Block.{block_of}
 use Rattle.file_blocks.proofs.LeadsLemmas.{leads_within}
-use Rattle.entry_codec.specs.Header.{AreOf, HeaderNumbers, header_of}
+use Rattle.entry_codec.specs.Header.{HeaderNumbers, header_of}
+use Rattle.entry_codec.specs.Spelling.{AreOf}
 use Rattle.entry_codec.specs.declared.header.Header.{Header}
 use Rattle.quota_value.specs.QuotaValue.{QuotaValue, Records}
-use Rattle.quota_pages.specs.Used.{KeepsBlocksBut}
+use Rattle.quota_pages.specs.KeptBlocks.{KeepsBlocksBut}
 use Rattle.quota_radix.specs.Tree.{blocks_of, data_blocks, tree_blocks}
 use Rattle.free_chains.specs.Chain.{IsChain}
 use Rattle.free_chains.specs.declared.heads.Heads.{Heads}
 use Rattle.free_chains.proofs.SpliceLemmas.{chain-stays}
-use Rattle.tree_meaning.specs.IsTree.{heads_of}
+use Rattle.tree_meaning.specs.TreeHeads.{heads_of}
 use Rattle.tree_meaning.specs.Loose.{loose_of, nothing_loose}
 use Rattle.tree_meaning.specs.Roles.{counted_leaves, data_with}
 use Rattle.tree_meaning.specs.TreeFile.{TreeStandsFor}
@@ -28,7 +29,8 @@ use Rattle.tree_meaning.proofs.MovedLemmas.{keeps_entries}
 use Rattle.tree_steps.proofs.OneLeafLemmas.{inserted_own}
 use Rattle.tree_change.specs.Freed.{free_blocks}
 use Rattle.tree_change.specs.HeaderHeads.{SetsHeads, with_heads}
-use Rattle.tree_change.specs.Putting.{PutsIn, PutsRecord, TakesCounted, blocks_taken, blocks_with}
+use Rattle.tree_change.specs.Putting.{PutsIn, PutsRecord, TakesCounted}
+use Rattle.tree_change.specs.BlocksWanted.{blocks_taken, blocks_with}
 use Rattle.tree_change.specs.Shows.{IsNoCompleteTree, IsWholeTree}
 use Rattle.tree_change.specs.Behind.{KeepsBehind}
 use Rattle.tree_change.proofs.BehindLemmas.{behind_of, behind_then}

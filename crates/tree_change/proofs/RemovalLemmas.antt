@@ -6,14 +6,15 @@ use Rattle.quota_types.specs.declared.file_kind.Format.{Format}
 use Rattle.quota_types.proofs.TimesLemmas.{only_one, times-cons-same}
 use Rattle.quota_types.specs.Span.{KeepsOutside}
 use Rattle.file_blocks.specs.Block.{block_of}
-use Rattle.entry_codec.specs.Header.{AreOf, HeaderNumbers, header_of}
+use Rattle.entry_codec.specs.Header.{HeaderNumbers, header_of}
+use Rattle.entry_codec.specs.Spelling.{AreOf}
 use Rattle.entry_codec.specs.declared.header.Header.{Header}
 use Rattle.quota_value.specs.QuotaValue.{QuotaValue, Records}
-use Rattle.quota_pages.specs.Used.{KeepsBlocksBut}
+use Rattle.quota_pages.specs.KeptBlocks.{KeepsBlocksBut}
 use Rattle.quota_radix.specs.Tree.{data_blocks, tree_blocks}
-use Rattle.quota_radix.specs.Way.{blocks_on_way}
+use Rattle.quota_radix.specs.OnWay.{blocks_on_way}
 use Rattle.free_chains.specs.declared.heads.Heads.{Heads}
-use Rattle.tree_meaning.specs.IsTree.{heads_of}
+use Rattle.tree_meaning.specs.TreeHeads.{heads_of}
 use Rattle.tree_meaning.specs.Loose.{Loose, loose_of}
 use Rattle.tree_meaning.specs.TreeFile.{TreeStandsFor}
 use Rattle.tree_meaning.proofs.AsideLemmas.{header_changed}

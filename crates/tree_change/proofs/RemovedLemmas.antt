@@ -6,7 +6,7 @@ use Rattle.quota_types.specs.declared.file_kind.Format.{Format}
 use Rattle.quota_types.proofs.TimesLemmas.{only_one, stands_right, times-append, times-cons-same}
 use Rattle.file_blocks.proofs.LeadsLemmas.{leads_within}
 use Rattle.quota_value.specs.QuotaValue.{Records}
-use Rattle.quota_pages.specs.Used.{KeepsBlocksBut}
+use Rattle.quota_pages.specs.KeptBlocks.{KeepsBlocksBut}
 use Rattle.quota_radix.specs.Tree.{data_blocks}
 use Rattle.free_chains.specs.EntryList.{EntersList}
 use Rattle.free_chains.specs.FreeList.{GivesBlock}
@@ -25,7 +25,8 @@ use Rattle.tree_steps.proofs.OneBlockLemmas.{one_role}
 use Rattle.tree_change.specs.declared.clearing.Cleared.TheVariants.{Last, WasFull, HadRoom}
 use Rattle.tree_change.specs.Removes.{AwaitsInNoTree, EntersTree, GivesTree, IsNoTreeMisplacing, IsNoTreeOf, LeavesTree, RemovesEntry}
 use Rattle.tree_change.specs.Clears.{LosesRecord}
-use Rattle.tree_change.specs.Freed.{BecomesTree, FreesBeside, free_blocks}
+use Rattle.tree_change.specs.Freed.{free_blocks}
+use Rattle.tree_change.specs.FreedTree.{BecomesTree, FreesBeside}
 use Rattle.tree_change.specs.Shows.{IsWholeTree}
 use Rattle.tree_change.proofs.AddedLemmas.{entering_data}
 use Rattle.tree_change.proofs.FreedLemmas.{beside_then, free_are, frees_one, named_one, unnamed_one}

@@ -7,9 +7,9 @@ use Rattle.quota_types.specs.Times.{StandsIn, times}
 use Rattle.quota_types.proofs.TimesLemmas.{times-append}
 use Rattle.file_blocks.specs.Block.{block_of}
 use Rattle.quota_value.specs.QuotaValue.{Records}
-use Rattle.quota_pages.specs.Used.{KeepsBlocksBut}
+use Rattle.quota_pages.specs.KeptBlocks.{KeepsBlocksBut}
 use Rattle.quota_radix.specs.Tree.{tree_blocks}
-use Rattle.quota_radix.specs.Way.{blocks_on_way}
+use Rattle.quota_radix.specs.OnWay.{blocks_on_way}
 use Rattle.quota_radix.specs.declared.tree_path.TreePath.{TreePath}
 use Rattle.free_chains.specs.declared.heads.Heads.{Heads}
 use Rattle.tree_meaning.specs.Entries.{has_unused}
@@ -18,7 +18,7 @@ use Rattle.tree_meaning.specs.Roles.{counts_as_data, data_with, has_room}
 use Rattle.tree_meaning.proofs.ListedLemmas.{misplaced-other}
 use Rattle.tree_meaning.proofs.MovedLemmas.{times-data_with, times-roles}
 use Rattle.tree_steps.proofs.KeptLemmas.{held_or_data_stay}
-use Rattle.tree_change.specs.Freed.{FreesBeside}
+use Rattle.tree_change.specs.FreedTree.{FreesBeside}
 use Rattle.tree_change.specs.Putting.{TakesCounted}
 use Rattle.tree_change.specs.Shows.{IsWholeTree}
 use Rattle.tree_change.proofs.CountedLemmas.{counted_none}

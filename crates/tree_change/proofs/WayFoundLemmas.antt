@@ -4,13 +4,15 @@ use Rattle.std.specs.Prelude.{IsSome, is_none}
 use Rattle.std.specs.FinMap.{get}
 use Rattle.quota_types.specs.declared.file_kind.Format.{Format}
 use Rattle.quota_types.specs.declared.record.Rec.{Rec}
-use Rattle.entry_codec.specs.Header.{AreOf, header_of}
+use Rattle.entry_codec.specs.Header.{header_of}
+use Rattle.entry_codec.specs.Spelling.{AreOf}
 use Rattle.entry_codec.specs.declared.header.Header.{Header}
 use Rattle.quota_value.specs.QuotaValue.{QuotaValue, Records}
-use Rattle.quota_radix.specs.Way.{IsOutOnWay, block_on_way, blocks_on_way, digit_on_way}
+use Rattle.quota_radix.specs.Way.{IsOutOnWay, digit_on_way}
+use Rattle.quota_radix.specs.OnWay.{block_on_way, blocks_on_way}
 use Rattle.quota_radix.proofs.LinkPathLemmas.{last_in_tree}
 use Rattle.free_chains.specs.declared.heads.Heads.{Heads}
-use Rattle.tree_meaning.specs.IsTree.{heads_of}
+use Rattle.tree_meaning.specs.TreeHeads.{heads_of}
 use Rattle.tree_meaning.specs.Loose.{loose_of}
 use Rattle.tree_meaning.specs.TreeFile.{TreeStandsFor}
 use Rattle.tree_meaning.proofs.TreeLemmas.{tree_of_value}

@@ -10,8 +10,7 @@ use Rattle.file_blocks.proofs.LeadsLemmas.{leads_within}
 use Rattle.quota_pages.specs.Page.{is_lent}
 use Rattle.quota_pages.specs.Pages.{pages_of}
 use Rattle.quota_pages.specs.declared.page_buffer.Pages.{Pages}
-use Rattle.quota_radix.specs.Descent.{block_led_to, led_by}
-use Rattle.quota_radix.specs.Way.{blocks_on_way}
+use Rattle.quota_radix.specs.OnWay.{block_led_to, led_by, blocks_on_way}
 use Rattle.quota_radix.proofs.LinkPathLemmas.{front_of}
 use Rattle.quota_radix.proofs.LinkWayLemmas.{way_last}
 use Rattle.free_chains.specs.FreeList.{TakesHead}

@@ -5,7 +5,7 @@ use Rattle.file_blocks.specs.Block.{next_of, previous_of}
 use Rattle.outside.specs.Seen.{StoreSeen}
 use Rattle.quota_pages.specs.Used.{IsKnown, LendsSome, shown_over}
 use Rattle.quota_pages.specs.declared.page_buffer.Pages.{Pages}
-use Rattle.quota_radix.specs.Way.{blocks_on_way}
+use Rattle.quota_radix.specs.OnWay.{blocks_on_way}
 
 -- the blocks beside a data block: those to which its links lead, or the first one of the entry list, before which it is put
 abbrev pub AreBeside : (block next previous : ℕ) → (file : List ℕ) → (first : ℕ) → Type 0

@@ -1,9 +1,11 @@
 pub mod Behind
 pub mod Beside
+pub mod BlocksWanted
 pub mod ChangeFault
 pub mod Clears
 pub mod Enters
 pub mod Freed
+pub mod FreedTree
 pub mod Fresh
 pub mod HeaderHeads
 pub mod Leads

@@ -1,5 +1,5 @@
 -- A record that is put into a tree file.
-use Rattle.std.specs.Prelude.{◌≡◌, ◌≢◌, ℕ, ◌+◌, ◌*◌, ◌-◌, ◌<◌, ◌≤◌, ◌==◌, max, nat_lt, if◌then◌else◌, List, length, None}
+use Rattle.std.specs.Prelude.{◌≡◌, ◌≢◌, ℕ, ◌+◌, ◌*◌, ◌-◌, ◌<◌, ◌≤◌, max, List, length, None}
 use Rattle.std.specs.FinMap.{insert}
 use Rattle.quota_types.specs.Span.{KeepsOutside}
 use Rattle.quota_types.specs.Times.{StandsIn, times}
@@ -13,11 +13,11 @@ use Rattle.quota_pages.specs.Pages.{pages_of}
 use Rattle.quota_pages.specs.declared.page_buffer.Pages.{Pages}
 use Rattle.free_chains.specs.Chain.{IsChain}
 use Rattle.quota_radix.specs.Tree.{data_blocks}
-use Rattle.tree_meaning.specs.IsTree.{heads_of}
+use Rattle.tree_meaning.specs.TreeHeads.{heads_of}
 use Rattle.tree_meaning.specs.Roles.{data_with}
 use Rattle.tree_meaning.specs.TreeFile.{TreeStandsFor}
 use Rattle.quota_radix.specs.Descent.{leaf_block}
-use Rattle.quota_radix.specs.Way.{blocks_on_way}
+use Rattle.quota_radix.specs.OnWay.{blocks_on_way}
 use Rattle.free_chains.specs.declared.heads.Heads.{Heads}
 use Rattle.tree_meaning.specs.Loose.{loose_of}
 use Rattle.tree_change.specs.declared.change_fault.ChangeFault.{ChangeFault}
@@ -26,14 +26,7 @@ use Rattle.tree_change.specs.ChangeFault.{IsChangeFault}
 use Rattle.tree_change.specs.Freed.{free_blocks}
 use Rattle.tree_change.specs.Room.{FileHasRoom, NeedsBlocks}
 use Rattle.tree_change.specs.Shows.{IsNoCompleteTree, IsNoTree, IsWholeTree}
-
--- how many data blocks are taken for a record of an identifier that has none: one where no data block has room
-abbrev pub data_wanted : Heads → ℕ
-data_wanted heads = if heads.first == 0 then 1 else 0
-
--- how many blocks are taken for it, with those that its way lacks
-abbrev pub blocks_wanted : List ℕ → Heads → (id : ℕ) → ℕ
-blocks_wanted file heads id = (4 - length (blocks_on_way file heads.blocks id)) + data_wanted heads
+use Rattle.tree_change.specs.BlocksWanted.{blocks_taken, blocks_with}
 
 -- The way of an identifier ends before it leads to a data block: these blocks are on it, and no more.
 pub record EndsEarly (file : List ℕ) (blocks id : ℕ) (found : List ℕ) : Type 0 where
@@ -55,14 +48,6 @@ IsPutFault before now known format file heads limit need fault =
     IsChangeFault before now (known → IsNoCompleteTree format file heads)
     (λ blocks most. (most ≡ limit) × (limit < blocks)
     × (known → (held : List ℕ) (records : Records) → IsWholeTree (loose_of held None None) format file heads records → NeedsBlocks file heads need blocks)) fault
-
--- how many blocks are taken for a record of an identifier: none where a leaf of it is there, and otherwise those that are needed
-abbrev pub blocks_taken : List ℕ → Heads → (id : ℕ) → ℕ
-blocks_taken file heads id = if nat_lt 4 (length (blocks_on_way file heads.blocks id)) then 0 else blocks_wanted file heads id
-
--- how many blocks a file has once an identifier has a record: free ones are taken first, and new ones for the others
-abbrev pub blocks_with : List ℕ → Heads → (id : ℕ) → ℕ
-blocks_with file heads id = heads.blocks + (blocks_taken file heads id - length (free_blocks file heads))
 
 -- The record of an identifier was not put: the same, but the number of blocks is that of the file with the record.
 abbrev pub IsPutInFault : (before now : ℕ) → (known : Type 0) → Format → List ℕ → Heads → (limit id : ℕ) → ChangeFault → Type 0

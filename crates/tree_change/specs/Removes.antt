@@ -8,7 +8,8 @@ use Rattle.quota_radix.specs.declared.tree_path.TreePath.{TreePath}
 use Rattle.free_chains.specs.declared.heads.Heads.{Heads}
 use Rattle.tree_meaning.specs.Loose.{Loose, loose_of}
 use Rattle.tree_meaning.specs.Roles.{data_with, has_room}
-use Rattle.tree_change.specs.Freed.{BecomesTree, unnamed_of}
+use Rattle.tree_change.specs.Freed.{unnamed_of}
+use Rattle.tree_change.specs.FreedTree.{BecomesTree}
 use Rattle.tree_change.specs.Shows.{IsWholeTree}
 
 -- bytes are no tree with these heads in which a leaf is awaited that leads to a block, whatever is held of it

@@ -1,7 +1,8 @@
 -- What a buffer of pages shows of a tree file that is changed block by block.
 use Rattle.std.specs.Prelude.{ℕ, Bool, true, false, List, [], ◌∷◌, length, Option, None}
 use Rattle.quota_types.specs.declared.file_kind.Format.{Format}
-use Rattle.entry_codec.specs.Header.{AreOf, header_of}
+use Rattle.entry_codec.specs.Header.{header_of}
+use Rattle.entry_codec.specs.Spelling.{AreOf}
 use Rattle.entry_codec.specs.declared.header.Header.{Header}
 use Rattle.quota_value.specs.QuotaValue.{QuotaValue, Records}
 use Rattle.outside.specs.Seen.{StoreSeen}

@@ -6,14 +6,15 @@ use Rattle.quota_types.specs.declared.file_kind.Format.{Format}
 use Rattle.file_blocks.specs.Block.{block_of}
 use Rattle.quota_value.specs.QuotaValue.{Records}
 use Rattle.quota_radix.specs.Descent.{leaf_block}
-use Rattle.quota_radix.specs.Way.{blocks_on_way}
+use Rattle.quota_radix.specs.OnWay.{blocks_on_way}
 use Rattle.quota_radix.specs.declared.tree_path.TreePath.{TreePath}
 use Rattle.free_chains.specs.declared.heads.Heads.{Heads}
 use Rattle.tree_meaning.specs.Entries.{stated_count, used_ids}
 use Rattle.tree_meaning.specs.Loose.{Loose, loose_of}
 use Rattle.tree_meaning.specs.Roles.{data_with}
 use Rattle.tree_meaning.specs.TreeFile.{record_in}
-use Rattle.tree_change.specs.Freed.{FreesBeside, FreesBlocks, lost_blocks}
+use Rattle.tree_change.specs.Freed.{FreesBlocks, lost_blocks}
+use Rattle.tree_change.specs.FreedTree.{FreesBeside}
 use Rattle.tree_change.specs.Shows.{IsWholeTree}
 
 -- Bytes are a tree of which other things are loose than of another one. It has the same records, the same data blocks, and the

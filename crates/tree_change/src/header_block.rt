@@ -1,12 +1,14 @@
 //! The heads of a tree file, as its header has them.
 
 ghost use Rattle.std.specs.Prelude.{◌≡◌, ◌↔◌, ◌+◌, ◌≤◌, ◌∷◌, [], length, true, false, is_ok, IsTrue, OnErr, OnOk};
-ghost use Rattle.entry_codec.specs.Header.{AreOf, header_of};
+ghost use Rattle.entry_codec.specs.Header.{header_of};
+ghost use Rattle.entry_codec.specs.Spelling.{AreOf};
 ghost use Rattle.quota_types.specs.Span.{KeepsOutside};
 ghost use Rattle.outside.specs.Count.{Rose};
 ghost use Rattle.quota_pages.specs.Page.{HasRoomFor};
 ghost use Rattle.quota_pages.specs.Pages.{pages_of};
-ghost use Rattle.quota_pages.specs.Used.{KeepsBlocksBut, LendsSome, Uses, shown_over};
+ghost use Rattle.quota_pages.specs.Used.{LendsSome, Uses, shown_over};
+ghost use Rattle.quota_pages.specs.KeptBlocks.{KeepsBlocksBut};
 ghost use Rattle.tree_change.specs.HeaderHeads.{HasHeads, SetsHeads, with_heads};
 ghost use Rattle.tree_change.specs.Shows.{LendsOne, LooksAtOne, OfChange};
 

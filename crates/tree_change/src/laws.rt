@@ -4,7 +4,7 @@ ghost use Rattle.std.specs.Prelude.{◌≡◌, ◌<◌, ◌≤◌, ◌^◌, ℕ,
 ghost use Rattle.std.specs.FinMap.{get};
 ghost use Rattle.quota_types.specs.declared.file_kind.Format.{Format};
 ghost use Rattle.quota_value.specs.QuotaValue.{Records};
-ghost use Rattle.quota_radix.specs.Way.{blocks_on_way};
+ghost use Rattle.quota_radix.specs.OnWay.{blocks_on_way};
 ghost use Rattle.quota_radix.specs.declared.tree_path.TreePath.{TreePath};
 ghost use Rattle.free_chains.specs.declared.heads.Heads.{Heads};
 ghost use Rattle.tree_meaning.specs.Loose.{loose_of};

@@ -11,7 +11,7 @@ ghost use Rattle.quota_pages.specs.Pages.{pages_of};
 ghost use Rattle.quota_pages.specs.Used.{LooksAtSome, Uses};
 ghost use Rattle.quota_radix.specs.Descent.{leaf_block};
 ghost use Rattle.free_chains.specs.declared.heads.Heads.{Heads};
-ghost use Rattle.tree_meaning.specs.Entries.{record_by};
+ghost use Rattle.tree_meaning.specs.EntryRecords.{record_by};
 ghost use Rattle.tree_meaning.specs.TreeFile.{record_in};
 ghost use Rattle.tree_steps.specs.EntrySteps.{RewritesEntry};
 ghost use Rattle.tree_change.specs.ChangeFault.{IsStepFault};

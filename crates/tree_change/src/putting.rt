@@ -11,7 +11,8 @@ ghost use Rattle.quota_pages.specs.Used.{IsKnown, Uses, shown_over};
 ghost use Rattle.quota_radix.specs.Link.{AreBuffered};
 ghost use Rattle.tree_change.specs.ChangeFault.{IfFull};
 ghost use Rattle.tree_change.specs.Enters.{EntersEachTree};
-ghost use Rattle.tree_change.specs.Putting.{EndsEarly, IsEnterFault, IsPutFault, IsPutInFault, PutsInEachTree, PutsOverOne, TakesWithin, data_wanted};
+ghost use Rattle.tree_change.specs.Putting.{EndsEarly, IsEnterFault, IsPutFault, IsPutInFault, PutsInEachTree, PutsOverOne, TakesWithin};
+ghost use Rattle.tree_change.specs.BlocksWanted.{data_wanted};
 ghost use Rattle.tree_change.specs.Shows.{OfChange, OfEachTree};
 
 use crate::adding::add_block;

@@ -8,10 +8,11 @@ ghost use Rattle.quota_types.specs.Kept.{IsKept};
 ghost use Rattle.quota_pages.specs.Page.{is_lent, lent_count};
 ghost use Rattle.quota_pages.specs.Pages.{pages_of};
 ghost use Rattle.quota_pages.specs.Used.{IsKnown, Uses, shown_over};
-ghost use Rattle.tree_meaning.specs.IsTree.{heads_of};
+ghost use Rattle.tree_meaning.specs.TreeHeads.{heads_of};
 ghost use Rattle.tree_change.specs.ChangeFault.{IfFull, IsChangeFault};
 ghost use Rattle.tree_change.specs.HeaderHeads.{HasHeads};
-ghost use Rattle.tree_change.specs.Putting.{PutsRecord, blocks_with};
+ghost use Rattle.tree_change.specs.Putting.{PutsRecord};
+ghost use Rattle.tree_change.specs.BlocksWanted.{blocks_with};
 ghost use Rattle.tree_change.specs.Shows.{OfEachValue, OfValueChange};
 
 use crate::change_fault::ChangeFault;

@@ -8,7 +8,7 @@ ghost use Rattle.quota_pages.specs.Page.{lent_count};
 ghost use Rattle.quota_pages.specs.Pages.{pages_of};
 ghost use Rattle.quota_pages.specs.Used.{IsKnown, LooksAtSome, Uses, shown_over};
 ghost use Rattle.quota_radix.specs.Link.{AreBuffered};
-ghost use Rattle.quota_radix.specs.Way.{blocks_on_way};
+ghost use Rattle.quota_radix.specs.OnWay.{blocks_on_way};
 ghost use Rattle.tree_change.specs.Beside.{LendsBeside, LendsForRemoval};
 ghost use Rattle.tree_change.specs.ChangeFault.{IsChangeFault};
 ghost use Rattle.tree_change.specs.Removal.{HasNoWay, RemovesRecord, TakesRecord};

@@ -2,7 +2,8 @@
 use Rattle.std.proofs.Common.{◌≡◌, ℕ, ◌*◌, ◌<◌, ◌≤◌, Bool, IsTrue, Option, Some, None, Result, Ok, Err, List, Vec, Global, length, refl, sym, ap, subst, ◌∙◌, arith}
 use Rattle.std.specs.Prelude.{IfErr, IsSome}
 use Rattle.std.specs.Option.{option_map}
-use Rattle.entry_codec.specs.Header.{AreOf, header_of}
+use Rattle.entry_codec.specs.Header.{header_of}
+use Rattle.entry_codec.specs.Spelling.{AreOf}
 use Rattle.entry_codec.specs.declared.header.Header.{Header}
 use Rattle.quota_value.specs.QuotaValue.{QuotaValue}
 use Rattle.quota_types.specs.declared.damage.Damage.{Damage}

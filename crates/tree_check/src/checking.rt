@@ -1,5 +1,6 @@
 ghost use Rattle.std.specs.Prelude.{◌≡◌, ◌≢◌, ◌+◌, ◌*◌, ◌<◌, ◌≤◌, ℕ, [], length, Some, IsTrue, IfOk, IfErr, OnOk, is_ok};
-ghost use Rattle.entry_codec.specs.Header.{AreOf, header_of};
+ghost use Rattle.entry_codec.specs.Header.{header_of};
+ghost use Rattle.entry_codec.specs.Spelling.{AreOf};
 ghost use Rattle.quota_types.specs.Format.{IsTreeFormat};
 ghost use Rattle.quota_types.specs.declared.damage.Damage.{Damage};
 ghost use Rattle.quota_types.specs.declared.file_kind.Format.TheVariants.{V1};

@@ -7,15 +7,17 @@ use Rattle.quota_types.specs.Times.{StandsIn}
 use Rattle.quota_types.specs.declared.record.Rec.{Rec}
 use Rattle.opened_file.specs.FileChange.{Put, Remove}
 use Rattle.quota_value.specs.QuotaValue.{QuotaValue}
-use Rattle.entry_codec.specs.Header.{AreOf, header_of}
+use Rattle.entry_codec.specs.Header.{header_of}
+use Rattle.entry_codec.specs.Spelling.{AreOf}
 use Rattle.entry_codec.specs.declared.header.Header.{Header}
 use Rattle.free_chains.specs.declared.heads.Heads.{Heads}
 use Rattle.quota_radix.specs.Tree.{data_blocks}
-use Rattle.tree_meaning.specs.IsTree.{heads_of}
+use Rattle.tree_meaning.specs.TreeHeads.{heads_of}
 use Rattle.tree_meaning.specs.TreeFile.{TreeStandsFor}
 use Rattle.tree_file.specs.InPlace.{ChangesTree, MayChange}
 use Rattle.tree_change.specs.Freed.{FreesBlocks, free_blocks, freed_blocks}
-use Rattle.tree_change.specs.Putting.{PutsRecord, blocks_taken}
+use Rattle.tree_change.specs.Putting.{PutsRecord}
+use Rattle.tree_change.specs.BlocksWanted.{blocks_taken}
 use Rattle.tree_change.specs.Removal.{RemovesRecord}
 use Rattle.tree_file.proofs.InPlaceLemmas.{KeepsHead}
 use Rattle.tree_file.proofs.RoomLemmas.{wanted_put, wanted_removed}

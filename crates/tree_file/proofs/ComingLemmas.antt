@@ -6,14 +6,16 @@ use Rattle.quota_types.specs.Kept.{IsKept}
 use Rattle.quota_types.specs.declared.file_kind.Format.{Format}
 use Rattle.quota_types.specs.declared.record.Rec.{Rec}
 use Rattle.file_blocks.specs.Block.{block_of, leads, word_at}
-use Rattle.quota_value.specs.QuotaValue.{IsNextAfter, QuotaValue, Records}
-use Rattle.quota_radix.specs.Descent.{block_led_to, leaf_block, leaf_from, led_by}
+use Rattle.quota_value.specs.QuotaValue.{QuotaValue, Records}
+use Rattle.quota_value.specs.NextRecord.{IsNextAfter}
+use Rattle.quota_radix.specs.Descent.{leaf_block, leaf_from}
+use Rattle.quota_radix.specs.OnWay.{block_led_to, led_by}
 use Rattle.quota_radix.specs.LeafAfter.{first_after, leaf_after}
 use Rattle.quota_radix.specs.declared.tree_path.TreePath.{TreePath}
 use Rattle.quota_radix.proofs.DescentLemmas.{leaf_led_to, option_cases}
 use Rattle.quota_radix.proofs.LeafLemmas.{IsLeaf, leaf_of_block, no_leaf_of_block}
 use Rattle.quota_radix.specs.Tree.{leaves}
-use Rattle.tree_meaning.specs.Entries.{IsRecordIn}
+use Rattle.tree_meaning.specs.EntryRecords.{IsRecordIn}
 use Rattle.tree_file.specs.Coming.{AreFit, AreNext, StandsBy, entry_by}
 use Rattle.tree_file.proofs.LookupLemmas.{near_record, next_leaf, no_record}
 

@@ -13,16 +13,17 @@ use Rattle.quota_pages.specs.Pages.{name_of, pages_of}
 use Rattle.quota_pages.specs.Used.{IsKnown, Uses, shown_over}
 use Rattle.quota_pages.specs.declared.page_buffer.Pages.{Pages}
 use Rattle.quota_pages.proofs.FlushLemmas.{bytes_flushed}
-use Rattle.entry_codec.specs.Header.{AreOf, header_of}
+use Rattle.entry_codec.specs.Header.{header_of}
+use Rattle.entry_codec.specs.Spelling.{AreOf}
 use Rattle.entry_codec.specs.declared.header.Header.{Header}
 use Rattle.quota_value.specs.QuotaValue.{QuotaValue}
-use Rattle.tree_meaning.specs.IsTree.{heads_of}
+use Rattle.tree_meaning.specs.TreeHeads.{heads_of}
 use Rattle.tree_meaning.specs.TreeFile.{TreeStandsFor}
 use Rattle.tree_change.specs.ChangeFault.{IsChangeFault}
 use Rattle.tree_change.specs.declared.change_fault.ChangeFault.{ChangeFault}
 use Rattle.tree_change.specs.declared.change_fault.ChangeFault.TheVariants.{Store, Damage as Damaged, Full}
 use Rattle.tree_file.specs.InPlace.{IsLeftSo, IsNoFileOf, WritesSo}
-use Rattle.tree_change.specs.Putting.{blocks_with}
+use Rattle.tree_change.specs.BlocksWanted.{blocks_with}
 use Rattle.tree_file.proofs.GraceChangeLemmas.{known_empty}
 use Rattle.tree_file.specs.TreeChange.{TreeLeaves}
 use Rattle.tree_file.proofs.LooksUpLemmas.{shown_empty}

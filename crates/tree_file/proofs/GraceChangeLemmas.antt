@@ -4,7 +4,7 @@ use Rattle.std.specs.Prelude.{IsSomeAnd}
 use Rattle.std.proofs.lemmas.Bool.{false≢true}
 use Rattle.file_blocks.specs.Block.{bytes_of}
 use Rattle.outside.specs.Count.{Rose}
-use Rattle.outside.specs.Frame.{IsSynced}
+use Rattle.outside.specs.ManyCalls.{IsSynced}
 use Rattle.opened_file.specs.EditsOne.{EditsOne}
 use Rattle.outside.specs.Seen.{StoreSeen}
 use Rattle.outside.specs.World.{KeepsOthers, World}
@@ -13,7 +13,8 @@ use Rattle.entry_codec.specs.Header.{header_of}
 use Rattle.entry_codec.specs.declared.header.Header.{Header}
 use Rattle.quota_types.specs.declared.record.Grace.{Grace}
 use Rattle.opened_file.specs.Changes.{Changes, FileAt}
-use Rattle.opened_file.specs.FileChange.{IsLeft, SetGrace}
+use Rattle.opened_file.specs.FileChange.{SetGrace}
+use Rattle.opened_file.specs.ValueEdits.{IsLeft}
 use Rattle.opened_file.specs.FileUse.{seen_in}
 use Rattle.opened_file.specs.QuotaFile.{CountsRefusal}
 use Rattle.quota_value.specs.QuotaValue.{QuotaValue, Records, with_grace}
@@ -32,7 +33,8 @@ use Rattle.tree_meaning.specs.TreeFile.{TreeStandsFor}
 use Rattle.tree_file.specs.Coming.{HoldsComing}
 use Rattle.tree_file.specs.GraceChange.{GracesFile, IsGraceLeft}
 use Rattle.tree_file.specs.Opened.{HoldsTree}
-use Rattle.tree_file.specs.TreeChange.{IsGraced, MakesFew, TreeLeaves, WritesInPlace, tree_at, tree_laws}
+use Rattle.tree_file.specs.TreeChange.{IsGraced, MakesFew, TreeLeaves, WritesInPlace}
+use Rattle.tree_file.specs.TreeCalls.{tree_at, tree_laws}
 use Rattle.tree_file.specs.declared.coming.Coming.{Coming}
 use Rattle.tree_file.proofs.GracedLemmas.{graced_header, graced_of, graced_stands}
 use Rattle.tree_file.proofs.TornLemmas.{flushed_some, leaves_flushed, some_lent}

@@ -8,7 +8,8 @@ use Rattle.quota_types.specs.declared.record.Grace.{Grace}
 use Rattle.quota_value.specs.QuotaValue.{QuotaValue, with_grace}
 use Rattle.quota_types.specs.Span.{KeepsOutside}
 use Rattle.entry_codec.specs.declared.header.Header.{Header}
-use Rattle.entry_codec.specs.Header.{AreOf, format_of, header_of}
+use Rattle.entry_codec.specs.Header.{format_of, header_of}
+use Rattle.entry_codec.specs.Spelling.{AreOf}
 use Rattle.file_blocks.specs.Block.{block_of}
 use Rattle.tree_file.specs.TreeChange.{IsGraced}
 use Rattle.tree_meaning.specs.TreeFile.{TreeStandsFor}

@@ -4,23 +4,25 @@ use Rattle.std.specs.Prelude.{IsSome, IsSomeAnd, not}
 use Rattle.std.proofs.lemmas.Bool.{false≢true}
 use Rattle.quota_types.specs.declared.file_kind.Format.{Format}
 use Rattle.quota_types.specs.declared.record.Grace.{Grace}
-use Rattle.outside.specs.Frame.{IsSynced}
+use Rattle.outside.specs.ManyCalls.{IsSynced}
 use Rattle.opened_file.specs.EditsOne.{EditsOne}
 use Rattle.outside.specs.Seen.{StoreSeen}
 use Rattle.outside.specs.World.{World}
 use Rattle.file_blocks.specs.Block.{bytes_of}
 use Rattle.free_chains.specs.declared.heads.Heads.{Heads}
-use Rattle.entry_codec.specs.Header.{AreOf, header_of, magic_of}
+use Rattle.entry_codec.specs.Header.{header_of, magic_of}
+use Rattle.entry_codec.specs.Spelling.{AreOf}
 use Rattle.entry_codec.specs.declared.header.Header.{Header}
 use Rattle.opened_file.specs.Changes.{Changes, FileAt, LacksRoomFor}
-use Rattle.opened_file.specs.FileChange.{FileChange, changed_value, edit_by, has_nothing_to_do}
+use Rattle.opened_file.specs.FileChange.{FileChange, changed_value}
+use Rattle.opened_file.specs.ValueEdits.{edit_by, has_nothing_to_do}
 use Rattle.opened_file.specs.FileUse.{seen_in}
 use Rattle.opened_file.specs.QuotaFile.{CountsRefusal, is_store_fault}
 use Rattle.quota_value.specs.QuotaValue.{QuotaValue, Records}
 use Rattle.opened_file.specs.declared.file_use.FileUse.{FileUse}
 use Rattle.opened_file.specs.declared.quota_file.FileFault.{FileFault}
 use Rattle.opened_file.proofs.ChangesLemmas.{IsBounded, IsWanted, changes-done, changes-refused, changes-torn, changes-unwritten}
-use Rattle.tree_meaning.specs.IsTree.{heads_of}
+use Rattle.tree_meaning.specs.TreeHeads.{heads_of}
 use Rattle.tree_meaning.specs.Ids.{ids_in}
 use Rattle.tree_meaning.specs.TreeFile.{TreeStandsFor}
 use Rattle.tree_meaning.proofs.MeaningLemmas.{header_flags, header_format, header_grace, header_kind}
@@ -32,7 +34,8 @@ use Rattle.tree_file.specs.Faults.{file_fault}
 use Rattle.tree_file.specs.InPlace.{ChangesTree, EndsEarly, IsLeftSo, IsNoFileOf, MayChange, WritesSo}
 use Rattle.tree_file.specs.Opened.{HoldsTree, with_heads}
 use Rattle.tree_file.specs.Room.{blocks_wanted}
-use Rattle.tree_file.specs.TreeChange.{MakesFew, TreeChanged, TreeMakes, tree_at, tree_done_writes, tree_laws}
+use Rattle.tree_file.specs.TreeChange.{MakesFew, TreeChanged, TreeMakes}
+use Rattle.tree_file.specs.TreeCalls.{tree_at, tree_done_writes, tree_laws}
 use Rattle.tree_file.specs.declared.coming.Coming.{Coming}
 use Rattle.tree_file.proofs.HeldLemmas.{held_file, held_header}
 

@@ -11,7 +11,8 @@ use Rattle.opened_file.specs.LooksUp.{LooksUp}
 use Rattle.opened_file.specs.QuotaFile.{CountsRefusal, IfDamage, IsLookupFault}
 use Rattle.quota_value.specs.QuotaValue.{QuotaValue}
 use Rattle.opened_file.specs.declared.file_use.FileUse.{FileUse}
-use Rattle.entry_codec.specs.Header.{AreOf, header_of}
+use Rattle.entry_codec.specs.Header.{header_of}
+use Rattle.entry_codec.specs.Spelling.{AreOf}
 use Rattle.entry_codec.specs.declared.header.Header.{Header}
 use Rattle.file_blocks.specs.Block.{bytes_of}
 use Rattle.quota_pages.specs.Page.{Page, shown}
@@ -28,7 +29,7 @@ use Rattle.tree_meaning.proofs.MeaningLemmas.{header_format}
 use Rattle.tree_file.specs.Coming.{HoldsComing}
 use Rattle.tree_file.specs.Faults.{look_up_fault}
 use Rattle.tree_file.specs.Opened.{HoldsTree, IsNamedDefect}
-use Rattle.tree_file.specs.TreeChange.{tree_at, tree_laws}
+use Rattle.tree_file.specs.TreeCalls.{tree_at, tree_laws}
 use Rattle.tree_file.specs.declared.coming.Coming.{Coming}
 use Rattle.tree_file.proofs.GraceChangeLemmas.{known_empty}
 use Rattle.tree_file.proofs.HeldLemmas.{held_file, held_header}

@@ -8,15 +8,18 @@ use Rattle.quota_types.specs.declared.damage.DamageKind.TheVariants.{MissingEntr
 use Rattle.quota_types.specs.declared.file_kind.Format.{Format}
 use Rattle.quota_types.specs.declared.record.Rec.{Rec}
 use Rattle.quota_types.specs.Ids.{IsAfter}
-use Rattle.quota_value.specs.QuotaValue.{IsNextAfter, QuotaValue}
-use Rattle.entry_codec.specs.Header.{AreOf, HeaderNumbers, header_of}
+use Rattle.quota_value.specs.QuotaValue.{QuotaValue}
+use Rattle.quota_value.specs.NextRecord.{IsNextAfter}
+use Rattle.entry_codec.specs.Header.{HeaderNumbers, header_of}
+use Rattle.entry_codec.specs.Spelling.{AreOf}
 use Rattle.entry_codec.specs.declared.header.Header.{Header}
 use Rattle.quota_radix.specs.declared.tree_path.TreePath.{TreePath}
 use Rattle.file_blocks.specs.Block.{block_of}
 use Rattle.quota_types.specs.Times.{StandsIn, times}
 use Rattle.tree_meaning.specs.Defect.{IsTreeDefect}
 use Rattle.quota_radix.specs.Descent.{leaf_from}
-use Rattle.tree_meaning.specs.Entries.{IsRecordIn, used_ids}
+use Rattle.tree_meaning.specs.Entries.{used_ids}
+use Rattle.tree_meaning.specs.EntryRecords.{IsRecordIn}
 use Rattle.tree_file.specs.Leaf.{IsLeafFault}
 use Rattle.quota_radix.specs.Tree.{ids_at, leaves}
 use Rattle.tree_meaning.specs.TreeFile.{TreeStandsFor, record_in, tree_record}

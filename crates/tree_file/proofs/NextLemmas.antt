@@ -7,8 +7,10 @@ use Rattle.quota_types.specs.declared.file_kind.Format.{Format}
 use Rattle.quota_types.specs.declared.record.Entry.{Entry}
 use Rattle.quota_types.specs.declared.record.Rec.{Rec}
 use Rattle.outside.specs.Seen.{StoreSeen}
-use Rattle.quota_value.specs.QuotaValue.{IsNextAfter, QuotaValue}
-use Rattle.entry_codec.specs.Header.{AreOf, header_of}
+use Rattle.quota_value.specs.QuotaValue.{QuotaValue}
+use Rattle.quota_value.specs.NextRecord.{IsNextAfter}
+use Rattle.entry_codec.specs.Header.{header_of}
+use Rattle.entry_codec.specs.Spelling.{AreOf}
 use Rattle.entry_codec.specs.declared.header.Header.{Header}
 use Rattle.file_blocks.specs.Block.{block_of}
 use Rattle.quota_pages.specs.Used.{IsKnown, LooksAtSome, shown_over}

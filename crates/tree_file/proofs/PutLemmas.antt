@@ -5,19 +5,21 @@ use Rattle.std.specs.FinMap.{get}
 use Rattle.quota_types.specs.declared.record.Rec.{Rec}
 use Rattle.outside.specs.Seen.{StoreSeen}
 use Rattle.file_blocks.specs.Block.{bytes_of}
-use Rattle.entry_codec.specs.Header.{AreOf, header_of}
+use Rattle.entry_codec.specs.Header.{header_of}
+use Rattle.entry_codec.specs.Spelling.{AreOf}
 use Rattle.entry_codec.specs.declared.header.Header.{Header}
 use Rattle.opened_file.specs.Changes.{LacksRoomFor}
-use Rattle.opened_file.specs.FileChange.{Put, changed_value, edit_by}
+use Rattle.opened_file.specs.FileChange.{Put, changed_value}
+use Rattle.opened_file.specs.ValueEdits.{edit_by}
 use Rattle.quota_value.specs.QuotaValue.{QuotaValue}
 use Rattle.opened_file.specs.declared.file_use.FileUse.{FileUse}
-use Rattle.tree_meaning.specs.IsTree.{heads_of}
+use Rattle.tree_meaning.specs.TreeHeads.{heads_of}
 use Rattle.tree_meaning.specs.Ids.{ids_in}
 use Rattle.tree_meaning.specs.TreeFile.{TreeStandsFor}
 use Rattle.tree_file.specs.Opened.{HoldsTree}
 use Rattle.tree_file.specs.Room.{blocks_wanted}
-use Rattle.tree_change.specs.Putting.{blocks_with}
-use Rattle.tree_file.specs.TreeChange.{blocks_put, tree_at, tree_laws}
+use Rattle.tree_change.specs.BlocksWanted.{blocks_with}
+use Rattle.tree_file.specs.TreeCalls.{blocks_put, tree_at, tree_laws}
 use Rattle.tree_file.specs.declared.coming.Coming.{Coming}
 use Rattle.tree_file.proofs.HeldLemmas.{held_file, held_header, there_bytes}
 use Rattle.tree_file.proofs.RoomLemmas.{wanted_put}

@@ -11,7 +11,8 @@ use Rattle.outside.specs.Seen.{StoreSeen}
 use Rattle.outside.specs.World.{World}
 use Rattle.file_blocks.specs.Block.{bytes_of}
 use Rattle.free_chains.specs.declared.heads.Heads.{Heads}
-use Rattle.entry_codec.specs.Header.{AreOf, header_of}
+use Rattle.entry_codec.specs.Header.{header_of}
+use Rattle.entry_codec.specs.Spelling.{AreOf}
 use Rattle.entry_codec.specs.declared.header.Header.{Header}
 use Rattle.opened_file.specs.Changes.{Changes}
 use Rattle.opened_file.specs.FileChange.{Remove}
@@ -27,7 +28,7 @@ use Rattle.tree_change.specs.declared.change_fault.ChangeFault.TheVariants.{Stor
 use Rattle.tree_file.specs.Faults.{file_fault}
 use Rattle.tree_file.specs.InPlace.{EndsEarly, MayChange, WritesSo}
 use Rattle.tree_file.specs.Opened.{HoldsTree}
-use Rattle.tree_file.specs.TreeChange.{tree_at, tree_laws}
+use Rattle.tree_file.specs.TreeCalls.{tree_at, tree_laws}
 use Rattle.tree_file.specs.declared.coming.Coming.{Coming}
 use Rattle.tree_file.proofs.HeldLemmas.{held_file, held_header}
 

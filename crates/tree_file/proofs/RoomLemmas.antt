@@ -17,16 +17,16 @@ use Rattle.quota_value.specs.QuotaValue.{QuotaValue, Records}
 use Rattle.entry_codec.specs.Header.{format_of, header_of}
 use Rattle.quota_radix.specs.declared.tree_path.TreePath.{TreePath}
 use Rattle.quota_radix.specs.Tree.{leaves, numbers_of}
-use Rattle.quota_radix.specs.Way.{blocks_on_way}
+use Rattle.quota_radix.specs.OnWay.{blocks_on_way}
 use Rattle.quota_radix.proofs.AlongLemmas.{fifth_is_leaf}
 use Rattle.quota_radix.proofs.DescentLemmas.{leaf_led_to, option_cases}
-use Rattle.tree_meaning.specs.IsTree.{heads_of}
+use Rattle.tree_meaning.specs.TreeHeads.{heads_of}
 use Rattle.tree_meaning.specs.Ids.{ids_in}
 use Rattle.tree_meaning.specs.TreeFile.{TreeStandsFor, record_in}
 use Rattle.tree_meaning.proofs.MeaningLemmas.{one_meaning}
 use Rattle.tree_meaning.proofs.ValueLemmas.{sound_value, sound_value_ids}
 use Rattle.tree_file.specs.Room.{blocks_wanted, blocks_with_new, has_no_leaf, tree_blocks_wanted}
-use Rattle.tree_change.specs.Putting.{blocks_taken, blocks_with}
+use Rattle.tree_change.specs.BlocksWanted.{blocks_taken, blocks_with}
 
 -- where a test passes none of some numbers, none is found
 none_passes : (test : ℕ → Bool) (ids : List ℕ) → ((n : ℕ) → StandsIn ids n → test n ≡ false) → find test ids ≡ None

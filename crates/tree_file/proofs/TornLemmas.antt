@@ -17,7 +17,7 @@ use Rattle.opened_file.proofs.EditsOneLemmas.{edits_one-after_read, edits_one-ch
 use Rattle.quota_pages.specs.Flushed.{IsPartlyFlushed, flushed_files}
 use Rattle.quota_pages.specs.Page.{Page, is_lent, is_some_lent, lent_numbers, shown, with_page}
 use Rattle.quota_pages.specs.Pages.{name_of, pages_of}
-use Rattle.quota_pages.specs.Used.{KeepsBlocksBut}
+use Rattle.quota_pages.specs.KeptBlocks.{KeepsBlocksBut}
 use Rattle.quota_pages.specs.declared.page_buffer.Pages.{Pages}
 use Rattle.quota_pages.proofs.BufferLemmas.{block_left}
 use Rattle.quota_pages.proofs.FlushLemmas.{bytes_flushed}

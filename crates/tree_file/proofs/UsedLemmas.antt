@@ -11,7 +11,8 @@ use Rattle.quota_types.specs.declared.record.Rec.{Rec}
 use Rattle.entry_codec.specs.Entry.{entries_per_block}
 use Rattle.quota_types.specs.Times.{StandsIn, times}
 use Rattle.quota_types.proofs.TimesLemmas.{times-cons, times-cons-other, times-cons-same, stands_right}
-use Rattle.tree_meaning.specs.Entries.{IsRecordIn, entry_bytes, entry_of, used_by, used_entries, used_ids}
+use Rattle.tree_meaning.specs.Entries.{entry_bytes, entry_of, used_entries, used_ids}
+use Rattle.tree_meaning.specs.EntryRecords.{IsRecordIn, used_by}
 use Rattle.tree_meaning.specs.TreeFile.{record_in}
 use Rattle.tree_meaning.proofs.EntryLemmas.{used_ids-entries}
 use Rattle.tree_meaning.proofs.RecordLemmas.{found_or_later, used_there}

@@ -7,7 +7,8 @@ use Rattle.quota_types.specs.declared.damage.DamageKind.TheVariants.{RefOut}
 use Rattle.quota_types.specs.declared.file_kind.Format.{Format}
 use Rattle.quota_types.specs.declared.record.Rec.{Rec}
 use Rattle.outside.specs.Seen.{StoreSeen}
-use Rattle.entry_codec.specs.Header.{AreOf, header_of}
+use Rattle.entry_codec.specs.Header.{header_of}
+use Rattle.entry_codec.specs.Spelling.{AreOf}
 use Rattle.entry_codec.specs.declared.header.Header.{Header}
 use Rattle.file_blocks.specs.Block.{block_of}
 use Rattle.quota_pages.specs.Page.{is_buffered, shown}

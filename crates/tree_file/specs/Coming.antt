@@ -6,10 +6,12 @@ use Rattle.quota_types.specs.declared.file_kind.Format.{Format}
 use Rattle.quota_types.specs.declared.record.Entry.{Entry}
 use Rattle.quota_types.specs.declared.record.Rec.{Rec}
 use Rattle.file_blocks.specs.Block.{block_of, leads}
-use Rattle.quota_value.specs.QuotaValue.{IsNextAfter, QuotaValue, Records}
-use Rattle.entry_codec.specs.Header.{AreOf, header_of}
+use Rattle.quota_value.specs.QuotaValue.{QuotaValue, Records}
+use Rattle.quota_value.specs.NextRecord.{IsNextAfter}
+use Rattle.entry_codec.specs.Header.{header_of}
+use Rattle.entry_codec.specs.Spelling.{AreOf}
 use Rattle.entry_codec.specs.declared.header.Header.{Header}
-use Rattle.quota_radix.specs.Descent.{block_led_to}
+use Rattle.quota_radix.specs.OnWay.{block_led_to}
 use Rattle.tree_meaning.specs.TreeFile.{TreeStandsFor}
 use Rattle.tree_file.specs.declared.coming.Coming.{Coming}
 

@@ -1,15 +1,17 @@
 -- A record that is put into a tree file, or taken out of one, where it stands.
 use Rattle.std.specs.Prelude.{◌≡◌, ◌⊎◌, ℕ, ◌≤◌, Bool, false, IsTrue, IsSome, List, Some}
-use Rattle.entry_codec.specs.Header.{AreOf, header_of}
+use Rattle.entry_codec.specs.Header.{header_of}
+use Rattle.entry_codec.specs.Spelling.{AreOf}
 use Rattle.entry_codec.specs.declared.header.Header.{Header}
 use Rattle.file_blocks.specs.Block.{file_of}
 use Rattle.free_chains.specs.declared.heads.Heads.{Heads}
 use Rattle.outside.specs.Frame.{OnlyReads}
 use Rattle.outside.specs.Seen.{StoreSeen}
 use Rattle.outside.specs.World.{KeepsOthers, World}
-use Rattle.opened_file.specs.FileChange.{FileChange, changed_value, has_nothing_to_do}
+use Rattle.opened_file.specs.FileChange.{FileChange, changed_value}
+use Rattle.opened_file.specs.ValueEdits.{has_nothing_to_do}
 use Rattle.quota_value.specs.QuotaValue.{QuotaValue}
-use Rattle.tree_meaning.specs.IsTree.{heads_of}
+use Rattle.tree_meaning.specs.TreeHeads.{heads_of}
 use Rattle.tree_meaning.specs.Ids.{ids_in}
 use Rattle.tree_meaning.specs.TreeFile.{TreeStandsFor}
 use Rattle.tree_change.specs.declared.change_fault.ChangeFault.{ChangeFault}

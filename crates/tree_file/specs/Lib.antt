@@ -6,5 +6,6 @@ pub mod Leaf
 pub mod Opened
 pub mod Rests
 pub mod Room
+pub mod TreeCalls
 pub mod TreeChange
 pub mod View

@@ -1,10 +1,11 @@
 -- What an opened tree file holds, and what is seen of it.
 use Rattle.std.specs.Prelude.{◌≡◌, ℕ, ◌<◌, ◌≤◌, Bool, IsTrue, List, Option, Some, ⊤}
-use Rattle.opened_file.specs.QuotaFile.{FileSeen}
+use Rattle.opened_file.specs.FileSeen.{FileSeen}
 use Rattle.quota_value.specs.QuotaValue.{QuotaValue}
 use Rattle.opened_file.specs.declared.quota_file.FileFault.{FileFault}
 use Rattle.opened_file.specs.declared.quota_file.FileFault.TheVariants.{Store, Damage, Full, Memory}
-use Rattle.entry_codec.specs.Header.{AreOf, header_of}
+use Rattle.entry_codec.specs.Header.{header_of}
+use Rattle.entry_codec.specs.Spelling.{AreOf}
 use Rattle.entry_codec.specs.declared.header.Header.{Header}
 use Rattle.file_blocks.specs.Block.{bytes_of}
 use Rattle.free_chains.specs.declared.heads.Heads.{Heads}

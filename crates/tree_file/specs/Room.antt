@@ -7,8 +7,8 @@ use Rattle.file_blocks.specs.Block.{bytes_of}
 use Rattle.free_chains.specs.declared.heads.Heads.{Heads}
 use Rattle.quota_radix.specs.Tree.{leaves}
 use Rattle.quota_radix.specs.declared.tree_path.TreePath.{TreePath}
-use Rattle.tree_meaning.specs.IsTree.{heads_of}
-use Rattle.tree_change.specs.Putting.{blocks_with}
+use Rattle.tree_meaning.specs.TreeHeads.{heads_of}
+use Rattle.tree_change.specs.BlocksWanted.{blocks_with}
 
 -- no leaf of a file is that of an identifier
 abbrev pub has_no_leaf : List ℕ → (blocks id : ℕ) → Bool

@@ -1,30 +1,18 @@
 -- What a change of a tree file makes of the files.
-use Rattle.std.specs.Prelude.{◌≡◌, ◌⊎◌, ℕ, ◌*◌, ◌-◌, ◌<◌, ◌≤◌, max, Bool, IsSome, IsSomeAnd, List, length, Option, None, Some}
-use Rattle.std.specs.FinMap.{get}
+use Rattle.std.specs.Prelude.{◌≡◌, ◌⊎◌, ℕ, ◌*◌, ◌-◌, ◌<◌, ◌≤◌, max, IsSome, IsSomeAnd, List, length, Option}
 use Rattle.quota_types.specs.declared.record.Grace.{Grace}
-use Rattle.quota_types.specs.declared.record.Rec.{Rec}
 use Rattle.quota_types.specs.Bytes.{number_at}
 use Rattle.quota_types.specs.Times.{StandsIn, times}
-use Rattle.opened_file.specs.Changes.{FileAt, FileLaws, file_at, laws_of}
 use Rattle.opened_file.specs.FileChange.{FileChange, Put, Remove, SetGrace}
-use Rattle.opened_file.specs.FileUse.{seen_in}
-use Rattle.opened_file.specs.QuotaFile.{FileSeen}
-use Rattle.quota_value.specs.QuotaValue.{QuotaValue}
-use Rattle.outside.specs.Seen.{StoreSeen}
 use Rattle.quota_types.specs.Span.{KeepsOutside}
 use Rattle.outside.specs.World.{KeepsOthers, World}
-use Rattle.opened_file.specs.declared.file_use.FileUse.{FileUse}
 use Rattle.file_blocks.specs.Block.{block_of, bytes_of}
 use Rattle.entry_codec.specs.Header.{header_of}
-use Rattle.entry_codec.specs.declared.header.Header.{Header}
-use Rattle.quota_pages.specs.Used.{KeepsBlocksBut}
+use Rattle.quota_pages.specs.KeptBlocks.{KeepsBlocksBut}
 use Rattle.quota_radix.specs.Tree.{data_blocks}
-use Rattle.tree_file.specs.Opened.{HoldsTree, LacksRoom, MayRefuse}
-use Rattle.tree_file.specs.declared.coming.Coming.{Coming}
-use Rattle.tree_meaning.specs.IsTree.{heads_of}
-use Rattle.tree_meaning.specs.TreeFile.{TreeStandsFor}
+use Rattle.tree_meaning.specs.TreeHeads.{heads_of}
 use Rattle.tree_change.specs.Freed.{FreesBlocks, free_blocks, freed_blocks}
-use Rattle.tree_change.specs.Putting.{blocks_taken, blocks_with}
+use Rattle.tree_change.specs.BlocksWanted.{blocks_taken, blocks_with}
 
 -- A record of an identifier was put: of the header's block the heads alone change; there are as many blocks as that takes, no fewer than
 -- before, and more only where none is free then; there are fewer free ones by those that were taken; and a block became a data block
@@ -91,45 +79,3 @@ pub record IsTorn (before made left : List ℕ) : Type 0 where
 -- what a change that failed may leave of a tree file: the old file, or one that lies between it and the changed one
 abbrev pub TreeLeaves : (old after left : Option (List ℕ)) → Type 0
 TreeLeaves old after left = (left ≡ old) ⊎ (IsSome left × IsTorn (bytes_of old) (bytes_of after) (bytes_of left))
-
--- how many blocks a change of a tree file looks at, at most: the grace periods stand in one
-abbrev pub most_blocks : FileChange → ℕ
-most_blocks (Put id rec) = 12
-most_blocks (Remove id) = 12
-most_blocks (SetGrace grace) = 1
-
--- how many blocks it writes at most: where a record is taken away the header, the five on its way, and the two beside its data block
-abbrev pub most_written : FileChange → ℕ
-most_written (Put id rec) = 12
-most_written (Remove id) = 8
-most_written (SetGrace grace) = 1
-
--- how many calls of `read` a change of a tree file makes at most
-abbrev pub tree_change_reads : FileSeen → FileChange → ℕ
-tree_change_reads seen change = most_blocks change
-
--- how many calls of `write` it makes at most
-abbrev pub tree_change_writes : FileSeen → FileChange → ℕ
-tree_change_writes seen change = most_written change
-
--- how many blocks a put that succeeds writes at most, by the record that the identifier had: where there was one, that is written over
-abbrev pub blocks_put : Option Rec → ℕ
-blocks_put None = 12
-blocks_put (Some rec) = 1
-
--- how many calls of `write` a change makes at most that succeeds on a file that stands for this value
-abbrev pub tree_done_writes : FileSeen → QuotaValue → FileChange → ℕ
-tree_done_writes seen value (Put id rec) = blocks_put (get value.records id)
-tree_done_writes seen value (Remove id) = 8
-tree_done_writes seen value (SetGrace grace) = 1
-
--- what is said of all changes of opened tree files, whose store tells its files or doesn't
-abbrev pub tree_laws : Bool → FileLaws
-tree_laws tells =
-    laws_of tells (λ _ file value. TreeStandsFor file value) (λ seen change. TreeMakes seen.limit change) (λ _ _ old after left. TreeLeaves old after left)
-    (λ seen file _ value blocks limit. LacksRoom seen file value blocks limit) (λ _ fault. MayRefuse fault) tree_change_reads tree_change_writes tree_done_writes
-
--- an opened tree file of this name with this header and these answers that come next, which may have at most this many blocks, with
--- its store
-abbrev pub tree_at : Bool → (name : List ℕ) → FileUse → Header → Coming → ℕ → StoreSeen → FileAt
-tree_at tells name opened header coming limit store = file_at (HoldsTree tells (store.files name) header coming limit) (seen_in opened name header.format limit) store

@@ -1,10 +1,9 @@
 -- What is seen of a tree file by whoever opens it: the value that it stands for, or the first refusal that holds. Source:
 -- `v2_check_quota_file` and `v2_read_file_info` of the kernel's `fs/quota/quota_v2.c`, and quotaon(8) on formats.
-use Rattle.std.specs.Prelude.{◌≡◌, ◌≢◌, ℕ, ◌<◌, ◌≤◌, Bool, IsTrue, List, Option, Some, None, IfSome, IsSomeAnd, Result, Ok, Err, ⊤}
+use Rattle.std.specs.Prelude.{◌≡◌, ◌≢◌, ℕ, ◌<◌, ◌≤◌, List, Option, Some, None, IfSome, IsSomeAnd, Result, Ok, Err, ⊤}
 use Rattle.quota_types.specs.declared.damage.Damage.{Damage}
 use Rattle.quota_types.specs.declared.file_kind.Format.{Format}
 use Rattle.quota_types.specs.declared.file_kind.Kind.{Kind}
-use Rattle.outside.specs.Count.{Rose}
 use Rattle.quota_value.specs.QuotaValue.{QuotaValue}
 use Rattle.opened_file.specs.declared.quota_file.OpenFault.{OpenFault}
 use Rattle.opened_file.specs.declared.quota_file.OpenFault.TheVariants.{Store, NoFile, TooLarge, Memory, NotQuota, WrongKind, UnknownVersion, BadBlockCount, FormatMismatch, Damage as Damaged}
@@ -73,12 +72,3 @@ IsTreeView named kind asked limit (Err Store) = ⊥
 IsTreeView named kind asked limit (Err NoFile) = named ≡ None
 IsTreeView named kind asked limit (Err Memory) = ⊥
 IsTreeView named kind asked limit (Err fault) = FitsRequest asked limit fault × IsSomeAnd named (IsRefusedFor kind asked limit fault)
-
--- Why opening is refused: the store's count of faults rose, there is not enough memory, there is no file, or the file is refused.
--- What is said of the file holds where the store tells it; that no other refusal comes, and where the limit lies, holds always.
-abbrev pub IsTreeFault : ℕ → ℕ → Bool → Option (List ℕ) → Kind → Option Format → ℕ → OpenFault → Type 0
-IsTreeFault before now tells named kind asked limit Store = Rose before now
-IsTreeFault before now tells named kind asked limit NoFile = IsTrue tells → named ≡ None
-IsTreeFault before now tells named kind asked limit Memory = ⊤
-IsTreeFault before now tells named kind asked limit fault =
-    FitsRequest asked limit fault × (IsTrue tells → IsSomeAnd named (IsRefusedFor kind asked limit fault))

@@ -5,12 +5,15 @@ ghost use Rattle.quota_types.specs.Kept.{IsKept};
 ghost use Rattle.quota_types.specs.declared.file_kind.Format.{Format};
 ghost use Rattle.file_blocks.specs.Block.{block_of};
 ghost use Rattle.quota_types.specs.Ids.{IsAfter};
-ghost use Rattle.quota_value.specs.QuotaValue.{IsNextAfter, QuotaValue, Records};
+ghost use Rattle.quota_value.specs.QuotaValue.{QuotaValue, Records};
+ghost use Rattle.quota_value.specs.NextRecord.{IsNextAfter};
 ghost use Rattle.outside.specs.Seen.{StoreSeen};
-ghost use Rattle.entry_codec.specs.Header.{AreOf, header_of};
+ghost use Rattle.entry_codec.specs.Header.{header_of};
+ghost use Rattle.entry_codec.specs.Spelling.{AreOf};
 ghost use Rattle.entry_codec.specs.declared.header.Header.{Header};
 ghost use Rattle.quota_pages.specs.Used.{IsKnown, shown_over};
-ghost use Rattle.quota_radix.specs.Descent.{leaf_block, led_by};
+ghost use Rattle.quota_radix.specs.Descent.{leaf_block};
+ghost use Rattle.quota_radix.specs.OnWay.{led_by};
 ghost use Rattle.tree_meaning.specs.TreeFile.{TreeStandsFor};
 ghost use Rattle.tree_file.specs.Coming.{FitsComing, HoldsComing, LeadsTo, StandsBy, left_of};
 

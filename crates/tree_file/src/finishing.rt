@@ -1,7 +1,8 @@
 ghost use Rattle.std.specs.Prelude.{◌≡◌, ◌+◌, ◌≤◌, [], IsTrue, OnErr, OnOk, ◌∷◌};
 ghost use Rattle.opened_file.specs.Committed.{CommitsOnce};
 ghost use Rattle.outside.specs.Count.{Rose};
-ghost use Rattle.outside.specs.Frame.{ChangesOne, IsSynced};
+ghost use Rattle.outside.specs.Frame.{ChangesOne};
+ghost use Rattle.outside.specs.ManyCalls.{IsSynced};
 ghost use Rattle.file_blocks.specs.Block.{file_of};
 ghost use Rattle.opened_file.specs.EditsOne.{StaysUnlessWritten};
 ghost use Rattle.opened_file.specs.QuotaFile.{ChangesBlocks};

@@ -1,7 +1,7 @@
 ghost use Rattle.std.specs.Prelude.{◌≡◌, ◌+◌, ◌∷◌, ◌^◌, ◌<◌, ◌≤◌, [], length, true, false, IsTrue, OnErr, OnOk};
 ghost use Rattle.opened_file.specs.Committed.{CommitsOnce};
 ghost use Rattle.outside.specs.Count.{Rose};
-ghost use Rattle.outside.specs.Frame.{IsSynced};
+ghost use Rattle.outside.specs.ManyCalls.{IsSynced};
 ghost use Rattle.opened_file.specs.EditsOne.{EditsOne};
 ghost use Rattle.outside.specs.World.{KeepsOthers};
 ghost use Rattle.file_blocks.specs.Block.{file_of};

@@ -5,7 +5,7 @@ ghost use Rattle.quota_types.specs.Span.{KeepsOutside};
 ghost use Rattle.quota_types.specs.declared.record.Grace.{Grace};
 ghost use Rattle.entry_codec.specs.Header.{header_of};
 ghost use Rattle.entry_codec.specs.declared.header.Header.{Header};
-ghost use Rattle.opened_file.specs.QuotaFile.{FileSeen};
+ghost use Rattle.opened_file.specs.FileSeen.{FileSeen};
 ghost use Rattle.quota_value.specs.QuotaValue.{QuotaValue};
 ghost use Rattle.tree_change.specs.Behind.{KeepsBehind};
 ghost use Rattle.tree_file.specs.Opened.{HoldsTree, LacksRoom};

@@ -1,9 +1,11 @@
 ghost use Rattle.std.specs.Prelude.{◌≡◌, ◌+◌, ◌^◌, ◌<◌, ◌≤◌, length, true, None, Some, IfErr, IfOk, IfSome, is_ok, []};
 ghost use Rattle.std.specs.FinMap.{get};
-ghost use Rattle.entry_codec.specs.Header.{AreOf, header_of};
+ghost use Rattle.entry_codec.specs.Header.{header_of};
+ghost use Rattle.entry_codec.specs.Spelling.{AreOf};
 ghost use Rattle.file_blocks.specs.Block.{block_of};
 ghost use Rattle.quota_types.specs.Ids.{IsAfter};
-ghost use Rattle.quota_value.specs.QuotaValue.{IsNextAfter, QuotaValue};
+ghost use Rattle.quota_value.specs.QuotaValue.{QuotaValue};
+ghost use Rattle.quota_value.specs.NextRecord.{IsNextAfter};
 ghost use Rattle.quota_pages.specs.Page.{is_buffered};
 ghost use Rattle.quota_pages.specs.Pages.{HoldsAsBuffered, pages_of};
 ghost use Rattle.quota_pages.specs.Used.{IsKnown, LooksAtSome, shown_over};

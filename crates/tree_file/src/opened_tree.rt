@@ -94,7 +94,8 @@ impl<S: Store> QuotaFile<S> for TreeFile {
     ghost use Rattle.opened_file.specs.FileUse.{seen_in};
     ghost use Rattle.tree_file.specs.Opened.{HoldsTree, IsNamedDefect, LacksRoom, MayRefuse};
     ghost use Rattle.tree_file.specs.Rests.{held_stands, rests_on_named};
-    ghost use Rattle.tree_file.specs.TreeChange.{TreeLeaves, TreeMakes, tree_change_reads, tree_change_writes, tree_done_writes};
+    ghost use Rattle.tree_file.specs.TreeChange.{TreeLeaves, TreeMakes};
+    ghost use Rattle.tree_file.specs.TreeCalls.{tree_change_reads, tree_change_writes, tree_done_writes};
 
     ghost holds = { λ file store value. HoldsTree S.tells ((S.seen store).files (name_of file.pages))
         file.header file.coming file.limit value };

@@ -5,7 +5,7 @@ use Rattle.quota_types.specs.Times.{StandsIn, times}
 use Rattle.quota_types.proofs.TimesLemmas.{times-cons-same}
 use Rattle.quota_value.specs.QuotaValue.{Records}
 use Rattle.file_blocks.proofs.LeadsLemmas.{leads_within}
-use Rattle.quota_pages.specs.Used.{KeepsBlocksBut}
+use Rattle.quota_pages.specs.KeptBlocks.{KeepsBlocksBut}
 use Rattle.free_chains.specs.declared.heads.Heads.{Heads}
 use Rattle.free_chains.proofs.SpliceLemmas.{chain-stays, none_of_one}
 use Rattle.quota_radix.specs.declared.tree_path.TreePath.{TreePath}

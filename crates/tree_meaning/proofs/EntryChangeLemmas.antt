@@ -14,7 +14,8 @@ use Rattle.quota_types.specs.declared.record.Entry.{Entry}
 use Rattle.quota_types.specs.declared.record.Rec.{Rec}
 use Rattle.quota_types.proofs.TimesLemmas.{range_with_len-add, times-append, times-cons, times-cons-same, times_cases}
 use Rattle.entry_codec.specs.Entry.{entries_per_block, is_unused, stored_id}
-use Rattle.tree_meaning.specs.Entries.{entry_bytes, entry_of, has_unused, id_in, stored_record, used_by, used_entries, used_ids}
+use Rattle.tree_meaning.specs.Entries.{entry_bytes, entry_of, has_unused, id_in, stored_record, used_entries, used_ids}
+use Rattle.tree_meaning.specs.EntryRecords.{used_by}
 use Rattle.tree_meaning.specs.EntryPlaces.{ClearsEntry, HasOneMore, KeepsOtherEntries, OverwritesEntry, PutsEntry}
 use Rattle.tree_meaning.specs.TreeFile.{record_in}
 use Rattle.tree_meaning.proofs.EntryLemmas.{any_same, any_there, no_test, unused_none, used_ids-entries, used_one}

@@ -12,14 +12,16 @@ use Rattle.file_blocks.specs.Block.{block_of, leads, word_at}
 use Rattle.quota_value.specs.QuotaValue.{Records}
 use Rattle.file_blocks.proofs.LeadsLemmas.{leads_from, leads_within}
 use Rattle.quota_types.proofs.BytesLemmas.{number_at-zeros, number_same}
-use Rattle.quota_pages.specs.Used.{HasWord, KeepsBlocksBut}
+use Rattle.quota_pages.specs.Used.{HasWord}
+use Rattle.quota_pages.specs.KeptBlocks.{KeepsBlocksBut}
 use Rattle.free_chains.specs.declared.heads.Heads.{Heads}
 use Rattle.free_chains.proofs.SpliceLemmas.{chain-stays, names-stay}
 use Rattle.quota_radix.specs.declared.tree_path.TreePath.{TreePath}
 use Rattle.quota_radix.specs.Link.{GainsBlocks, IsLinkable, LeadsAlong, changed_blocks, whole_way, with_path}
 use Rattle.quota_radix.specs.Tree.{blocks_of, ids_at, leaves, level, lower_blocks, tree_blocks}
 use Rattle.quota_radix.specs.TreeDefect.{IsEmpty}
-use Rattle.quota_radix.specs.Way.{blocks_on_way, digit_on_way}
+use Rattle.quota_radix.specs.Way.{digit_on_way}
+use Rattle.quota_radix.specs.OnWay.{blocks_on_way}
 use Rattle.quota_radix.proofs.LinkPathLemmas.{last_in_tree}
 use Rattle.quota_radix.proofs.LinkWayLemmas.{changed_are, length-stretch, length_way, stretch, stretch_at, way_found, way_in_fresh, way_last, way_leaf}
 use Rattle.quota_radix.proofs.PathLemmas.{Rises-paths}

@@ -9,7 +9,7 @@ use Rattle.file_blocks.specs.Block.{block_of, leads, next_of, previous_of}
 use Rattle.quota_value.specs.QuotaValue.{Records}
 use Rattle.quota_types.specs.Span.{KeepsOutside}
 use Rattle.file_blocks.proofs.LeadsLemmas.{leads_within}
-use Rattle.quota_pages.specs.Used.{KeepsBlocksBut}
+use Rattle.quota_pages.specs.KeptBlocks.{KeepsBlocksBut}
 use Rattle.free_chains.specs.Chain.{IsChain}
 use Rattle.free_chains.specs.EntryList.{EntersList, LeavesList, NamesPrevious}
 use Rattle.free_chains.specs.Links.{led_to}

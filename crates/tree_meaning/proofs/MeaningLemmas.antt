@@ -5,7 +5,8 @@ use Rattle.std.specs.FinMap.{nat_cmp-IsAntisymmetric, same_map}
 use Rattle.std.proofs.lemmas.Option.{same_Some}
 use Rattle.quota_value.specs.QuotaValue.{QuotaValue}
 use Rattle.entry_codec.specs.declared.header.Header.{Header}
-use Rattle.entry_codec.specs.Header.{AreOf, header_of, magic_of}
+use Rattle.entry_codec.specs.Header.{header_of, magic_of}
+use Rattle.entry_codec.specs.Spelling.{AreOf}
 use Rattle.quota_types.specs.declared.file_kind.Format.{Format}
 use Rattle.quota_types.specs.declared.file_kind.Kind.{Kind}
 use Rattle.quota_types.specs.declared.file_kind.Kind.TheVariants.{User, Group}

@@ -14,7 +14,7 @@ use Rattle.quota_types.specs.Span.{KeepsOutside}
 use Rattle.file_blocks.proofs.LeadsLemmas.{leads_from, leads_within}
 use Rattle.file_blocks.proofs.WordLemmas.{length-block_of, same_part}
 use Rattle.quota_types.proofs.BytesLemmas.{number_same}
-use Rattle.quota_pages.specs.Used.{KeepsBlocksBut}
+use Rattle.quota_pages.specs.KeptBlocks.{KeepsBlocksBut}
 use Rattle.free_chains.specs.Chain.{IsChain}
 use Rattle.free_chains.specs.EntryList.{NamesPrevious}
 use Rattle.free_chains.specs.declared.heads.Heads.{Heads}

@@ -12,8 +12,10 @@ use Rattle.quota_types.specs.declared.file_kind.Format.{Format}
 use Rattle.quota_types.specs.declared.file_kind.Format.TheVariants.{V1, V2R0, V2R1}
 use Rattle.quota_types.specs.declared.record.Entry.{Entry}
 use Rattle.quota_types.specs.declared.record.Rec.{Rec}
-use Rattle.entry_codec.specs.Entry.{IsEntry, entries_per_block, is_unused, stored_id}
-use Rattle.tree_meaning.specs.Entries.{entry_bytes, entry_of, record_by, stored_record, used_by, used_entries}
+use Rattle.entry_codec.specs.Entry.{entries_per_block, is_unused, stored_id}
+use Rattle.entry_codec.specs.Spelling.{IsEntry}
+use Rattle.tree_meaning.specs.Entries.{entry_bytes, entry_of, stored_record, used_entries}
+use Rattle.tree_meaning.specs.EntryRecords.{record_by, used_by}
 use Rattle.tree_meaning.specs.TreeFile.{record_in}
 use Rattle.file_blocks.proofs.WordLemmas.{number_in_part}
 

@@ -6,7 +6,7 @@ use Rattle.quota_types.specs.Times.{times}
 use Rattle.quota_types.proofs.TimesLemmas.{times-append, times-cons-other, times-cons-same}
 use Rattle.quota_value.specs.QuotaValue.{Records}
 use Rattle.file_blocks.proofs.LeadsLemmas.{leads_from, leads_within}
-use Rattle.quota_pages.specs.Used.{KeepsBlocksBut}
+use Rattle.quota_pages.specs.KeptBlocks.{KeepsBlocksBut}
 use Rattle.free_chains.specs.Chain.{IsChain}
 use Rattle.free_chains.specs.FreeList.{GivesBlock, TakesBlock, TakesHead, TakesListed, TakesNew}
 use Rattle.free_chains.specs.declared.heads.Heads.{Heads}

@@ -2,9 +2,11 @@
 use Rattle.std.proofs.Common.{ℕ, List, length, sym, ap, subst, ◌∙◌}
 use Rattle.file_blocks.specs.Block.{block_of}
 use Rattle.quota_value.specs.QuotaValue.{QuotaValue}
-use Rattle.entry_codec.specs.Header.{AreOf, HeaderNumbers, header_of}
+use Rattle.entry_codec.specs.Header.{HeaderNumbers, header_of}
+use Rattle.entry_codec.specs.Spelling.{AreOf}
 use Rattle.free_chains.specs.declared.heads.Heads.{Heads}
-use Rattle.tree_meaning.specs.IsTree.{IsTree, header_with, heads_of}
+use Rattle.tree_meaning.specs.IsTree.{IsTree, header_with}
+use Rattle.tree_meaning.specs.TreeHeads.{heads_of}
 use Rattle.tree_meaning.specs.Loose.{nothing_loose}
 use Rattle.tree_meaning.specs.TreeFile.{TreeStandsFor, tree_record}
 use Rattle.tree_meaning.proofs.HeaderLemmas.{header_in_block}

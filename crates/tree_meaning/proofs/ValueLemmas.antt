@@ -12,7 +12,8 @@ use Rattle.quota_types.specs.declared.file_kind.Kind.{Kind}
 use Rattle.quota_types.specs.declared.record.Entry.{Entry}
 use Rattle.quota_types.specs.declared.record.Rec.{Rec}
 use Rattle.quota_value.specs.QuotaValue.{QuotaValue}
-use Rattle.entry_codec.specs.Header.{format_of, header_of, magic_of, AreOf}
+use Rattle.entry_codec.specs.Header.{format_of, header_of, magic_of}
+use Rattle.entry_codec.specs.Spelling.{AreOf}
 use Rattle.quota_radix.specs.declared.tree_path.TreePath.{TreePath}
 use Rattle.file_blocks.specs.Block.{block_of}
 use Rattle.quota_types.specs.Times.{StandsIn}

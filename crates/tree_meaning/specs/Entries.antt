@@ -1,8 +1,7 @@
 -- The entries of a data block. Source: the kernel's `fs/quota/quota_tree.c` (entries fill a data block behind its
 -- header of 16 bytes; one of zeros is unused).
-use Rattle.std.specs.Prelude.{◌≡◌, ℕ, ◌+◌, ◌*◌, ◌<◌, ◌==◌, Bool, if◌then◌else◌, List, [], ◌∷◌, take, drop, Option, Some, None}
+use Rattle.std.specs.Prelude.{ℕ, ◌+◌, ◌*◌, Bool, if◌then◌else◌, List, [], ◌∷◌, take, drop, Option, Some, None}
 use Rattle.std.specs.List.{filter_map, flat_map, list_any, range_with_len}
-use Rattle.std.specs.Option.{option_and_then}
 use Rattle.file_blocks.specs.Block.{block_of}
 use Rattle.quota_types.specs.Bytes.{number_at}
 use Rattle.quota_types.specs.Format.{record_size}
@@ -48,17 +47,3 @@ stated_count file number = number_at 2 (block_of file number) 8
 -- some entry of a block is unused
 unfoldable pub has_unused : Format → List ℕ → Bool
 has_unused format block = list_any (λ place. is_unused (entry_bytes format block place)) (range_with_len 0 (entries_per_block format))
-
--- the record of an entry that an identifier uses, or none
-abbrev pub used_by : ℕ → Entry → Option Rec
-used_by id entry = if entry.id == id then Some entry.rec else None
-
--- the record of a block's entry at a place, where this identifier uses it
-abbrev pub record_by : Format → List ℕ → ℕ → ℕ → Option Rec
-record_by format block id place = option_and_then (used_by id) (entry_of format (entry_bytes format block place))
-
--- a record is that of some entry of a block, which this identifier uses
-pub record IsRecordIn (format : Format) (block : List ℕ) (id : ℕ) (rec : Rec) : Type 0 where
-  pub place : ℕ
-  pub low : place < entries_per_block format
-  pub is : record_by format block id place ≡ Some rec

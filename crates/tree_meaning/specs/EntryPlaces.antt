@@ -5,7 +5,8 @@ use Rattle.quota_types.specs.Format.{record_size}
 use Rattle.quota_types.specs.declared.file_kind.Format.{Format}
 use Rattle.quota_types.specs.declared.record.Entry.{Entry}
 use Rattle.entry_codec.specs.Entry.{entries_per_block, is_unused}
-use Rattle.tree_meaning.specs.Entries.{entry_bytes, entry_of, record_by}
+use Rattle.tree_meaning.specs.Entries.{entry_bytes, entry_of}
+use Rattle.tree_meaning.specs.EntryRecords.{record_by}
 
 -- every byte of a block outside of its entry at a place is as before
 abbrev pub KeepsOutsideEntry : Format → ℕ → List ℕ → List ℕ → Type 0

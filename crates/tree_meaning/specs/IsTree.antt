@@ -6,7 +6,6 @@ use Rattle.quota_types.specs.declared.file_kind.Format.{Format}
 use Rattle.quota_types.specs.Times.{times}
 use Rattle.file_blocks.specs.Block.{leads}
 use Rattle.quota_value.specs.QuotaValue.{QuotaValue, Records}
-use Rattle.entry_codec.specs.Header.{HeaderNumbers}
 use Rattle.entry_codec.specs.declared.header.Header.{Header}
 use Rattle.quota_radix.specs.declared.tree_path.TreePath.{TreePath}
 use Rattle.quota_radix.specs.Tree.{leaves, numbers_of}
@@ -33,10 +32,6 @@ pub record IsTree (loose : Loose) (format : Format) (file : List ℕ) (len : ℕ
   pub chained : Chained loose format file heads.blocks heads.first
   pub filled : Filled loose format file heads.blocks
   pub each_record : (id : ℕ) → get records id ≡ record_by_leaves format file (counted_leaves loose file heads.blocks) id
-
--- the heads that a header has
-abbrev pub heads_of : HeaderNumbers → Heads
-heads_of numbers = record { blocks = numbers.blocks; free = numbers.free; first = numbers.first }
 
 -- the header of a file of a value with these heads
 abbrev pub header_with : QuotaValue → Heads → Header

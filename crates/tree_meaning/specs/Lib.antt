@@ -2,9 +2,11 @@ pub mod Compared
 pub mod Defect
 pub mod Entries
 pub mod EntryPlaces
+pub mod EntryRecords
 pub mod Ids
 pub mod IsTree
 pub mod KeepsEntries
 pub mod Loose
 pub mod Roles
 pub mod TreeFile
+pub mod TreeHeads

@@ -9,7 +9,8 @@ ghost use Rattle.quota_types.specs.Kept.{IsKept};
 ghost use Rattle.tree_meaning.specs.Compared.{AreEntriesOf, IsEntryDefectAt};
 ghost use Rattle.quota_types.specs.Times.{StandsIn, StandsTwiceIn, times};
 ghost use Rattle.quota_types.specs.Damage.{NamesItsId};
-ghost use Rattle.tree_meaning.specs.Entries.{IsRecordIn, entry_bytes, has_unused, id_in, record_by, used_ids};
+ghost use Rattle.tree_meaning.specs.Entries.{entry_bytes, has_unused, id_in, used_ids};
+ghost use Rattle.tree_meaning.specs.EntryRecords.{IsRecordIn, record_by};
 ghost use Rattle.tree_meaning.specs.TreeFile.{record_in};
 
 use arrayvec::ArrayVec;

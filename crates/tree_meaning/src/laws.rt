@@ -1,8 +1,8 @@
 //! Laws of tree files: what they mean, and when they mean something.
 
 ghost use Rattle.std.specs.Prelude.{◌≡◌, ◌↔◌, ℕ, List, length, Some, None};
-ghost use Rattle.entry_codec.specs.Entry.{IsEntry};
-ghost use Rattle.entry_codec.specs.Header.{AreOf, format_of, header_fault, header_of};
+ghost use Rattle.entry_codec.specs.Spelling.{IsEntry, AreOf};
+ghost use Rattle.entry_codec.specs.Header.{format_of, header_fault, header_of};
 ghost use Rattle.free_chains.specs.declared.heads.Heads.{Heads};
 ghost use Rattle.file_blocks.specs.Block.{block_of};
 ghost use Rattle.quota_value.specs.QuotaValue.{QuotaValue};
@@ -13,7 +13,8 @@ ghost use Rattle.quota_types.specs.declared.file_kind.Kind.{Kind};
 ghost use Rattle.quota_types.specs.declared.record.Rec.{Rec};
 ghost use Rattle.tree_meaning.specs.Defect.{IsTreeDefect};
 ghost use Rattle.tree_meaning.specs.Entries.{entry_of};
-ghost use Rattle.tree_meaning.specs.IsTree.{IsTree, header_with, heads_of};
+ghost use Rattle.tree_meaning.specs.IsTree.{IsTree, header_with};
+ghost use Rattle.tree_meaning.specs.TreeHeads.{heads_of};
 ghost use Rattle.tree_meaning.specs.Loose.{nothing_loose};
 ghost use Rattle.tree_meaning.specs.TreeFile.{TreeStandsFor};
 

@@ -8,14 +8,14 @@ use Rattle.quota_types.specs.Times.{StandsIn, times}
 use Rattle.quota_types.proofs.TimesLemmas.{times-append, times-cons-same}
 use Rattle.file_blocks.specs.Block.{block_of}
 use Rattle.quota_value.specs.QuotaValue.{Records}
-use Rattle.quota_pages.specs.Used.{KeepsBlocksBut}
+use Rattle.quota_pages.specs.KeptBlocks.{KeepsBlocksBut}
 use Rattle.free_chains.specs.Chain.{IsChain}
 use Rattle.free_chains.specs.declared.heads.Heads.{Heads}
 use Rattle.free_chains.proofs.ChainLemmas.{one_chain}
 use Rattle.free_chains.proofs.SpliceLemmas.{chain-stays}
 use Rattle.quota_radix.specs.declared.tree_path.TreePath.{TreePath}
 use Rattle.quota_radix.specs.Tree.{ids_at, leaves, tree_blocks}
-use Rattle.quota_radix.specs.Way.{blocks_on_way}
+use Rattle.quota_radix.specs.OnWay.{blocks_on_way}
 use Rattle.quota_radix.proofs.MoreBlocksLemmas.{KeepsReferences, tree_blocks-among_more, way-among_more}
 use Rattle.tree_meaning.specs.Entries.{has_unused, used_ids}
 use Rattle.tree_meaning.specs.IsTree.{IsTree}

@@ -11,7 +11,7 @@ use Rattle.file_blocks.specs.Block.{block_of, previous_of, word_at}
 use Rattle.quota_value.specs.QuotaValue.{Records}
 use Rattle.quota_types.specs.Span.{KeepsOutside}
 use Rattle.quota_types.proofs.BytesLemmas.{number_same}
-use Rattle.quota_pages.specs.Used.{KeepsBlocksBut}
+use Rattle.quota_pages.specs.KeptBlocks.{KeepsBlocksBut}
 use Rattle.free_chains.specs.declared.heads.Heads.{Heads}
 use Rattle.free_chains.proofs.SpliceLemmas.{chain-same, named-names, names_named, names_same, none_of_one}
 use Rattle.quota_radix.specs.declared.tree_path.TreePath.{TreePath}

@@ -9,13 +9,15 @@ use Rattle.quota_types.specs.Times.{StandsIn, times}
 use Rattle.quota_types.proofs.TimesLemmas.{only_one, stands_either, times-append, times-cons-other}
 use Rattle.file_blocks.specs.Block.{block_of, word_at}
 use Rattle.quota_value.specs.QuotaValue.{Records}
-use Rattle.quota_pages.specs.Used.{HasWord, KeepsBlocksBut}
+use Rattle.quota_pages.specs.Used.{HasWord}
+use Rattle.quota_pages.specs.KeptBlocks.{KeepsBlocksBut}
 use Rattle.free_chains.specs.declared.heads.Heads.{Heads}
 use Rattle.free_chains.proofs.SpliceLemmas.{chain-stays, names-stay}
 use Rattle.quota_radix.specs.declared.tree_path.TreePath.{TreePath}
 use Rattle.quota_radix.specs.Tree.{blocks_of, ids_at, leaves, numbers_of, tree_blocks}
 use Rattle.quota_radix.specs.Unlink.{ClearsAlong, IsUnlinkable, LosesLeaf}
-use Rattle.quota_radix.specs.Way.{blocks_on_way, digit_on_way}
+use Rattle.quota_radix.specs.Way.{digit_on_way}
+use Rattle.quota_radix.specs.OnWay.{blocks_on_way}
 use Rattle.quota_radix.proofs.DescentLemmas.{not_some}
 use Rattle.quota_radix.proofs.LeafLemmas.{no_leaf_of_block}
 use Rattle.quota_radix.proofs.LinkPathLemmas.{last_in_tree, word_kept}

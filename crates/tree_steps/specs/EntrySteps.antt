@@ -6,7 +6,7 @@ use Rattle.quota_types.specs.Span.{KeepsOutside}
 use Rattle.quota_types.specs.declared.file_kind.Format.{Format}
 use Rattle.quota_types.specs.declared.record.Entry.{Entry}
 use Rattle.file_blocks.specs.Block.{block_of}
-use Rattle.quota_pages.specs.Used.{KeepsBlocksBut}
+use Rattle.quota_pages.specs.KeptBlocks.{KeepsBlocksBut}
 use Rattle.tree_meaning.specs.Entries.{stated_count, used_ids}
 use Rattle.tree_meaning.specs.EntryPlaces.{ClearsEntry, OverwritesEntry, PutsEntry}
 

@@ -3,9 +3,9 @@
 ghost use Rattle.std.specs.Prelude.{◌≡◌, ℕ, ◌-◌, ◌^◌, ◌<◌, ◌≤◌, List, [], ◌∷◌, ◌++◌, length, slice_index, None, Some};
 ghost use Rattle.quota_types.specs.declared.file_kind.Format.{Format};
 ghost use Rattle.quota_value.specs.QuotaValue.{Records};
-ghost use Rattle.quota_pages.specs.Used.{KeepsBlocksBut};
+ghost use Rattle.quota_pages.specs.KeptBlocks.{KeepsBlocksBut};
 ghost use Rattle.quota_radix.specs.Unlink.{ClearsAlong, IsUnlinkable, LosesLeaf};
-ghost use Rattle.quota_radix.specs.Way.{blocks_on_way};
+ghost use Rattle.quota_radix.specs.OnWay.{blocks_on_way};
 ghost use Rattle.free_chains.specs.declared.heads.Heads.{Heads};
 ghost use Rattle.tree_meaning.specs.IsTree.{IsTree};
 ghost use Rattle.tree_meaning.specs.Loose.{loose_of};

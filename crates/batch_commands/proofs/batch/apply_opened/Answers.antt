@@ -9,7 +9,8 @@ use Rattle.quota_map.specs.AnyFile.{HoldsAny}
 use Rattle.quota_map.specs.View.{IsView}
 use Rattle.refusals.specs.declared.reason.Refusal.{Refusal}
 use Rattle.run_steps.specs.Taking.{Lines, input_name}
-use Rattle.batch_commands.specs.Batch.{Applying, Asked, IsOfLine, LineEditMayRefuse, is_to_end, line_reads, line_uses}
+use Rattle.batch_commands.specs.Batch.{Applying, Asked, LineEditMayRefuse, is_to_end, line_reads, line_uses}
+use Rattle.batch_commands.specs.BatchReading.{IsOfLine}
 use Rattle.batch_commands.proofs.BatchLemmas.{ends_none, then_ended, then_refused, then_stopped}
 use Rattle.run_steps.proofs.OpeningLemmas.{unwritten}
 use Rattle.run_steps.proofs.PhaseLemmas.{placed_nowhere}

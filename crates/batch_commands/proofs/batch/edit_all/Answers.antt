@@ -1,7 +1,7 @@
 use Rattle.std.proofs.Common.{◌≡◌, ◌+◌, IsTrue, List, [], drop, length, refl, ap, subst, ◌∙◌, arith, true}
 use Rattle.std.proofs.lemmas.List.{drop_all, drop_more}
 use Rattle.opened_file.specs.EditsOne.{EditsOne}
-use Rattle.opened_file.specs.QuotaFile.{FileSeen}
+use Rattle.opened_file.specs.FileSeen.{FileSeen}
 use Rattle.outside.proofs.FrameLemmas.{only_reads-none, syncs-none, syncs-then}
 use Rattle.opened_file.proofs.EditsOneLemmas.{edits_one-none, edits_one-then}
 use Rattle.set_edit.proofs.EditingLemmas.{edits-syncs}

@@ -1,6 +1,6 @@
 use Rattle.std.proofs.Common.{◌≡◌, ◌≤◌, ◌+◌, ◌*◌, true, IsTrue, drop, length}
 use Rattle.opened_file.specs.EditsOne.{EditsOne}
-use Rattle.outside.specs.Frame.{Syncs}
+use Rattle.outside.specs.ManyCalls.{Syncs}
 use Rattle.quota_value.specs.QuotaValue.{QuotaValue}
 use Rattle.quota_map.specs.AnyFile.{HoldsAny, any_seen}
 use Rattle.run_steps.specs.Act.{Way}

@@ -4,7 +4,8 @@ use Rattle.file_blocks.specs.Block.{file_of}
 use Rattle.outside.specs.World.{World}
 use Rattle.quota_map.specs.AnyFile.{HoldsAny}
 use Rattle.run_steps.specs.Done.{seen_of, tells_of}
-use Rattle.batch_commands.specs.Batch.{LineEditMayRefuse, LineSteps, line_uses, way_of}
+use Rattle.batch_commands.specs.Batch.{LineEditMayRefuse, line_uses, way_of}
+use Rattle.batch_commands.specs.BatchReading.{LineSteps}
 use Rattle.batch_commands.proofs.MemoryLemmas.{no_link, no_sink, no_source}
 use Rattle.batch_commands.proofs.ReadsLemmas.{placed_reads}
 use Rattle.batch_commands.proofs.TogetherLemmas.{carries_read, told_first}

@@ -1,5 +1,5 @@
 use Rattle.std.proofs.Common.{◌≡◌, ◌≤◌, ◌-◌, IsTrue, true}
-use Rattle.input_text.specs.InputLines.{lines_left}
+use Rattle.input_text.specs.LineReading.{lines_left}
 use Rattle.batch_commands.specs.Batch.{input_asks, lines_ask}
 use Rattle.batch_commands.proofs.BatchInputLemmas.{asked_with}
 use Rattle.batch_commands.proofs.batch_input.read_batch.Given as goal

@@ -1,7 +1,7 @@
 use Rattle.std.proofs.Common.{true, length, refl}
 use Rattle.run_steps.specs.Act.{Together}
 use Rattle.run_steps.specs.Done.{seen_of, tells_of}
-use Rattle.batch_commands.specs.Batch.{LineSteps}
+use Rattle.batch_commands.specs.BatchReading.{LineSteps}
 use Rattle.batch_commands.proofs.RefusedLemmas.{not_together}
 use Rattle.batch_commands.proofs.TogetherLemmas.{not_made_weaker, only_read-none, wanting_carried}
 use Rattle.batch_commands.proofs.together.edit_bytes.Goals as goal

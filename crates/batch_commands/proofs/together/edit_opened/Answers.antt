@@ -1,7 +1,8 @@
 use Rattle.std.proofs.Common.{refl, sym, arith}
 use Rattle.file_in_memory.specs.OneFile.{one_file_name, one_file_seen}
 use Rattle.run_steps.specs.Act.{InPlace, Together}
-use Rattle.batch_commands.specs.Batch.{LineEditMayRefuse, LineSteps}
+use Rattle.batch_commands.specs.Batch.{LineEditMayRefuse}
+use Rattle.batch_commands.specs.BatchReading.{LineSteps}
 use Rattle.batch_commands.proofs.MemoryLemmas.{memory_edit, memory_made}
 use Rattle.batch_commands.proofs.together.edit_opened.Goals as goal
 

@@ -5,8 +5,9 @@ use Rattle.outside.specs.World.{World}
 use Rattle.quota_map.specs.View.{IsView}
 use Rattle.run_steps.specs.Act.{Way}
 use Rattle.run_steps.specs.Done.{seen_of, tells_of}
-use Rattle.run_steps.specs.Run.{CarriesOut}
-use Rattle.batch_commands.specs.Batch.{LineEditMayRefuse, LineSteps, line_uses, way_of, whole_reads}
+use Rattle.run_steps.specs.Carrying.{CarriesOut}
+use Rattle.batch_commands.specs.Batch.{LineEditMayRefuse, line_uses, way_of, whole_reads}
+use Rattle.batch_commands.specs.BatchReading.{LineSteps}
 use Rattle.batch_commands.specs.Together.{AreNeverDone, AreNotTogether, IfEnded, IfNotMade, StandsAlone}
 use Rattle.batch_commands.specs.declared.together.Attempt.{Attempt}
 use Rattle.batch_commands.specs.declared.together.Attempt.TheVariants.{Ended, NotMade}

@@ -1,6 +1,7 @@
 use Rattle.outside.proofs.FrameLemmas.{keeps_others-then}
 use Rattle.std.proofs.Common.{arith}
-use Rattle.edit_journal.specs.Spans.{IsOutsideAll, spans_of}
+use Rattle.edit_journal.specs.Spans.{spans_of}
+use Rattle.edit_journal.specs.UndoSaves.{IsOutsideAll}
 use Rattle.edit_journal.proofs.LoopLemmas.{laid-step}
 use Rattle.edit_journal.proofs.TornLemmas.{outside-item, tears-less, tears-then}
 use Rattle.edit_journal.proofs.change.write_ranges.Goals as goal

@@ -3,7 +3,7 @@ use Rattle.std.proofs.Common.{◌≤◌, ◌∙◌, ap, sym, subst, List, ℕ, O
 use Rattle.std.proofs.lemmas.List.{length-map}
 use Rattle.outside.specs.World.{World}
 use Rattle.edit_journal.specs.Spans.{Span, span_of, spans_of}
-use Rattle.edit_journal.specs.Undo.{SavesFrom}
+use Rattle.edit_journal.specs.UndoSaves.{SavesFrom}
 use Rattle.edit_journal.proofs.LoopLemmas.{saves-step, spans-all}
 use Rattle.edit_journal.proofs.TornLemmas.{tears-less, tears-then}
 use Rattle.edit_journal.proofs.WrittenLemmas.{length-or_none, saves-written, written-bytes}

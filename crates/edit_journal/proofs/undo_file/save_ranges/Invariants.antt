@@ -3,7 +3,7 @@ use Rattle.outside.specs.World.{KeepsOthers}
 use Rattle.disk.specs.DiskSeen.{Passes}
 use Rattle.edit_journal.specs.Settled.{TearsFrom}
 use Rattle.edit_journal.specs.Spans.{spans_of}
-use Rattle.edit_journal.specs.Undo.{SavesFrom}
+use Rattle.edit_journal.specs.UndoSaves.{SavesFrom}
 use Rattle.edit_journal.proofs.undo_file.save_ranges.Given as goal
 
 abbrev pub invariant-loop-index : goal.invariant-loop-index

@@ -5,7 +5,7 @@ use Rattle.outside.proofs.FrameLemmas.{only_reads-none}
 use Rattle.quota_types.specs.declared.file_kind.Kind.{Kind}
 use Rattle.quota_value.specs.QuotaValue.{QuotaValue}
 use Rattle.run_steps.specs.Done.{seen_of, tells_of}
-use Rattle.run_steps.specs.Run.{CarriesOut}
+use Rattle.run_steps.specs.Carrying.{CarriesOut}
 use Rattle.file_commands.specs.Check.{UsageMayRefuse, UsageSteps, check_uses, new_format, new_value}
 use Rattle.file_commands.proofs.CheckLemmas.{anew_since}
 use Rattle.file_commands.proofs.check.check_file.Goals as goal

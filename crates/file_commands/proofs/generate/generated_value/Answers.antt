@@ -3,11 +3,11 @@ use Rattle.quota_value.specs.Listed.{records_of}
 use Rattle.quota_value.specs.QuotaValue.{QuotaValue}
 use Rattle.outside.specs.Seen.{SourceSeen}
 use Rattle.quota_map.specs.View.{most_blocks}
-use Rattle.inode_scan.specs.Generated.{generated_left}
+use Rattle.inode_scan.specs.GeneratedLeft.{generated_left}
 use Rattle.quota_map.specs.Size.{blocks_of}
 use Rattle.refusals.specs.declared.cause.Cause.TheVariants.{SourceFault}
 use Rattle.file_commands.specs.FileValue.{value_in}
-use Rattle.file_commands.specs.Generate.{WrittenSteps}
+use Rattle.file_commands.specs.Causes.{WrittenSteps}
 use Rattle.file_commands.proofs.GenerateStepLemmas.{apply_memory, scan_memory, steps_of, usage_is, value_made}
 use Rattle.file_commands.proofs.GeneratedValueLemmas.{few-generated}
 use Rattle.file_commands.proofs.generate.generated_value.Goals as goal

@@ -1,5 +1,5 @@
 use Rattle.std.proofs.Common.{Ok, inr, sym, ap, ◌∙◌, IsTrue}
-use Rattle.opened_file.specs.QuotaFile.{FileSeen}
+use Rattle.opened_file.specs.FileSeen.{FileSeen}
 use Rattle.quota_value.specs.QuotaValue.{QuotaValue}
 use Rattle.outside.proofs.FrameLemmas.{only_reads-any, syncs-after_read, syncs-read}
 use Rattle.quota_map.specs.AnyFile.{any_seen}

@@ -1,7 +1,7 @@
 use Rattle.std.proofs.Common.{ℕ, true, List, [], ◌∷◌, ◌++◌, Ok, rules, sym, ap, subst, ◌∙◌, arith}
 use Rattle.std.proofs.lemmas.Result.{err_from_is_err_and}
 use Rattle.input_text.specs.InputLines.{input_lines}
-use Rattle.inode_scan.specs.Scan.{listing_left}
+use Rattle.inode_scan.specs.ListingFaults.{listing_left}
 use Rattle.inode_scan.specs.Tally.{IsBounded, IsRefusedLine}
 use Rattle.inode_scan.proofs.ScanLemmas.{IsReadTo, end_refused, given_line, given_number, is_whole, line_refused, none_given, read_more, start_behind, start_bounded, start_few, start_last}
 use Rattle.inode_scan.proofs.scanning.scan.Goals as goal

@@ -1,6 +1,6 @@
 use Rattle.std.proofs.Common.{◌≡◌, ℕ, ◌+◌, ◌-◌, ◌≤◌, List, true}
 use Rattle.input_text.specs.InputLines.{input_lines}
-use Rattle.inode_scan.specs.Scan.{listing_left}
+use Rattle.inode_scan.specs.ListingFaults.{listing_left}
 use Rattle.inode_scan.specs.Tally.{IsBounded}
 use Rattle.inode_scan.proofs.ScanLemmas.{IsReadTo}
 use Rattle.inode_scan.proofs.scanning.scan.Given as goal

@@ -1,5 +1,5 @@
 use Rattle.std.proofs.Common.{ap}
-use Rattle.script_lines.specs.Script.{line_read}
+use Rattle.script_lines.specs.ScriptReading.{line_read}
 use Rattle.quota_cli.proofs.ScriptLemmas.{line_carried}
 use Rattle.quota_cli.proofs.script.carry_line.Goals as goal
 

@@ -3,7 +3,7 @@ use Rattle.std.proofs.lemmas.List.{drop_all, drop_more}
 use Rattle.std.specs.Prelude.{IfSome}
 use Rattle.refusals.specs.declared.reason.Refusal.{Refusal}
 use Rattle.run_steps.specs.Done.{seen_of, tells_of}
-use Rattle.script_lines.specs.Script.{IsOfScript, line_read}
+use Rattle.script_lines.specs.ScriptReading.{IsOfScript, line_read}
 use Rattle.script_lines.specs.declared.script.ScriptLine.{ScriptLine}
 use Rattle.quota_cli.specs.Carrying.{AreCarried}
 use Rattle.quota_cli.proofs.ScriptLemmas.{lines_done, lines_passed, lines_refused, lines_stopped}

@@ -1,7 +1,7 @@
 use Rattle.std.proofs.Common.{◌≡◌, Result, drop, map}
 use Rattle.refusals.specs.declared.reason.Refusal.{Refusal}
 use Rattle.run_steps.specs.Done.{RunSeen, seen_of, tells_of}
-use Rattle.script_lines.specs.Script.{line_read}
+use Rattle.script_lines.specs.ScriptReading.{line_read}
 use Rattle.quota_cli.specs.Carrying.{AreCarried}
 use Rattle.quota_cli.proofs.script.carry_lines.Given as goal
 

@@ -1,5 +1,5 @@
 use Rattle.std.proofs.Common.{ap}
-use Rattle.script_lines.specs.Script.{script_read}
+use Rattle.script_lines.specs.ScriptReading.{script_read}
 use Rattle.quota_cli.proofs.ScriptLemmas.{script_carried, script_stands, script_unread, unread_stands}
 use Rattle.quota_cli.proofs.script.run_script.Goals as goal
 

@@ -6,9 +6,9 @@ use Rattle.quota_types.specs.Kept.{IsKept}
 use Rattle.quota_types.specs.declared.file_kind.Format.{Format}
 use Rattle.quota_types.specs.declared.record.Entry.{Entry}
 use Rattle.quota_value.specs.Listed.{ids_of}
-use Rattle.opened_file.specs.QuotaFile.{FileSeen}
+use Rattle.opened_file.specs.FileSeen.{FileSeen}
 use Rattle.quota_types.specs.Ids.{IsAfter}
-use Rattle.quota_value.specs.QuotaValue.{IsNextAfter}
+use Rattle.quota_value.specs.NextRecord.{IsNextAfter}
 use Rattle.opened_file.proofs.LooksUpLemmas.{looks_up-answer, looks_up-more, looks_up-none, looks_up-within}
 use Rattle.opened_file.proofs.PassingLemmas.{passed_all, passed_end, passed_found, passed_none, passed_part, passing_still}
 use Rattle.quota_map.specs.Passing.{any_adds_up}

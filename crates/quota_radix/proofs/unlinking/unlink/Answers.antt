@@ -1,7 +1,8 @@
 use Rattle.std.proofs.Common.{true, ◌≡◌, ℕ, ◌+◌, ◌-◌, ◌++◌, ◌∷◌, [], List, length, take, get_or, subst, arith}
 use Rattle.std.proofs.lemmas.Result.{IfOk-weaker}
 use Rattle.quota_pages.specs.Pages.{pages_of}
-use Rattle.quota_pages.specs.Used.{IsKnown, KeepsBlocksBut, LendsSome, missing_among, shown_over}
+use Rattle.quota_pages.specs.Used.{IsKnown, LendsSome, missing_among, shown_over}
+use Rattle.quota_pages.specs.KeptBlocks.{KeepsBlocksBut}
 use Rattle.quota_pages.proofs.UsedLemmas.{looks_then_lends, shown_over-lends, shown_over-looks}
 use Rattle.quota_radix.specs.Link.{AreBuffered}
 use Rattle.quota_radix.proofs.UnlinkEndLemmas.{emptied_end, loses_end, words_end}

@@ -1,5 +1,5 @@
 use Rattle.std.proofs.Common.{◌++◌, ◌≤◌, IsTrue, take, List, ℕ}
-use Rattle.outside.specs.Text.{IsGathered}
+use Rattle.outside.specs.Gathering.{IsGathered}
 use Rattle.refusals.specs.Piece.{joined}
 use Rattle.refusals.proofs.piece.put_pieces.Given as goal
 

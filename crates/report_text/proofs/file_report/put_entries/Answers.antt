@@ -1,9 +1,9 @@
 use Rattle.std.proofs.Common.{◌^◌, ◌<◌, sym, subst, IfSome, IsTrue, Ok, Err, Option, Some, refl, arith}
 use Rattle.std.proofs.lemmas.Result.{err_from_is_err_and}
 use Rattle.quota_types.specs.declared.record.Entry.{Entry}
-use Rattle.opened_file.specs.QuotaFile.{FileSeen}
+use Rattle.opened_file.specs.FileSeen.{FileSeen}
 use Rattle.quota_types.specs.Ids.{IsAfter}
-use Rattle.quota_value.specs.QuotaValue.{IsNextAfter}
+use Rattle.quota_value.specs.NextRecord.{IsNextAfter}
 use Rattle.opened_file.proofs.LooksUpLemmas.{looks_up-answer, looks_up-none, looks_up-stopped, looks_up-then, looks_up-within}
 use Rattle.opened_file.proofs.PassingLemmas.{passed_all, passed_end, passed_found, passed_none, passed_part, passing_still}
 use Rattle.report_text.proofs.LookingLemmas.{last_one, one_more, sink_failed}

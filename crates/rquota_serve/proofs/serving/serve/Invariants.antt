@@ -3,7 +3,7 @@ use Rattle.quota_map.specs.AnyFile.{any_get_reads}
 use Rattle.rquota_serve.specs.Exports.{Serves}
 use Rattle.rquota_serve.specs.Looking.{LooksUpIn, exports_at}
 use Rattle.rquota_serve.specs.Refusal.{file_in}
-use Rattle.rquota_serve.specs.Serving.{ReadsForTaken, Served}
+use Rattle.rquota_serve.specs.Served.{ReadsForTaken, Served}
 use Rattle.rquota_serve.proofs.serving.serve.Given as goal
 
 abbrev pub invariant-loop-call : goal.invariant-loop-call

@@ -1,5 +1,5 @@
 use Rattle.std.proofs.Common.{◌≡◌, ◌≤◌, ◌-◌, IsTrue, true}
-use Rattle.input_text.specs.InputLines.{lines_left}
+use Rattle.input_text.specs.LineReading.{lines_left}
 use Rattle.script_lines.specs.Script.{lines_say, script_said}
 use Rattle.script_lines.proofs.ReadingLemmas.{said_with}
 use Rattle.script_lines.proofs.reading.read_lines.Given as goal

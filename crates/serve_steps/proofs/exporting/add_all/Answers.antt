@@ -1,6 +1,7 @@
 use Rattle.std.proofs.Common.{◌≡◌, ◌+◌, ◌≤◌, List, length, take, sym, ap, subst, ◌∙◌, arith}
 use Rattle.std.proofs.lemmas.List.{length-map}
-use Rattle.rquota_serve.specs.Adding.{AreToldOf, IsRefusedAt, MayAddAll, NewSeen, ReadsEach, new_seen, news_seen, reads_of}
+use Rattle.rquota_serve.specs.Adding.{AreToldOf, MayAddAll, NewSeen, reads_of}
+use Rattle.rquota_serve.specs.Added.{IsRefusedAt, ReadsEach, new_seen, news_seen}
 use Rattle.rquota_serve.specs.Exports.{Serves, exports_seen}
 use Rattle.rquota_serve.proofs.AddingLemmas.{all_seen, asked_all, few_news, stays_each, stays_refused, synced_each, synced_refused}
 use Rattle.serve_steps.specs.Exporting.{new_of, news_of}

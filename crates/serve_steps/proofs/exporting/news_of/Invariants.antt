@@ -1,5 +1,5 @@
 use Rattle.std.proofs.Common.{◌≡◌, length, take}
-use Rattle.rquota_serve.specs.Adding.{news_seen}
+use Rattle.rquota_serve.specs.Added.{news_seen}
 use Rattle.serve_steps.specs.Exporting.{news_of}
 use Rattle.serve_steps.proofs.exporting.news_of.Given as goal
 

@@ -1,6 +1,6 @@
 use Rattle.std.proofs.Common.{◌≤◌, IsTrue, take}
 use Rattle.std.specs.List.{flat_map}
-use Rattle.outside.specs.Text.{IsGathered}
+use Rattle.outside.specs.Gathering.{IsGathered}
 use Rattle.set_edit.proofs.form.write_pieces.Given as goal
 
 abbrev pub invariant-loop-piece : goal.invariant-loop-piece

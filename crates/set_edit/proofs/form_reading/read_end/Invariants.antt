@@ -1,5 +1,6 @@
 use Rattle.std.proofs.Common.{◌≡◌, ◌≤◌, ◌-◌, IsTrue, true}
-use Rattle.set_edit.specs.FormReading.{form_lines, no_more_words}
+use Rattle.set_edit.specs.FormReading.{no_more_words}
+use Rattle.set_edit.specs.FormFaults.{form_lines}
 use Rattle.set_edit.proofs.form_reading.read_end.Given as goal
 
 abbrev pub invariant-loop-line : goal.invariant-loop-line

@@ -1,6 +1,7 @@
 use Rattle.std.proofs.Common.{ℕ, ap, subst, sym, ◌∙◌, arith}
 use Rattle.std.proofs.lemmas.Result.{err_from_is_err_and}
-use Rattle.set_edit.specs.FormReading.{IsFormFault, form_lines, no_more_words}
+use Rattle.set_edit.specs.FormReading.{no_more_words}
+use Rattle.set_edit.specs.FormFaults.{IsFormFault, form_lines}
 use Rattle.set_edit.proofs.FormReadingLemmas.{fault-then, form_read-start, step_on}
 use Rattle.set_edit.proofs.form_reading.read_form.Goals as goal
 

@@ -1,7 +1,7 @@
 use Rattle.std.proofs.Common.{ℕ, List, sym, ap, subst}
 use Rattle.std.specs.Prelude.{IsSome}
 use Rattle.std.specs.Result.{is_ok}
-use Rattle.tree_meaning.specs.Entries.{record_by}
+use Rattle.tree_meaning.specs.EntryRecords.{record_by}
 use Rattle.quota_pages.proofs.UsedLemmas.{lends_of_page, shown_over-lends, shown_over-lent}
 use Rattle.tree_change.proofs.ClearsLemmas.{cleared_so, loses}
 use Rattle.tree_change.proofs.clearing.clear_at.Goals as goal

@@ -6,7 +6,8 @@ use Rattle.quota_pages.specs.Used.{IsKnown, shown_over}
 use Rattle.tree_change.specs.ChangeFault.{IsStepFault}
 use Rattle.tree_change.specs.Enters.{EntersEachTree}
 use Rattle.tree_change.specs.Fresh.{IsTakeFault}
-use Rattle.tree_change.specs.Putting.{IsEnterFault, data_wanted}
+use Rattle.tree_change.specs.Putting.{IsEnterFault}
+use Rattle.tree_change.specs.BlocksWanted.{data_wanted}
 use Rattle.tree_change.specs.Shows.{IsNoTree, OfChange}
 use Rattle.tree_change.proofs.PuttingLemmas.{step_enters, take_enters, wanted_none, wanted_one}
 use Rattle.tree_change.proofs.WithinLemmas.{on_ok_both, takes_none}

@@ -8,12 +8,13 @@ use Rattle.quota_pages.specs.Used.{IsKnown, shown_over}
 use Rattle.quota_pages.proofs.UsedLemmas.{shown_over-looks}
 use Rattle.quota_radix.specs.Descent.{leaf_block}
 use Rattle.quota_radix.specs.Link.{AreBuffered}
-use Rattle.quota_radix.specs.Way.{blocks_on_way}
+use Rattle.quota_radix.specs.OnWay.{blocks_on_way}
 use Rattle.free_chains.specs.declared.heads.Heads.{Heads}
 use Rattle.tree_meaning.specs.Loose.{loose_of}
 use Rattle.tree_change.specs.ChangeFault.{IsStepFault}
 use Rattle.tree_change.specs.Overwrites.{OverwritesRecord}
-use Rattle.tree_change.specs.Putting.{EndsEarly, IsPutFault, IsPutInFault, PutsIn, blocks_taken, data_wanted}
+use Rattle.tree_change.specs.Putting.{EndsEarly, IsPutFault, IsPutInFault, PutsIn}
+use Rattle.tree_change.specs.BlocksWanted.{blocks_taken, data_wanted}
 use Rattle.tree_change.specs.Shows.{IsNoCompleteTree, IsWholeTree}
 use Rattle.tree_change.proofs.ChangeFaultLemmas.{full_then, of_full, walk_not_full}
 use Rattle.tree_change.proofs.PuttingLemmas.{long_way_found, no_record_of, over_refused, put_over_whole, put_refused, short_way_found, taken_absent, wanted_as, way_refused, whole_way_found}

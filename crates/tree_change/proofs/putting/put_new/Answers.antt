@@ -8,7 +8,8 @@ use Rattle.quota_pages.proofs.UsedLemmas.{shown_over-looks}
 use Rattle.free_chains.specs.declared.heads.Heads.{Heads}
 use Rattle.tree_meaning.specs.Loose.{loose_of}
 use Rattle.tree_change.specs.Enters.{EntersRecord}
-use Rattle.tree_change.specs.Putting.{EndsEarly, IsPutFault, data_wanted}
+use Rattle.tree_change.specs.Putting.{EndsEarly, IsPutFault}
+use Rattle.tree_change.specs.BlocksWanted.{data_wanted}
 use Rattle.tree_change.specs.Shows.{IsWholeTree}
 use Rattle.tree_change.proofs.ChangeFaultLemmas.{if_full, of_full}
 use Rattle.tree_change.proofs.PuttingLemmas.{CanGoOn, goes_on, goes_on_entered, no_record_of, no_room_refused, put_whole, step_refused, take_enters}

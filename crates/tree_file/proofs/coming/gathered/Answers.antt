@@ -1,6 +1,6 @@
 use Rattle.std.proofs.Common.{◌≡◌, ℕ, ◌<◌, List, [], ◌∷◌, ◌++◌, Some, sym, ap, subst, ◌∙◌}
 use Rattle.quota_types.specs.declared.record.Rec.{Rec}
-use Rattle.quota_value.specs.QuotaValue.{IsNextAfter}
+use Rattle.quota_value.specs.NextRecord.{IsNextAfter}
 use Rattle.tree_file.specs.Coming.{AreFit, AreNext, StandsBy}
 use Rattle.tree_file.proofs.ComingLemmas.{AreFit-push, AreNext-push, last_of, last_of-push}
 use Rattle.tree_file.proofs.coming.gathered.Goals as goal

@@ -70,22 +70,28 @@ returns-in_ok-finish-in-Ok-clause-commits g c =
     let S = g.S.Store in
     let put = c.in-Ok.ensures in
     once_behind S.commits S.commits_on _ _ _ _ _ _ c.put_record.ensures.commits c.finish.ensures.commits
-    (λ flushed told. (c.in-Ok.heads, written S.tells true 12 (S.seen c.args.store.now) (S.seen c.put_record.new.store) c.args.pages.now c.put_record.new.pages c.requires.empty put.uses
-    (MayChange c.args.limit (Put c.args.id c.args.rec.now) c.args.header.now c.in-Ok.heads)
-    (λ of value stands. put_changes c.args.limit c.args.id c.args.rec.now value _ _ c.in-Ok.heads (omega arith) stands put.few.1
-    (put.shown (known_empty S.tells (S.seen c.args.store.now) c.args.pages.now c.requires.empty told) of value stands))
-    (S.seen c.finish.new.store).files (flushed told)))
+    (λ flushed told. (
+      c.in-Ok.heads,
+      written S.tells true 12 (S.seen c.args.store.now) (S.seen c.put_record.new.store) c.args.pages.now c.put_record.new.pages c.requires.empty put.uses
+          (MayChange c.args.limit (Put c.args.id c.args.rec.now) c.args.header.now c.in-Ok.heads)
+          (λ of value stands. put_changes c.args.limit c.args.id c.args.rec.now value _ _ c.in-Ok.heads (omega arith) stands put.few.1
+          (put.shown (known_empty S.tells (S.seen c.args.store.now) c.args.pages.now c.requires.empty told) of value stands))
+          (S.seen c.finish.new.store).files (flushed told),
+    ))
 
 pub returns-in_err-finish-in-Ok-clause-commits : goal.returns-in_err-finish-in-Ok-clause-commits
 returns-in_err-finish-in-Ok-clause-commits g c =
     let S = g.S.Store in
     let put = c.in-Ok.ensures in
     once_behind S.commits S.commits_on _ _ _ _ _ _ c.put_record.ensures.commits c.finish.ensures.commits
-    (λ flushed told. (c.in-Ok.heads, written S.tells true 12 (S.seen c.args.store.now) (S.seen c.put_record.new.store) c.args.pages.now c.put_record.new.pages c.requires.empty put.uses
-    (MayChange c.args.limit (Put c.args.id c.args.rec.now) c.args.header.now c.in-Ok.heads)
-    (λ of value stands. put_changes c.args.limit c.args.id c.args.rec.now value _ _ c.in-Ok.heads (omega arith) stands put.few.1
-    (put.shown (known_empty S.tells (S.seen c.args.store.now) c.args.pages.now c.requires.empty told) of value stands))
-    (S.seen c.finish.new.store).files (flushed told)))
+    (λ flushed told. (
+      c.in-Ok.heads,
+      written S.tells true 12 (S.seen c.args.store.now) (S.seen c.put_record.new.store) c.args.pages.now c.put_record.new.pages c.requires.empty put.uses
+          (MayChange c.args.limit (Put c.args.id c.args.rec.now) c.args.header.now c.in-Ok.heads)
+          (λ of value stands. put_changes c.args.limit c.args.id c.args.rec.now value _ _ c.in-Ok.heads (omega arith) stands put.few.1
+          (put.shown (known_empty S.tells (S.seen c.args.store.now) c.args.pages.now c.requires.empty told) of value stands))
+          (S.seen c.finish.new.store).files (flushed told),
+    ))
 
 pub returns-in-Err-clause-commits : goal.returns-in-Err-clause-commits
 returns-in-Err-clause-commits g c =

@@ -76,11 +76,13 @@ returns-in_ok-finish-in-Ok-Some-clause-commits g c =
     let removed = c.in-Ok-Some.ensures in
     once_behind S.commits S.commits_on _ _ _ _ _ _ c.remove_record.ensures.commits c.finish.ensures.commits
     (λ flushed told.
-    let known = known_empty S.tells (S.seen c.args.store.now) c.args.pages.now c.requires.empty told in
-    (c.in-Ok-Some.heads, written S.tells true 12 (S.seen c.args.store.now) (S.seen c.remove_record.new.store) c.args.pages.now c.remove_record.new.pages c.requires.empty removed.uses
-    (MayChange c.args.header.now.blocks (Remove c.args.id) c.args.header.now c.in-Ok-Some.heads)
-    (removed_may c.args.header.now c.args.id _ _ c.in-Ok-Some.heads ((rw c.in-Ok-Some.field-0-is at removed.shown) known) ((rw c.in-Ok-Some.field-0-is at removed.found) known))
-    (S.seen c.finish.new.store).files (flushed told)))
+    let known = known_empty S.tells (S.seen c.args.store.now) c.args.pages.now c.requires.empty told in (
+      c.in-Ok-Some.heads,
+      written S.tells true 12 (S.seen c.args.store.now) (S.seen c.remove_record.new.store) c.args.pages.now c.remove_record.new.pages c.requires.empty removed.uses
+          (MayChange c.args.header.now.blocks (Remove c.args.id) c.args.header.now c.in-Ok-Some.heads)
+          (removed_may c.args.header.now c.args.id _ _ c.in-Ok-Some.heads ((rw c.in-Ok-Some.field-0-is at removed.shown) known) ((rw c.in-Ok-Some.field-0-is at removed.found) known))
+          (S.seen c.finish.new.store).files (flushed told),
+    ))
 
 pub returns-in_err-finish-in-Ok-Some-clause-commits : goal.returns-in_err-finish-in-Ok-Some-clause-commits
 returns-in_err-finish-in-Ok-Some-clause-commits g c =
@@ -88,11 +90,13 @@ returns-in_err-finish-in-Ok-Some-clause-commits g c =
     let removed = c.in-Ok-Some.ensures in
     once_behind S.commits S.commits_on _ _ _ _ _ _ c.remove_record.ensures.commits c.finish.ensures.commits
     (λ flushed told.
-    let known = known_empty S.tells (S.seen c.args.store.now) c.args.pages.now c.requires.empty told in
-    (c.in-Ok-Some.heads, written S.tells true 12 (S.seen c.args.store.now) (S.seen c.remove_record.new.store) c.args.pages.now c.remove_record.new.pages c.requires.empty removed.uses
-    (MayChange c.args.header.now.blocks (Remove c.args.id) c.args.header.now c.in-Ok-Some.heads)
-    (removed_may c.args.header.now c.args.id _ _ c.in-Ok-Some.heads ((rw c.in-Ok-Some.field-0-is at removed.shown) known) ((rw c.in-Ok-Some.field-0-is at removed.found) known))
-    (S.seen c.finish.new.store).files (flushed told)))
+    let known = known_empty S.tells (S.seen c.args.store.now) c.args.pages.now c.requires.empty told in (
+      c.in-Ok-Some.heads,
+      written S.tells true 12 (S.seen c.args.store.now) (S.seen c.remove_record.new.store) c.args.pages.now c.remove_record.new.pages c.requires.empty removed.uses
+          (MayChange c.args.header.now.blocks (Remove c.args.id) c.args.header.now c.in-Ok-Some.heads)
+          (removed_may c.args.header.now c.args.id _ _ c.in-Ok-Some.heads ((rw c.in-Ok-Some.field-0-is at removed.shown) known) ((rw c.in-Ok-Some.field-0-is at removed.found) known))
+          (S.seen c.finish.new.store).files (flushed told),
+    ))
 
 pub returns-in-Ok-None-clause-commits : goal.returns-in-Ok-None-clause-commits
 returns-in-Ok-None-clause-commits g c =

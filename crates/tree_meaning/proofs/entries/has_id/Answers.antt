@@ -1,7 +1,7 @@
 use Rattle.std.proofs.Common.{◌≡◌, Bool, None, sym, subst, inl, inr}
 use Rattle.std.proofs.lemmas.Bool.Decides.{eqb_tells}
 use Rattle.std.specs.Bool.{OnFalse}
-use Rattle.tree_meaning.specs.Entries.{record_by}
+use Rattle.tree_meaning.specs.EntryRecords.{record_by}
 use Rattle.tree_meaning.proofs.RecordLemmas.{other_entry}
 use Rattle.tree_meaning.proofs.entries.has_id.Goals as goal
 

@@ -1,5 +1,6 @@
 use Rattle.std.proofs.Common.{ℕ, ◌≡◌, ◌++◌, ◌+◌, ◌-◌, codes, ap, ◌∙◌}
-use Rattle.inode_scan.specs.Generated.{first_alike, generated_left, lines_behind, lines_text, number_behind, row_made, row_text}
+use Rattle.inode_scan.specs.Generated.{first_alike, lines_text, number_behind, row_made, row_text}
+use Rattle.inode_scan.specs.GeneratedLeft.{generated_left, lines_behind}
 use Rattle.inode_scan.specs.declared.row.Row.{Row}
 use Rattle.inode_scan.proofs.GeneratingLemmas.{left_made, left_none}
 use Rattle.inode_scan.proofs.generated.Generated.make_line.Goals as goal

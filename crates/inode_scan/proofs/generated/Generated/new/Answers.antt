@@ -1,6 +1,6 @@
 use Rattle.std.proofs.Common.{List, ℕ, ap}
 use Rattle.outside.specs.Seen.{SourceSeen}
-use Rattle.inode_scan.specs.Generated.{generated_left}
+use Rattle.inode_scan.specs.GeneratedLeft.{generated_left}
 use Rattle.inode_scan.proofs.GeneratingLemmas.{left_first}
 use Rattle.inode_scan.proofs.generated.Generated.new.Goals as goal
 

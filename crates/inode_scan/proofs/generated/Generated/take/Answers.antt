@@ -1,6 +1,7 @@
 use Rattle.std.proofs.Common.{◌≡◌, ◌+◌, ◌-◌, List, ℕ, length, ap, ◌∙◌, arith, length-take}
 use Rattle.std.specs.List.{slice_range}
-use Rattle.inode_scan.specs.Generated.{generated_left, lines_behind, lines_text}
+use Rattle.inode_scan.specs.Generated.{lines_text}
+use Rattle.inode_scan.specs.GeneratedLeft.{generated_left, lines_behind}
 use Rattle.inode_scan.proofs.GeneratingLemmas.{left_taken}
 use Rattle.inode_scan.proofs.generated.Generated.take.Goals as goal
 

@@ -3,7 +3,8 @@ use Rattle.std.specs.Prelude.{IfSome}
 use Rattle.std.specs.FinMap.{get, insert}
 use Rattle.std.specs.Map.{lookup}
 use Rattle.inode_scan.specs.declared.used.Used.{Used}
-use Rattle.inode_scan.specs.Usage.{UsageMap, with_inode}
+use Rattle.inode_scan.specs.Usage.{UsageMap}
+use Rattle.inode_scan.specs.UsageSums.{with_inode}
 use Rattle.inode_scan.proofs.SumsLemmas.{get_sum, sum_put}
 use Rattle.inode_scan.proofs.UsageLemmas.{some_is}
 use Rattle.inode_scan.proofs.sums.Sums.add.Goals as goal

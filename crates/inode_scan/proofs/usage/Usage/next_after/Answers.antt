@@ -3,7 +3,8 @@ use Rattle.std.specs.BTreeMap.Range.{IsRangeOf}
 use Rattle.std.specs.Ordering.{nat_cmp}
 use Rattle.std.specs.declared.ops.Bound.{Bound}
 use Rattle.std.specs.declared.ops.Bound.TheVariants.{Unbounded}
-use Rattle.inode_scan.specs.Usage.{IsNextUser, UsageMap}
+use Rattle.inode_scan.specs.Usage.{UsageMap}
+use Rattle.inode_scan.specs.UsageSums.{IsNextUser}
 use Rattle.inode_scan.proofs.UsageLemmas.{next_found, next_none}
 use Rattle.inode_scan.proofs.usage.Usage.next_after.Goals as goal
 

@@ -1,6 +1,6 @@
 use Rattle.std.proofs.Common.{◌≡◌, ◌-◌, List, ℕ, ap, ◌∙◌, drop, length, arith, length-take}
 use Rattle.std.specs.List.{slice_range}
-use Rattle.input_text.specs.Lines.{LinesSeen}
+use Rattle.input_text.specs.LineReading.{LinesSeen}
 use Rattle.input_text.proofs.LinesLemmas.{held_later}
 use Rattle.input_text.proofs.line_reader.LineReader.append.Goals as goal
 

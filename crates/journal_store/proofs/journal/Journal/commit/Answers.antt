@@ -1,6 +1,6 @@
 use Rattle.std.proofs.Common.{is_ok, rules, false, sym, ap, ◌∙◌, subst}
 use Rattle.outside.specs.World.{World}
-use Rattle.edit_journal.specs.Settled.{IsRecovered}
+use Rattle.edit_journal.specs.Recovered.{IsRecovered}
 use Rattle.edit_journal.specs.UndoName.{und_name, undo_name}
 use Rattle.journal_store.specs.Kinds.{kind_of}
 use Rattle.journal_store.proofs.CallLemmas.{others-entered, others-then, stops-entered, stops-then, with_name-keeps}

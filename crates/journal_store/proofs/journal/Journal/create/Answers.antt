@@ -8,7 +8,7 @@ use Rattle.journal_store.proofs.KindLemmas.{is_new_name, is_plain}
 use Rattle.std.proofs.lemmas.Bool.{false≢true}
 use Rattle.journal_store.proofs.CommitsLemmas.{commits_before, commits_new}
 use Rattle.disk.proofs.StopLemmas.{passes-wider}
-use Rattle.edit_journal.specs.Settled.{KeepsOtherThree}
+use Rattle.edit_journal.specs.Recovered.{KeepsOtherThree}
 use Rattle.edit_journal.specs.UndoName.{und_name, undo_name}
 use Rattle.journal_store.proofs.journal.Journal.create.Goals as goal
 

@@ -1,7 +1,7 @@
 use Rattle.std.proofs.Common.{List, ℕ, IsSome, sym, ap, ◌∙◌, subst, length, arith}
 use Rattle.std.proofs.lemmas.Bool.{false≢true}
 use Rattle.disk.specs.DiskSeen.{DiskSeen}
-use Rattle.edit_journal.specs.Settled.{IsRecovered}
+use Rattle.edit_journal.specs.Recovered.{IsRecovered}
 use Rattle.edit_journal.specs.Spans.{spans_of}
 use Rattle.edit_journal.specs.UndoName.{undo_name}
 use Rattle.edit_journal.specs.declared.kept.KeptRange.{KeptRange}

@@ -1,6 +1,6 @@
 use Rattle.std.proofs.Common.{is_ok, rules, false, ap, ◌∙◌, subst, [], sym}
 use Rattle.outside.specs.World.{World}
-use Rattle.edit_journal.specs.Settled.{IsRecovered}
+use Rattle.edit_journal.specs.Recovered.{IsRecovered}
 use Rattle.edit_journal.specs.Spans.{spans_of}
 use Rattle.edit_journal.specs.UndoName.{und_name, undo_name}
 use Rattle.journal_store.proofs.BesideLemmas.{names-beside}

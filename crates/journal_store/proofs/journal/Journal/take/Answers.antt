@@ -2,7 +2,7 @@ use Rattle.std.proofs.Common.{◌≡◌, List, ℕ, ◌++◌, false, true, refl,
 use Rattle.std.proofs.lemmas.Bool.{false≢true}
 use Rattle.std.proofs.lemmas.List.{length-map}
 use Rattle.disk.specs.DiskSeen.{DiskSeen}
-use Rattle.edit_journal.specs.Settled.{IsRecovered}
+use Rattle.edit_journal.specs.Recovered.{IsRecovered}
 use Rattle.edit_journal.specs.Spans.{span_of, spans_of}
 use Rattle.edit_journal.specs.Undo.{recovered}
 use Rattle.edit_journal.proofs.NameLemmas.{und-own, und-undo, undo-own}

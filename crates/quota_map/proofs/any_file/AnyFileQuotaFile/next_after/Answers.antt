@@ -1,6 +1,7 @@
 use Rattle.std.proofs.Common.{◌≡◌, ◌+◌, ◌≤◌, IfOk, refl, sym, subst}
 use Rattle.opened_file.specs.Passing.{first_after, passed_up_to}
-use Rattle.quota_value.specs.QuotaValue.{IsNextAfter, QuotaValue}
+use Rattle.quota_value.specs.QuotaValue.{QuotaValue}
+use Rattle.quota_value.specs.NextRecord.{IsNextAfter}
 use Rattle.quota_types.specs.Format.{IsTreeFormat}
 use Rattle.quota_types.specs.declared.file_kind.Format.TheVariants.{V1 as Flat}
 use Rattle.quota_v1.specs.Opened.{most_next_reads}

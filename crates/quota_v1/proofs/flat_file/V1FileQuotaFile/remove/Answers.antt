@@ -102,11 +102,11 @@ returns-in-Err-write_record-clause-commits g c =
     let zeros = c.default.ensures in
     let none : unless_zeros c.default.result ≡ None = rw (zeros.0, zeros.1.0, zeros.1.1.0, zeros.1.1.1.0, zeros.1.1.1.1.0, zeros.1.1.1.1.1.0, zeros.1.1.1.1.1.1.0, zeros.1.1.1.1.1.1.1) in
     once_behind S.commits S.commits_on _ _ _ _ _ _ read.commits did.commits
-          (λ made. flat_stands (Remove c.args.id) S.tells (PutsRecord c.args.id c.default.result was.times) old new (string_bytes was.name) was.opened was.len was.len was.times was.times was.window c.forget.new.self
-          (λ value held after puts.
-          remove_right c.args.id c.default.result c.in-Ok-Some.field-0-0 was.len was.times was.window c.forget.new.self held.file after none
-          (sym c.in-Ok-Some.field-0-is ∙ read.found held.told held.file held.there (sym held.agrees.long)) c.forget.ensures held.few held.stands.whole held.agrees puts)
-          (λ told. subst (λ (files : World). MakesOne (PutsRecord c.args.id c.default.result was.times) (string_bytes was.name) files new.files) read.leaves.files (made told)))
+    (λ made. flat_stands (Remove c.args.id) S.tells (PutsRecord c.args.id c.default.result was.times) old new (string_bytes was.name) was.opened was.len was.len was.times was.times was.window c.forget.new.self
+    (λ value held after puts.
+    remove_right c.args.id c.default.result c.in-Ok-Some.field-0-0 was.len was.times was.window c.forget.new.self held.file after none
+    (sym c.in-Ok-Some.field-0-is ∙ read.found held.told held.file held.there (sym held.agrees.long)) c.forget.ensures held.few held.stands.whole held.agrees puts)
+    (λ told. subst (λ (files : World). MakesOne (PutsRecord c.args.id c.default.result was.times) (string_bytes was.name) files new.files) read.leaves.files (made told)))
 
 pub returns-in-Ok-None-clause-commits : goal.returns-in-Ok-None-clause-commits
 returns-in-Ok-None-clause-commits g c = inl c.read_record.ensures.commits

@@ -1,5 +1,5 @@
 use Rattle.std.proofs.Common.{[], ◌∷◌, map, Result, Ok, Err, refl, ap}
-use Rattle.rquota_serve.specs.Adding.{new_seen, news_seen}
+use Rattle.rquota_serve.specs.Added.{new_seen, news_seen}
 use Rattle.rquota_serve.specs.declared.new_export.AddFault.{AddFault}
 use Rattle.rquota_serve.specs.Exports.{Serves, exports_seen, export_seen}
 use Rattle.rquota_serve.proofs.AddingLemmas.{all_more, all_none, all_of, all_refused, no_news, serves_kept, within_list, within_news}

@@ -1,6 +1,7 @@
 use Rattle.std.proofs.Common.{◌≡◌, true, if◌then◌else◌, List, [], ◌∷◌, ◌++◌, ap, ◌∙◌}
 use Rattle.std.specs.Result.{is_ok}
-use Rattle.rquota_serve.specs.Exports.{ExportSeen, exports_seen, kept_in}
+use Rattle.rquota_serve.specs.Exports.{exports_seen, kept_in}
+use Rattle.rquota_serve.specs.ExportSeen.{ExportSeen}
 use Rattle.rquota_serve.specs.declared.export.Export.{Export}
 use Rattle.rquota_serve.proofs.ExportLemmas.{free-of, serves-push}
 use Rattle.rquota_serve.proofs.exports.Exports.add.Goals as goal

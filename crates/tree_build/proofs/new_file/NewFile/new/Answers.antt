@@ -1,6 +1,7 @@
 use Rattle.std.proofs.Common.{ℕ, List, ◌≡◌, ◌++◌, take, replicate, subst, sym, ap, ◌∙◌, arith}
 use Rattle.std.proofs.lemmas.List.{take_at}
-use Rattle.entry_codec.specs.Header.{AreOf, header_of}
+use Rattle.entry_codec.specs.Header.{header_of}
+use Rattle.entry_codec.specs.Spelling.{AreOf}
 use Rattle.quota_types.specs.Bytes.{byte_at}
 use Rattle.tree_build.proofs.NewFileLemmas.{zeros_stay}
 use Rattle.tree_build.proofs.new_file.NewFile.new.Goals as goal

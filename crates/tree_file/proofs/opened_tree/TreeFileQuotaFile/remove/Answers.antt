@@ -2,7 +2,7 @@ use Rattle.std.proofs.Common.{Ok, ap}
 use Rattle.opened_file.specs.FileChange.{Remove}
 use Rattle.quota_pages.specs.Pages.{name_of}
 use Rattle.tree_file.specs.Opened.{with_heads}
-use Rattle.tree_file.specs.TreeChange.{tree_at}
+use Rattle.tree_file.specs.TreeCalls.{tree_at}
 use Rattle.tree_file.proofs.ChangedLemmas.{remove_keeps}
 use Rattle.tree_file.proofs.InPlaceLemmas.{changed_as, changes_ended, changes_made, stands_so}
 use Rattle.tree_file.proofs.RemoveLemmas.{changes_absent, ended_within, never_full, written_within}

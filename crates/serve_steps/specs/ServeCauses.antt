@@ -1,0 +1,19 @@
+-- What is said where a file was not exported, or a call not answered.
+use Rattle.std.specs.Prelude.{Option}
+use Rattle.quota_types.specs.declared.file_kind.Format.{Format}
+use Rattle.quota_map.specs.View.{IsOpenedAs}
+use Rattle.rquota_serve.specs.ExportSeen.{ExportSeen}
+use Rattle.rquota_serve.specs.declared.fault.ServeFault.{ServeFault}
+use Rattle.rquota_serve.specs.declared.fault.ServeFault.TheVariants.{Link as LinkFailed, File as FileFailed}
+use Rattle.refusals.specs.declared.cause.Cause.{Cause}
+use Rattle.refusals.specs.declared.cause.Cause.TheVariants.{LinkFault}
+use Rattle.run_steps.specs.Opening.{file_cause}
+
+-- the file of an export is opened in the format that is asked for, or as one that needs no asking
+abbrev pub IsAsAsked : Option Format → ExportSeen → Type 0
+IsAsAsked format export = IsOpenedAs format export.file.format
+
+-- what is said where calls were not answered
+abbrev pub serve_cause : ServeFault → Cause
+serve_cause LinkFailed = LinkFault
+serve_cause (FileFailed fault) = file_cause fault
