@@ -1,5 +1,5 @@
 -- The lines of an input and the edits that they ask for.
-use Rattle.std.proofs.Common.{◌≡◌, ℕ, ◌+◌, Bool, true, false, cond, if◌then◌else◌, nat_lt, ◌^◌, List, [], ◌∷◌, ◌++◌, length, Option, None, Some, Ok, Err, Result, ◌⊎◌, inl, inr, refl, sym, ap, subst, ◌∙◌, append-nil, append_assoc}
+use Rattle.std.proofs.Common.{◌≡◌, ℕ, ◌+◌, Bool, true, false, cond, if◌then◌else◌, nat_lt, ◌^◌, List, [], ◌∷◌, ◌++◌, length, Option, None, Some, Ok, Err, Result, ◌⊎◌, inl, inr, refl, sym, ap, subst, ◌∙◌}
 use Rattle.std.specs.Prelude.{⊤, ◌&&◌, IfOk, IfSome, MatchResult}
 use Rattle.std.specs.Str.{all_ascii_digits}
 use Rattle.id_names.specs.FirstMatch.{first_id}
@@ -31,14 +31,6 @@ use Rattle.edit_steps.proofs.OutcomeLemmas.{OnlyRefused, only_if, only_then}
 -- edits, and then what else is asked for
 abbrev pub asked_with : List LineEdit → Asked → Asked
 asked_with edits more = record { edits = edits ++ more.edits; refusal = more.refusal }
-
--- one more edit
-pub asked_more : (edits : List LineEdit) (edit : LineEdit) (more : Asked) → asked_with edits (asks_then (Passed (Some edit)) more) ≡ asked_with (edits ++ (edit ∷ [])) more
-asked_more edits edit more = ap (λ (l : List LineEdit). record { edits = l; refusal = more.refusal }) (sym (append_assoc edits (edit ∷ []) more.edits))
-
--- nothing more is asked for
-pub asked_all : (edits : List LineEdit) (refusal : Option Refusal) → asked_with edits (ends_with refusal) ≡ record { edits = edits; refusal = refusal }
-asked_all edits refusal = ap (λ (l : List LineEdit). record { edits = l; refusal = refusal }) (append-nil edits)
 
 -- What comes next.
 

@@ -10,11 +10,10 @@ use Rattle.quota_types.specs.declared.field.Field.{Field}
 use Rattle.outside.specs.Count.{Rose}
 use Rattle.file_blocks.specs.Block.{file_of}
 use Rattle.outside.specs.Frame.{OnlyReads}
-use Rattle.outside.specs.ManyCalls.{ReplacesOne, Syncs, replaced_files}
+use Rattle.outside.specs.ManyCalls.{ReplacesOne, replaced_files}
 use Rattle.opened_file.specs.Load.{IsLoadFault}
 use Rattle.opened_file.specs.declared.whole_file.LoadFault.{LoadFault}
 use Rattle.opened_file.specs.declared.whole_file.LoadFault.TheVariants.{Store as NotRead, NoFile, TooLarge, Memory as Wanting}
-use Rattle.outside.proofs.FrameLemmas.{syncs-then}
 use Rattle.quota_map.specs.View.{IsView}
 use Rattle.quota_types.specs.declared.file_kind.Format.{Format}
 use Rattle.quota_types.specs.declared.file_kind.Format.TheVariants.{V1, V2R0, V2R1}
@@ -311,12 +310,6 @@ carries_read steps uses may tells old store new result reads carries = record {
     link = carries.later.link;
   };
 }
-
--- what was synced from there was synced
-pub syncs_read : {done one : Bool} (old store new : StoreSeen) → IsOnlyRead done old store → IsTrue done → Syncs one store new → Syncs one old new
-syncs_read old store new reads is syncs =
-    syncs-then old store new
-    (record { later = reads.later; synced = λ so. record { none = reads.synced (inl is); changed = λ other. inr (ap (λ (files : World). files other) reads.files) } }) syncs
 
 -- a fact where lines were not made, by another
 pub not_made_weaker : (attempt : Attempt) (P Q : List ℕ → Type 0) → ((name : List ℕ) → P name → Q name) → IfNotMade attempt P → IfNotMade attempt Q

@@ -1,4 +1,3 @@
-use crate::parts::bytes_of;
 use memory_network::MemPeer;
 use memory_objects::MemSink;
 use quota_client::run_client;

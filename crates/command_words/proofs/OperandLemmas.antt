@@ -1,7 +1,7 @@
 -- Operands of which the first seven are kept, and modes that have no more than six.
 use Rattle.std.proofs.Common.{◌≡◌, ◌∙◌, ℕ, ◌+◌, Bool, true, false, List, [], ◌∷◌, length, get_or, take, Result, Ok, IsOk, refl, sym, ap, arith}
 use Rattle.command_words.specs.declared.mode.Mode.{Mode}
-use Rattle.command_words.specs.declared.mode.Mode.TheVariants.{Reporting, Limiting, Copying, Batching, SettingGrace, SettingTimes, Printing, Applying, Checking, Converting, Serving, Scripting, Generating}
+use Rattle.command_words.specs.declared.mode.Mode.TheVariants.{Reporting, Limiting}
 use Rattle.option_words.specs.declared.scan.OperandWord.{OperandWord}
 use Rattle.command_words.specs.declared.command.Command.TheVariants.{SetLimits}
 use Rattle.refusals.specs.declared.cause.UsageKind.TheVariants.{Excludes, MissingOption}

@@ -1,4 +1,4 @@
-ghost use Rattle.std.specs.Prelude.{◌≡◌, [], ◌∷◌, false, true, Ok, Err, MatchResult};
+ghost use Rattle.std.specs.Prelude.{◌≡◌, [], false, true, Ok, Err, MatchResult};
 ghost use Rattle.std.specs.Option.{option_copied};
 ghost use Rattle.option_words.specs.FileName.{is_file_name};
 ghost use Rattle.command_words.specs.Modes.{formed, is_value};

@@ -18,15 +18,6 @@ pub record IsKeptUpTo (format : Format) (old now : List Entry) (count : ℕ) : T
   pub again : (k : ℕ) → k < count → (d : Entry) → IsKept format (get_or now k d).id (get_or now k d).rec
   pub lasting : (k : ℕ) → k < count → (d : Entry) → is_null_of (get_or now k d).rec ≡ false
 
-pub kept_none : (format : Format) (list : List Entry) → IsKeptUpTo format list list 0
-kept_none format list = record {
-  kept = λ k less d. absurd (omega (arith, less));
-  rest = λ k d le. refl;
-  clean = λ k less d. absurd (omega (arith, less));
-  again = λ k less d. absurd (omega (arith, less));
-  lasting = λ k less d. absurd (omega (arith, less));
-}
-
 module _ (format : Format) (old now : List Entry) (count : ℕ) (any made : Entry) (is : IsKeptUpTo format old now count) (less : count < length old) (same : length now ≡ length old) where
   abbrev here : Entry
   here = get_or now count any

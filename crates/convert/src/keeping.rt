@@ -3,7 +3,7 @@ ghost use Rattle.std.specs.List.{filter_map};
 ghost use Rattle.std.specs.Option.{option_to_list};
 ghost use Rattle.quota_types.specs.Kept.{IsKept};
 ghost use Rattle.quota_types.specs.Rec.{is_null_of};
-ghost use Rattle.convert.specs.Conversion.{grace_no_room, record_no_room};
+ghost use Rattle.convert.specs.Conversion.{grace_no_room};
 ghost use Rattle.convert.specs.Listing.{entry_no_room, kept_entry, kept_list, lasting_entries, list_without_room};
 
 use quota_types::{Entry, Format, Grace, NoRoom, check_grace, check_record, kept};

@@ -1,6 +1,6 @@
 -- What a call makes of a file: nothing, and two things in a row.
-use Rattle.std.proofs.Common.{◌≤◌, ℕ, List, refl, ◌∙◌, arith, Option}
-use Rattle.outside.specs.World.{KeepsOthers, World}
+use Rattle.std.proofs.Common.{ℕ, List, refl, ◌∙◌, arith, Option}
+use Rattle.outside.specs.World.{World}
 use Rattle.outside.proofs.FrameLemmas.{keeps_others-then}
 use Rattle.disk.specs.Steps.{ChangesFile, CutShort, Shortened, Torn}
 
@@ -27,24 +27,9 @@ torn-less more fewer old new sub torn = record {
 pub cut_short-same : (len : ℕ) (file : Option (List ℕ)) → CutShort len file file
 cut_short-same len file = record { there = λ is. is; no_shorter = omega arith; same = λ place low below. refl }
 
-pub cut_short-then : (len : ℕ) (old between new : Option (List ℕ)) → CutShort len old between → CutShort len between new → CutShort len old new
-cut_short-then len old between new first second = record {
-  there = λ is. second.there (first.there is);
-  no_shorter = omega (arith, first.no_shorter, second.no_shorter);
-  same = λ place low below. second.same place low (omega (arith, first.no_shorter, low, below)) ∙ first.same place low below;
-}
-
 -- a file that stays is shortened by nothing
 pub shortened-same : (len : ℕ) (file : Option (List ℕ)) → Shortened len file file
 shortened-same len file = record { cut = cut_short-same len file; absent = λ none. none }
-
--- a shorter cut, as a cut to less
-pub cut_short-less : (len less : ℕ) (old new : Option (List ℕ)) → less ≤ len → CutShort len old new → CutShort less old new
-cut_short-less len less old new le cut = record {
-  there = cut.there;
-  no_shorter = omega (arith, cut.no_shorter, le);
-  same = λ place low below. cut.same place (omega (arith, low, le)) below;
-}
 
 -- no name's file changes
 pub changes_file-same : (Changes : Option (List ℕ) → Option (List ℕ) → Type 0) (name : List ℕ) (files : World) → Changes (files name) (files name) → ChangesFile Changes name files files
@@ -55,7 +40,3 @@ pub changes_file-then : (Changes : Option (List ℕ) → Option (List ℕ) → T
     → ChangesFile Changes name old between → ChangesFile Changes name between new → ChangesFile Changes name old new
 changes_file-then Changes name old between new on first second =
     (on first.0 second.0, keeps_others-then name old between new first.1 second.1)
-
--- a change of one name's file keeps the files of all others
-pub changes_file-others : (Changes : Option (List ℕ) → Option (List ℕ) → Type 0) (name : List ℕ) (old new : World) → ChangesFile Changes name old new → KeepsOthers name old new
-changes_file-others Changes name old new change = change.1

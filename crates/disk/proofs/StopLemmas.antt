@@ -1,11 +1,7 @@
 -- What a stop may leave after no call, after one, and after two changes in a row.
-use Rattle.std.proofs.Common.{◌≡◌, ◌⊎◌, inl, inr, ⊎_elim, ℕ, List, sym, ◌∙◌, ap, arith}
+use Rattle.std.proofs.Common.{◌≡◌, ◌⊎◌, inl, inr, ⊎_elim, ℕ, List, sym, ◌∙◌, arith}
 use Rattle.outside.specs.World.{World}
-use Rattle.disk.specs.DiskSeen.{ChangesNothing, DiskSeen, EachImage, Follows, IsKept, OnlyLeaves, Passes, TakesStep}
-
--- a step from an old image to what may be left
-abbrev pub LeavesBy : (World → World → Type 0) → DiskSeen → World → Type 0
-LeavesBy step disk image = (before : World) × disk.images before × step before image
+use Rattle.disk.specs.DiskSeen.{ChangesNothing, DiskSeen, Follows, IsKept, OnlyLeaves, Passes, TakesStep}
 
 -- a wider step is followed too
 pub follows-wider : (step wider : World → World → Type 0) (old new : DiskSeen) → ((before after : World) → step before after → wider before after) → Follows step old new → Follows wider old new
@@ -70,17 +66,6 @@ passes-then step old between new on first second = record {
       (second.known moment image (omega (arith, early, first.later)) was);
 }
 
--- where what is read, and all that a stop may leave, has the property already
-pub only_leaves-none : (Property : World → Type 0) (disk : DiskSeen) → Property disk.files → EachImage Property disk
-    → ((image : World) → disk.since disk.moment image → disk.images image) → OnlyLeaves Property disk disk
-only_leaves-none Property disk read each now = record {
-  read = read;
-  left = each;
-  later = omega arith;
-  at_once = λ image was. each image (now image was);
-  known = λ moment image early was. inl was;
-}
-
 pub only_leaves-wider : (Property Wider : World → Type 0) (old new : DiskSeen) → ((image : World) → Property image → Wider image) → OnlyLeaves Property old new → OnlyLeaves Wider old new
 only_leaves-wider Property Wider old new sub only = record {
   read = sub new.files only.read;
@@ -123,8 +108,3 @@ pub kept-on : (name : List ℕ) (step : World → World → Type 0) (old new : D
 kept-on name step old new keeps kept follows image is =
     let from = follows.left image is in
     keeps from.0 image from.2 ∙ kept from.0 from.1 ∙ sym (keeps old.files new.files follows.read)
-
--- a file that is kept is kept by a call that changes nothing
-pub kept-nothing : (name : List ℕ) (old new : DiskSeen) → IsKept name old → ChangesNothing old new → IsKept name new
-kept-nothing name old new kept nothing image is =
-    kept image (nothing.fewer image is) ∙ ap (λ (files : World). files name) (sym nothing.files)

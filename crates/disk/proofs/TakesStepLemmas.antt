@@ -51,14 +51,6 @@ cuts_none name len files = changes_file-same (CutShort len) name files (cut_shor
 pub shortens_none : (name : List ℕ) (len : ℕ) (files : World) → Shortens name len files files
 shortens_none name len files = changes_file-same (Shortened len) name files (shortened-same len (files name))
 
--- what is shortened is cut short
-pub shortens_cuts : (name : List ℕ) (len : ℕ) (before after : World) → Shortens name len before after → CutsShort name len before after
-shortens_cuts name len before after change = (change.0.cut, change.1)
-
--- a cut that shortens its file takes the step of one that may make it too
-pub shortens_wider : (name : List ℕ) (len : ℕ) (old new : DiskSeen) → TakesStep (Shortens name len) old new → TakesStep (CutsShort name len) old new
-shortens_wider name len old new takes = step_wider (Shortens name len) (CutsShort name len) old new (shortens_cuts name len) takes
-
 -- a call that failed before anything was done
 pub tears_nothing : (name : List ℕ) (at len : ℕ) (old new : DiskSeen) → ChangesNothing old new → TakesStep (TearsRange name at len) old new
 tears_nothing name at len old new nothing = nothing_steps (TearsRange name at len) old new (tears_none name at len) nothing

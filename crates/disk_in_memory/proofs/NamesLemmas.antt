@@ -1,8 +1,7 @@
 -- Names among which all are that are unsynced, as they are put there and taken out.
-use Rattle.std.proofs.Common.{◌≡◌, inl, inr, Result, Ok, Err, OnOk, OnErr, ℕ, Bool, true, false, cond, IsTrue, List, Option, None, refl, sym, ap, subst, ◌∙◌}
+use Rattle.std.proofs.Common.{◌≡◌, Result, Ok, Err, OnOk, OnErr, ℕ, Bool, true, false, cond, IsTrue, List, refl, sym, ap, subst}
 use Rattle.std.specs.Prelude.{is_some}
 use Rattle.std.specs.Str.{bytes_eq}
-use Rattle.std.proofs.lemmas.Bool.{cases_Bool, false≢true}
 use Rattle.outside.specs.Unsynced.{AddsNone, Names, with_handed, with_name}
 use Rattle.outside.proofs.UnsyncedLemmas.{with_name-adds_none}
 use Rattle.outside.specs.World.{World}
@@ -37,24 +36,6 @@ adds_none-handed names left from to adds n =
 pub adds_none-widened : (names left : Names) (from to : List ℕ) → AddsNone names left → AddsNone (with_name names to true) (with_handed left from to)
 adds_none-widened names left from to adds n =
     put_on (bytes_eq to n) true (left from) (names n) (with_name left from false n) (λ on. refl) (adds_none-less names left from adds n)
-
-handed_on : (test from a b : Bool) → from ≡ false → (IsTrue b → IsTrue a) → IsTrue (cond test from b) → IsTrue a
-handed_on true from a b off rest is = absurd (false≢true (sym off ∙ is))
-handed_on false from a b off rest is = rest is
-
--- a name is handed over that is not among the names
-pub adds_none-synced : (names left : Names) (from to : List ℕ) → names from ≡ false → AddsNone names left → AddsNone names (with_handed left from to)
-adds_none-synced names left from to off adds n =
-    handed_on (bytes_eq to n) (left from) (names n) (with_name left from false n)
-    (elim (cases_Bool (left from)) [
-      | inl on ↦ absurd (false≢true (sym off ∙ adds from on))
-      | inr synced ↦ synced
-    ])
-    (adds_none-less names left from adds n)
-
--- a file that is not there, or is
-pub handed_where-none : (read : World) (names : Names) (from to : List ℕ) → read from ≡ None → handed_where (is_some (read from)) names from to ≡ names
-handed_where-none read names from to absent = ap (λ (file : Option (List ℕ)). handed_where (is_some file) names from to) absent
 
 pub handed_where-some : (read : World) (names : Names) (from to : List ℕ) → is_some (read from) ≡ true → handed_where (is_some (read from)) names from to ≡ with_handed names from to
 handed_where-some read names from to there = ap (λ (is : Bool). handed_where is names from to) there

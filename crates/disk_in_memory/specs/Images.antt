@@ -1,5 +1,5 @@
 -- That what is read of a disk in memory is an image, and that a stop now leaves an image.
-use Rattle.std.specs.Prelude.{◌≡◌, ◌≤◌, ◌↔◌, ℕ, List, [], ◌∷◌, length, take, Option, Some, None, refl}
+use Rattle.std.specs.Prelude.{◌≤◌, ◌↔◌, ℕ, List, [], ◌∷◌, length, take, Option, Some, None, refl}
 use Rattle.std.proofs.Common.{inl, inr, ⊎_elim, sym, ap, subst, arith, length-take}
 use Rattle.std.specs.Option.{option_map, unwrap_or}
 use Rattle.std.specs.String.{string_bytes}

@@ -1,4 +1,4 @@
-ghost use Rattle.std.specs.Prelude.{◌≡◌, Bool, MatchResult, Option};
+ghost use Rattle.std.specs.Prelude.{◌≡◌, MatchResult, Option};
 ghost use Rattle.refusals.specs.Outcome.{Passed, Refused};
 ghost use Rattle.edit_commands.specs.EditWords.{edit_read, names_wanted};
 

@@ -1,15 +1,14 @@
 -- A saved range that is laid back.
-use Rattle.std.proofs.Common.{◌≡◌, ℕ, ◌+◌, ◌<◌, ◌≤◌, ◌^◌, Bool, true, false, ◌&&◌, ◌||◌, refl, List, [], length, take, Option, Some, None, IsSome, unwrap_or, option_map, sym, ap, ◌∙◌, subst, arith}
+use Rattle.std.proofs.Common.{◌≡◌, ℕ, ◌+◌, ◌<◌, ◌≤◌, ◌^◌, Bool, true, false, ◌&&◌, ◌||◌, refl, List, [], length, unwrap_or, ap, ◌∙◌, subst, arith}
 use Rattle.std.specs.Prelude.{nat_eq, nat_le}
 use Rattle.std.proofs.lemmas.Bool.{false≢true, leb-true}
-use Rattle.outside.proofs.WorldLemmas.{with_file-at}
 use Rattle.outside.specs.World.{World}
 use Rattle.disk.specs.DiskSeen.{DiskSeen, Passes}
-use Rattle.disk.specs.Steps.{IsOutside, TearsRange, with_cut}
+use Rattle.disk.specs.Steps.{IsOutside, TearsRange}
 use Rattle.quota_types.specs.Bytes.{number_at}
 use Rattle.edit_journal.specs.Recovery.{IsSame, MendsFile}
 use Rattle.edit_journal.specs.Spans.{Span, laid, with_laid}
-use Rattle.edit_journal.specs.Undo.{bytes_at, saved_span, saved_spans, span_fits, spans_fit, undone}
+use Rattle.edit_journal.specs.Undo.{bytes_at, saved_span, saved_spans, span_fits, spans_fit}
 use Rattle.edit_journal.proofs.MendLemmas.{laid_back-more, mends_file-span, mends_file-then}
 use Rattle.edit_journal.proofs.ReadLemmas.{fit-each, looks-wider}
 use Rattle.edit_journal.proofs.TornLemmas.{tears-then}
@@ -62,16 +61,3 @@ spans-mended name undo there k count a b c same counts below before tears =
 pub spans-laid : (undo there file mid new : List ℕ) (k : ℕ) → there ≡ undo → mid ≡ laid (saved_spans undo 0 k) file → new ≡ with_laid mid (saved_span there k).at (saved_span there k).bytes → new ≡ laid (saved_spans undo 0 (k + 1)) file
 spans-laid undo there file mid new k same before one =
     laid_back-more undo file mid new k before (one ∙ ap (λ (f : List ℕ). with_laid mid (saved_span f k).at (saved_span f k).bytes) same)
-
-some-take : (len : ℕ) (file : Option (List ℕ)) → IsSome file → option_map (take len) file ≡ Some (take len (unwrap_or file []))
-some-take len (Some file) is = refl
-some-take len None is = absurd (false≢true is)
-
--- a file that was laid back and cut to the old length is what its undo file makes of it
-pub undone-cut : (name undo file : List ℕ) (a b c : World) → a name ≡ Some file → (IsSome (a name) → IsSome (b name))
-    → unwrap_or (b name) [] ≡ laid (saved_spans undo 0 (number_at 4 undo 16)) (unwrap_or (a name) []) → c ≡ with_cut b name (number_at 8 undo 8) → c name ≡ Some (undone file undo)
-undone-cut name undo file a b c was there laid_back cut =
-    ap (λ (f : World). f name) cut
-    ∙ with_file-at b name (option_map (take (number_at 8 undo 8)) (b name))
-    ∙ some-take (number_at 8 undo 8) (b name) (there (subst (λ (f : Option (List ℕ)). IsSome f) (sym was) refl))
-    ∙ ap (λ (f : List ℕ). Some (take (number_at 8 undo 8) f)) (laid_back ∙ ap (λ (f : Option (List ℕ)). laid (saved_spans undo 0 (number_at 4 undo 16)) (unwrap_or f [])) was)

@@ -4,9 +4,8 @@ use Rattle.std.specs.Prelude.{nat_eq, nat_le}
 use Rattle.std.proofs.lemmas.Bool.{cases_lt, cond-true, eq-eqb, eqb-true, false≢true, le-leb, leb-true}
 use Rattle.std.proofs.lemmas.List.{ext_get_or, get_or-take}
 use Rattle.outside.proofs.FrameLemmas.{keeps_others-then}
-use Rattle.outside.specs.World.{World}
 use Rattle.disk.specs.DiskSeen.{DiskSeen, Passes}
-use Rattle.disk.specs.Steps.{ChangesFile, IsOutside, Shortened, TearsRange}
+use Rattle.disk.specs.Steps.{IsOutside, TearsRange}
 use Rattle.disk.proofs.StopLemmas.{passes-then, passes-wider}
 use Rattle.quota_types.specs.Bytes.{byte_at, number_at}
 use Rattle.edit_journal.specs.Recovery.{Mends, MendsFile, is_mended}
@@ -86,9 +85,6 @@ recovered-mended (Some file) (Some new) (Some undo) usable mends =
     let parts = usable-parts file undo usable in
     recovered-same file new undo usable (omega (arith, mends.no_shorter, parts.1)) (λ place below outside. mends.same place below (omega (arith, below, parts.1)) outside)
 
-mends-same : (len : ℕ) (spans : List Span) (file : Option (List ℕ)) → Mends len spans file file
-mends-same len spans file = record { there = λ is. is; no_shorter = omega arith; same = λ place low below outside. refl }
-
 mends-then : (len : ℕ) (spans : List Span) (a b c : Option (List ℕ)) → Mends len spans a b → Mends len spans b c → Mends len spans a c
 mends-then len spans a b c first second = record {
   there = λ is. second.there (first.there is);
@@ -96,19 +92,10 @@ mends-then len spans a b c first second = record {
   same = λ place low below outside. second.same place low (omega (arith, low, below, first.no_shorter)) outside ∙ first.same place low below outside;
 }
 
-pub mends_file-same : (name undo : List ℕ) (files : World) → MendsFile name undo files files
-mends_file-same name undo files = (mends-same _ _ (files name), λ other differ. refl)
-
 pub mends_file-then : (name undo : List ℕ) (a b c : DiskSeen) → Passes (MendsFile name undo) a b → Passes (MendsFile name undo) b c → Passes (MendsFile name undo) a c
 mends_file-then name undo a b c first second =
     passes-then (MendsFile name undo) a b c
     (λ x y z one two. (mends-then _ _ (x name) (y name) (z name) one.0 two.0, keeps_others-then name x y z one.1 two.1)) first second
-
--- a cut to the old length mends
-pub mends_file-cut : (name undo : List ℕ) (a b : DiskSeen) → Passes (ChangesFile (Shortened (number_at 8 undo 8)) name) a b → Passes (MendsFile name undo) a b
-mends_file-cut name undo a b passes =
-    passes-wider (ChangesFile (Shortened (number_at 8 undo 8)) name) (MendsFile name undo) a b
-    (λ x y step. (record { there = step.0.cut.there; no_shorter = step.0.cut.no_shorter; same = λ place low below outside. step.0.cut.same place low below }, step.1)) passes
 
 outside-span : (undo : List ℕ) (k count i place : ℕ) → i < count → IsOutsideAll (saved_spans undo k count) place → IsOutside (saved_span undo (k + i)).at (length (saved_span undo (k + i)).bytes) place
 outside-span undo k zero i place below outside = absurd (omega (arith, below))

@@ -1,30 +1,17 @@
 -- What is read of an undo file.
-use Rattle.std.proofs.Common.{◌≡◌, ℕ, zero, suc, ◌+◌, ◌<◌, ◌≤◌, ◌^◌, Bool, true, false, ◌&&◌, ◌||◌, get_or, refl, List, length, take, drop, sym, ap, ◌∙◌, subst, arith, length-take, length-drop}
+use Rattle.std.proofs.Common.{◌≡◌, ℕ, zero, suc, ◌+◌, ◌<◌, ◌≤◌, ◌^◌, Bool, true, false, ◌&&◌, ◌||◌, get_or, refl, List, length, drop, sym, ap, ◌∙◌, subst, arith}
 use Rattle.std.specs.Prelude.{nat_eq, nat_le}
 use Rattle.std.proofs.lemmas.Bool.{false≢true}
-use Rattle.std.proofs.lemmas.List.{get_or-drop, get_or-take, get_or_past}
+use Rattle.std.proofs.lemmas.List.{get_or-drop}
 use Rattle.outside.specs.World.{World}
-use Rattle.disk.specs.DiskSeen.{ChangesNothing, DiskSeen, IsKept, Passes}
-use Rattle.disk.proofs.StopLemmas.{passes-nothing, passes-then, passes-wider}
+use Rattle.disk.specs.DiskSeen.{DiskSeen, IsKept, Passes}
+use Rattle.disk.proofs.StopLemmas.{passes-then, passes-wider}
 use Rattle.quota_types.specs.Bytes.{byte_at, number_at}
 use Rattle.quota_types.proofs.BytesLemmas.{number_at-drop, number_same}
 use Rattle.edit_journal.specs.Recovery.{IsSame}
 use Rattle.edit_journal.specs.Undo.{bytes_at, range_at, saved_span, saved_spans, span_fits, spans_fit}
 use Rattle.edit_journal.proofs.SavedLemmas.{length-bytes_at}
 use Rattle.edit_journal.proofs.WrittenLemmas.{bytes_at-list}
-
--- bytes that were read
-pub padded-read : (file : List ℕ) (at len count : ℕ) (buf : List ℕ) → count ≡ length (take len (drop at file)) → take count buf ≡ take len (drop at file) → (j : ℕ) → j < count → get_or buf j 0 ≡ byte_at file (at + j)
-padded-read file at len count buf counts same j below =
-    sym (get_or-take count buf j 0 below)
-    ∙ ap (λ (l : List ℕ). get_or l j 0) same
-    ∙ get_or-take len (drop at file) j 0 (omega (arith, below, counts, length-take len (drop at file)))
-    ∙ get_or-drop at file j 0
-
--- and those past them
-pub padded-past : (file : List ℕ) (at len count : ℕ) → count ≡ length (take len (drop at file)) → (j : ℕ) → count ≤ j → j < len → byte_at file (at + j) ≡ 0
-padded-past file at len count counts j past below =
-    get_or_past file (at + j) 0 (omega (arith, past, below, counts, length-take len (drop at file), length-drop at file))
 
 -- a number in bytes that were read from a place on
 pub number-read : (width place at : ℕ) (file buf : List ℕ) (len : ℕ) → ((j : ℕ) → j < len → get_or buf j 0 ≡ byte_at file (place + j)) → at + width ≤ len → number_at width buf at ≡ number_at width file (place + at)
@@ -35,9 +22,6 @@ number-read width place at file buf len same within =
 -- reading passes by no change
 pub looks-then : (a b c : DiskSeen) → Passes IsSame a b → Passes IsSame b c → Passes IsSame a c
 looks-then a b c first second = passes-then IsSame a b c (λ x y z one two. two ∙ one) first second
-
-pub looks-nothing : (a b : DiskSeen) → ChangesNothing a b → Passes IsSame a b
-looks-nothing a b nothing = passes-nothing IsSame a b (λ files. refl) nothing
 
 -- where nothing changes a file is kept
 pub looks-kept : (name : List ℕ) (a b : DiskSeen) → IsKept name a → Passes IsSame a b → IsKept name b

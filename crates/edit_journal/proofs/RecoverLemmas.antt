@@ -1,6 +1,6 @@
 -- What a recovery leaves.
-use Rattle.std.proofs.Common.{◌≡◌, ◌≢◌, ◌⊎◌, inl, inr, ⊎_elim, ℕ, Bool, true, false, List, [], length, replicate, Option, Some, None, unwrap_or, refl, sym, ap, ◌∙◌, subst, arith}
-use Rattle.std.proofs.lemmas.Bool.{cond-false, cond-true, false≢true}
+use Rattle.std.proofs.Common.{◌≡◌, ◌≢◌, ◌⊎◌, inl, inr, ⊎_elim, ℕ, Bool, true, List, [], length, replicate, Option, Some, None, unwrap_or, refl, sym, ap, ◌∙◌, subst, arith}
+use Rattle.std.proofs.lemmas.Bool.{false≢true}
 use Rattle.std.proofs.lemmas.List.{get_or-replicate}
 use Rattle.outside.specs.World.{World}
 use Rattle.outside.proofs.FrameLemmas.{keeps_other_two-then, keeps_others-then}
@@ -11,7 +11,7 @@ use Rattle.disk.proofs.StopLemmas.{kept-on, only_leaves-passes, passes-then, pas
 use Rattle.quota_types.specs.Bytes.{byte_at, number_at}
 use Rattle.edit_journal.specs.Recovery.{BeginsSo, ClosesGate, Heads, IsSame, MendsFile, RecoversInPlace, Restores, is_mended}
 use Rattle.edit_journal.specs.Recovered.{RecoversAsBefore, RecoversSame, IsRecovered}
-use Rattle.edit_journal.specs.Undo.{recovered, saved_spans, spans_fit, undone}
+use Rattle.edit_journal.specs.Undo.{recovered, saved_spans, spans_fit}
 use Rattle.edit_journal.specs.UndoSaves.{HoldsItsRanges}
 use Rattle.edit_journal.proofs.InPlaceLemmas.{recovered-torn}
 use Rattle.edit_journal.proofs.MendLemmas.{recovered-mended, usable-parts}
@@ -30,22 +30,10 @@ passes-within step wider a b sub is passes = record {
       ⊎_elim (λ before. inl before) (λ by. inr (by.0, by.1, sub by.0 image by.1 by.2)) (passes.known moment image early was);
 }
 
--- a file whose undo file says nothing recovers to itself
-pub recovered-unmended : (file undo : Option (List ℕ)) → is_mended file undo ≡ false → recovered file undo ≡ file
-recovered-unmended None undo unmended = refl
-recovered-unmended (Some file) None unmended = refl
-recovered-unmended (Some file) (Some undo) unmended = ap (λ (f : List ℕ). Some f) (cond-false _ _ _ unmended)
-
 -- so does one whose gate is closed
 pub recovered-unopened : (file undo : Option (List ℕ)) → byte_at (unwrap_or undo []) 0 ≢ 1 → recovered file undo ≡ file
 recovered-unopened None undo closed = refl
 recovered-unopened (Some file) undo closed = recovered-closed file undo closed
-
--- a file that was made what its undo file says
-pub recovered-by : (file undo new : Option (List ℕ)) → is_mended file undo ≡ true → ((f : List ℕ) → file ≡ Some f → new ≡ Some (undone f (unwrap_or undo []))) → new ≡ recovered file undo
-recovered-by None undo new mended made = absurd (false≢true mended)
-recovered-by (Some file) None new mended made = absurd (false≢true mended)
-recovered-by (Some file) (Some undo) new mended made = made file refl ∙ ap (λ (f : List ℕ). Some f) (sym (cond-true _ _ _ mended))
 
 -- the head of an undo file that says how its file was
 pub heads-mended : (file undo : Option (List ℕ)) (gate old_length count : ℕ) → is_mended file undo ≡ true → BeginsSo gate old_length count (unwrap_or undo []) → Heads old_length count (unwrap_or undo [])

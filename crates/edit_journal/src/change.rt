@@ -6,7 +6,7 @@ ghost use Rattle.disk.specs.Steps.{TearsRange};
 ghost use Rattle.edit_journal.specs.Settled.{TearsRanges};
 ghost use Rattle.edit_journal.specs.Spans.{laid, spans_of, with_laid};
 ghost use Rattle.outside.specs.Count.{Rose};
-ghost use Rattle.outside.specs.World.{KeepsOthers, with_bytes};
+ghost use Rattle.outside.specs.World.{KeepsOthers};
 
 use crate::KeptRange;
 use disk::{Disk, DiskFault};

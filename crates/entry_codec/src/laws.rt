@@ -1,6 +1,6 @@
 //! Laws of the layout: what is written is read again, and bytes and values determine each other.
 
-ghost use Rattle.std.specs.Prelude.{◌≡◌, ◌≢◌, ◌^◌, ◌<◌, ◌≤◌, ℕ, List, None, Ok, Some, length};
+ghost use Rattle.std.specs.Prelude.{◌≡◌, ◌^◌, ◌<◌, ◌≤◌, ℕ, List, None, Ok, Some, length};
 ghost use Rattle.entry_codec.specs.Spelling.{AreBytes, IsEntry, IsSpelling, AreOf};
 ghost use Rattle.entry_codec.specs.Header.{HeaderNumbers, header_of};
 ghost use Rattle.quota_types.specs.Bytes.{byte_at};

@@ -1,4 +1,4 @@
-ghost use Rattle.std.specs.Prelude.{◌≡◌, ◌≢◌};
+ghost use Rattle.std.specs.Prelude.{◌≡◌};
 ghost use Rattle.entry_codec.specs.Entry.{entries_per_block};
 ghost use Rattle.quota_types.specs.Format.{IsTreeFormat, record_size};
 

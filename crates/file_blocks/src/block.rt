@@ -1,4 +1,4 @@
-ghost use Rattle.std.specs.Prelude.{◌≡◌, ◌+◌, ◌*◌, ◌<◌, ◌≤◌, length, IsTrue, IfNone, IfSome, OnOk, OnErr, is_ok, []};
+ghost use Rattle.std.specs.Prelude.{◌≡◌, ◌+◌, ◌*◌, ◌<◌, length, IsTrue, IfNone, IfSome, OnOk, OnErr, is_ok, []};
 ghost use Rattle.outside.specs.Count.{Rose, counted};
 ghost use Rattle.outside.specs.Frame.{OnlyReads};
 ghost use Rattle.file_blocks.specs.Block.{block_of, file_of};

@@ -14,7 +14,6 @@ use Rattle.outside.specs.World.{World}
 use Rattle.quota_types.specs.declared.field.Field.{Field}
 use Rattle.quota_types.specs.declared.field.NoRoom.{NoRoom as NoRoomFor}
 use Rattle.quota_types.specs.declared.file_kind.Format.{Format}
-use Rattle.quota_types.specs.declared.file_kind.Format.TheVariants.{V1}
 use Rattle.quota_types.specs.declared.file_kind.Kind.{Kind}
 use Rattle.quota_types.specs.declared.record.Rec.{Rec}
 use Rattle.outside.specs.Count.{Rose}
@@ -28,7 +27,7 @@ use Rattle.quota_map.specs.AnyFile.{MayRefuse}
 use Rattle.opened_file.specs.QuotaFile.{IsLookupFault}
 use Rattle.quota_map.specs.Reading.{file_refusal}
 use Rattle.quota_map.specs.Size.{ids_in}
-use Rattle.quota_map.specs.Replacing.{IsReplacedBy, built_size, flags_in}
+use Rattle.quota_map.specs.Replacing.{IsReplacedBy, built_size}
 use Rattle.quota_map.specs.View.{IsOpenedAs}
 use Rattle.inode_scan.specs.Apply.{IsApplyFault, applied, first_no_room, no_room, wanted, wanted_record}
 use Rattle.inode_scan.proofs.ApplyLemmas.{wanted_at}
@@ -40,14 +39,13 @@ use Rattle.inode_scan.specs.declared.fault.ApplyFault.TheVariants.{NoRoom as Unf
 use Rattle.inode_scan.specs.declared.fault.ScanFault.{ScanFault}
 use Rattle.inode_scan.specs.declared.fault.ScanFault.TheVariants.{Source, Memory as ScanWantsMemory}
 use Rattle.refusals.specs.declared.cause.Cause.{Cause}
-use Rattle.refusals.specs.declared.cause.Cause.TheVariants.{StoreFault, SourceFault, NoRoom}
+use Rattle.refusals.specs.declared.cause.Cause.TheVariants.{StoreFault, NoRoom}
 use Rattle.refusals.specs.declared.reason.Refusal.{Refusal}
 use Rattle.run_steps.specs.Done.{IsWorldTold, RunSeen, RunTells, outside_of}
 use Rattle.run_steps.specs.Opening.{MayRefuseOpening, file_cause}
 use Rattle.run_steps.specs.Run.{HasReason, Uses}
 use Rattle.run_steps.specs.Carrying.{CarriesOut}
 use Rattle.run_steps.specs.Steps.{Opening, Steps}
-use Rattle.run_steps.specs.Taking.{AListing, InputMayRefuse}
 use Rattle.run_steps.specs.Causes.{IsInputFault}
 use Rattle.file_commands.specs.Check.{ReplaceSteps, UnfitMayRefuse, UsageMayLack, checked, scan_cause, scan_outcome, with_applied}
 use Rattle.file_commands.specs.Causes.{apply_cause}
@@ -62,13 +60,6 @@ use Rattle.run_steps.proofs.ShowingLemmas.{damage_may}
 
 -- Listings.
 
--- a listing in the standard input that gave no usage
-pub listing_unread : (read : Result UsageMap ScanFault) (before now : ℕ) (tells : Bool) (fault : ScanFault) → IsScanFault before now tells read fault
-    → IsInputFault ⊥ (Rose before now) (IsTrue tells) (scan_outcome [] read) (refusal_of (scan_cause SourceFault fault) []) (scan_cause SourceFault fault)
-listing_unread read before now tells Source is = is
-listing_unread read before now tells ScanWantsMemory is = tt
-listing_unread read before now tells _ is = λ told. ap (scan_outcome []) (is told)
-
 -- a listing in a file that gave no usage
 listing_unread_of : (name : List ℕ) (read : Result UsageMap ScanFault) (before now : ℕ) (tells : Bool) (fault : ScanFault) → IsScanFault before now tells read fault
     → IsInputFault (Rose before now) ⊥ (IsTrue tells) (scan_outcome name read) (refusal_of (scan_cause StoreFault fault) name) (scan_cause StoreFault fault)
@@ -81,17 +72,6 @@ pub listing_unread_at : (name : List ℕ) (read : Result UsageMap ScanFault) (be
     → refusal ≡ refusal_of (scan_cause StoreFault fault) name → IsInputFault (Rose before now) ⊥ (IsTrue tells) (scan_outcome name read) refusal refusal.cause
 listing_unread_at name read before now tells fault refusal is same =
     subst (λ (r : Refusal). IsInputFault (Rose before now) ⊥ (IsTrue tells) (scan_outcome name read) r r.cause) (sym same) (listing_unread_of name read before now tells fault is)
-
--- what may be said of a listing in the standard input, and of one in a file
-pub listing_may : (fault : ScanFault) → InputMayRefuse AListing None (scan_cause SourceFault fault) []
-listing_may Source = refl
-listing_may ScanWantsMemory = refl
-listing_may _ = (refl, refl)
-
-pub listing_may_of : (name : List ℕ) (fault : ScanFault) → InputMayRefuse AListing (Some name) (scan_cause StoreFault fault) name
-listing_may_of name Source = refl
-listing_may_of name ScanWantsMemory = refl
-listing_may_of name _ = (refl, refl)
 
 -- Values for which there is no room.
 
@@ -206,11 +186,6 @@ pub carries_same : (name : List ℕ) (next : QuotaValue → Steps) (one other : 
 carries_same name next one other uses may tells old new result same carries =
     carries_on name (next one) (next other) uses may may tells old old.store new result (only_reads-none {done = true} name old.store)
     (λ told. leads_same (next one) (next other) (outside_of old) (ap next (same told.store))) (λ cause said may. may) carries
-
--- the value of a new file has no flags that its format does not have
-pub new_flags : (format : Format) → flags_in format 0 ≡ 0
-new_flags V1 = refl
-new_flags _ = refl
 
 -- the records were not made, for lack of memory or of room
 pub apply_refused : (name : List ℕ) (value : QuotaValue) (usage : UsageMap) (now : ℕ) (fault : ApplyFault) (tells : RunTells) (old : RunSeen)

@@ -1,5 +1,4 @@
 ghost use Rattle.std.specs.Prelude.{ℕ, Option, ◌≡◌, Bool, is_ok};
-ghost use Rattle.id_names.specs.NamesFile.{NameLine};
 ghost use Rattle.outside.specs.Seen.{LinkSeen, SinkSeen, SourceSeen};
 ghost use Rattle.outside.specs.ManyCalls.{Syncs};
 ghost use Rattle.run_steps.specs.Done.{seen_of, tells_of};

@@ -1,6 +1,6 @@
 //! The links of single blocks. A link that is 0 leads to no block.
 
-ghost use Rattle.std.specs.Prelude.{◌≡◌, ◌≢◌, ◌+◌, ◌<◌, ◌≤◌, ◌∷◌, [], length, true, false, IsOk, is_ok, IfOk, IfErr, OnOk, OnErr};
+ghost use Rattle.std.specs.Prelude.{◌≡◌, ◌≢◌, ◌+◌, ◌<◌, ◌≤◌, ◌∷◌, [], true, false, IsOk, is_ok, IfOk, IfErr, OnOk, OnErr};
 ghost use Rattle.quota_types.specs.Bytes.{number_at};
 ghost use Rattle.file_blocks.specs.Block.{block_of};
 ghost use Rattle.outside.specs.Count.{Rose};

@@ -1,6 +1,6 @@
 //! How many blocks are free.
 
-ghost use Rattle.std.specs.Prelude.{◌≡◌, ◌⊎◌, ◌+◌, ◌<◌, ◌≤◌, length, IfOk, IfErr, is_ok, []};
+ghost use Rattle.std.specs.Prelude.{◌⊎◌, ◌+◌, ◌<◌, ◌≤◌, length, IfOk, IfErr, is_ok, []};
 ghost use Rattle.quota_pages.specs.Pages.{HoldsAsBuffered, pages_of};
 ghost use Rattle.quota_pages.specs.Used.{IsKnown, LooksAtSome, shown_over};
 ghost use Rattle.free_chains.specs.ChainFault.{IfOut, IsChainFault};

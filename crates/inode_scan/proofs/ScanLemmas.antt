@@ -101,11 +101,6 @@ wrong kind all left now tally device done line number fault same_device of is be
     (ap (λ ls. slice_get (faults_of device ls ++ option_to_list (end_fault 1 all)) 0) lines
     ∙ first_fault_is device done (read_lines now) line number fault (option_to_list (end_fault 1 all)) is clean here)
 
--- a reader that has given nothing has all lines to give
-pub scanned-start : (kind : Kind) (device : Option ℕ) (left : List ℕ) (reader : LinesSeen) → reader ≡ record { held = []; number = 1; given = 0 } → scanned kind device left ≡ scanned_lines kind device (listing_left reader left)
-unfolding scanned
-scanned-start kind device left reader is = ap (λ (seen : LinesSeen). scanned_lines kind device (listing_left seen left)) (sym is)
-
 scanned_is : (kind : Kind) (device : Option ℕ) (bytes : List ℕ) → scanned kind device bytes ≡ scanned_lines kind device (input_lines 256 1099511627776 bytes)
 unfolding scanned
 scanned_is kind device bytes = refl

@@ -1,5 +1,5 @@
 -- The usage that lines add up to, identifier by identifier, where one more line is the first of its inode.
-use Rattle.std.proofs.Common.{◌≡◌, ℕ, ◌+◌, ◌-◌, ◌*◌, ◌^◌, ◌<◌, ◌≤◌, Bool, true, false, cond, List, [], ◌∷◌, ◌++◌, map, Option, Some, None, refl, sym, ap, ◌∙◌, subst, inl, inr, arith, length-append, append-nil, eq-eqb, ne_eqb}
+use Rattle.std.proofs.Common.{◌≡◌, ℕ, ◌-◌, ◌*◌, ◌^◌, ◌<◌, ◌≤◌, Bool, true, false, cond, List, [], ◌∷◌, ◌++◌, map, Option, Some, None, refl, sym, ap, ◌∙◌, subst, inl, inr, arith, length-append, append-nil, eq-eqb, ne_eqb}
 use Rattle.std.specs.Prelude.{◌==◌, if◌then◌else◌, is_some, IfSome}
 use Rattle.std.specs.Cmp.{nat_cmp_total, unsigned_tied}
 use Rattle.std.specs.FinMap.{empty, find, get, get-empty, get-from_entries, get-insert, insert, nat_cmp-IsAntisymmetric, same_map}
@@ -117,9 +117,6 @@ weaker_at : (count : ℕ) (used : Option Used) → IfSome used (λ used. (used.i
 weaker_at count None bounded = tt
 weaker_at count (Some used) bounded = (omega arith, bounded.1)
 
-pub bounded_weaker : (count : ℕ) (usage : UsageMap) → IsBounded (count - 1) usage → IsBounded count usage
-bounded_weaker count usage bounded id = weaker_at count (get usage id) (bounded id)
-
 bounded_push : (count id blocks : ℕ) (usage : UsageMap) → 0 < count → blocks < 2 ^ 64 → IsBounded (count - 1) usage → IsBounded count (insert usage id (with_inode (get usage id) blocks))
 bounded_push count id blocks usage some fits bounded other =
     subst (λ o. IfSome o (λ used. (used.inodes ≤ count) × (used.space ≤ 2 ^ 73 * used.inodes))) (sym (get-insert nat_cmp_total usage id (with_inode (get usage id) blocks) other))
@@ -131,15 +128,6 @@ bounded_push count id blocks usage some fits bounded other =
 
 pub bounded_row : (count id : ℕ) (row : Row) (usage : UsageMap) → 0 < count → row.blocks < 2 ^ 64 → IsBounded (count - 1) usage → IsBounded count (insert usage id (with_inode (get usage id) row.blocks))
 bounded_row count id row usage some fits bounded = bounded_push count id row.blocks usage some fits bounded
-
--- what is bounded has room for one more inode
-pub room_for_more : (count id blocks : ℕ) (usage : UsageMap) → count < 2 ^ 41 → blocks < 2 ^ 64 → IsBounded (count - 1) usage
-    → IfSome (get usage id) (λ used. (used.space + 512 * blocks < 2 ^ 128) × (used.inodes + 1 < 2 ^ 64))
-room_for_more count id blocks usage few fits bounded = by (get usage id) (bounded id)
-  where
-    by : (used : Option Used) → IfSome used (λ used. (used.inodes ≤ count - 1) × (used.space ≤ 2 ^ 73 * used.inodes)) → IfSome used (λ used. (used.space + 512 * blocks < 2 ^ 128) × (used.inodes + 1 < 2 ^ 64))
-    by None bounded = tt
-    by (Some used) bounded = (omega arith, omega arith)
 
 pub bounded_none : (usage : UsageMap) → usage ≡ empty → IsBounded 0 usage
 bounded_none usage none id =

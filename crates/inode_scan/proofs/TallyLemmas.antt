@@ -228,9 +228,6 @@ row_good line row is = ap (λ o. not (words_eq (words_of line) []) && is_none o)
     otherright true = refl
     otherright false = refl
 
-pub bad_is : (line : List ℕ) → words_eq (words_of line) [] ≡ false → row_in line ≡ None → is_bad line ≡ true
-bad_is line words none = ap (λ b. not b && is_none (row_in line)) words ∙ ap (λ o. is_none o) none
-
 pub counted_is : (device : Option ℕ) (line : List ℕ) (row : Row) → row_in line ≡ Some row → counted_row device line ≡ (if is_asked device row then Some row else None)
 counted_is device line row is = ap (option_and_then (λ row. if is_asked device row then Some row else None)) is
 
@@ -279,10 +276,6 @@ pub wrong_conflict : (tally : Tally) (lines : List (List ℕ)) (line : List ℕ)
 wrong_conflict tally lines line number row fault is good counts conflicts of =
     let more : counted_lines tally.device (lines ++ line ∷ []) ≡ counted_lines tally.device lines ++ counted_at number row ∷ [] = counted_push tally.device lines line number (Some row) is counts in
     rw (good, counts, more) (conflicts (counted_lines tally.device lines) of.kept)
-
--- and so is one that is bad
-pub wrong_bad : (tally : Tally) (lines : List (List ℕ)) (line : List ℕ) (number : ℕ) → is_bad line ≡ true → fault_of tally.device (counted_lines tally.device (lines ++ line ∷ [])) (number, line) ≡ Some (BadLine number)
-wrong_bad tally lines line number bad = rw bad refl
 
 pub uncounted_row : (device : Option ℕ) (line : List ℕ) → row_in line ≡ None → counted_row device line ≡ None
 uncounted_row device line none = ap (option_and_then (λ row. if is_asked device row then Some row else None)) none

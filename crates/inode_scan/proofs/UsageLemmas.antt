@@ -5,8 +5,8 @@ use Rattle.std.specs.BTreeMap as tree
 use Rattle.std.specs.BTreeMap.{BTreeMap, is_at}
 use Rattle.std.specs.BTreeMap.Range.{IsInRange, IsRangeOf}
 use Rattle.std.specs.declared.ops.Bound.TheVariants.{Unbounded}
-use Rattle.std.specs.Cmp.{eq_by_cmp_equiv, nat_cmp_is, nat_cmp_total}
-use Rattle.std.specs.FinMap.{find, from_entries, get, get-from_entries, get-insert, insert, nat_cmp-IsAntisymmetric, same_map}
+use Rattle.std.specs.Cmp.{nat_cmp_is, nat_cmp_total}
+use Rattle.std.specs.FinMap.{find, from_entries, get, get-from_entries}
 use Rattle.std.specs.Map.{lookup}
 use Rattle.std.specs.Ordering.{eq_by_cmp, is_gt, nat_cmp}
 use Rattle.std.specs.declared.cmp.Ordering.TheVariants.{Less, Greater}
@@ -23,15 +23,6 @@ found_entry (e ∷ es) id = ap (cond (eq_by_cmp nat_cmp id e.0) (Some e.1)) (fou
 -- what the map of entries has for an identifier
 pub get_entries : (es : List (ℕ × Used)) (id : ℕ) → get (from_entries {R = nat_cmp} es) id ≡ lookup (is_at (nat_cmp id)) es
 get_entries es id = get-from_entries nat_cmp_total es id ∙ found_entry es id
-
--- the map of entries of which one was put in
-pub one_put : (es now : List (ℕ × Used)) (id : ℕ) (used : Used) → ((other : ℕ) → lookup (is_at (nat_cmp other)) now ≡ cond (is_at (nat_cmp id) other) (Some used) (lookup (is_at (nat_cmp other)) es))
-    → from_entries {R = nat_cmp} now ≡ insert (from_entries es) id used
-one_put es now id used put =
-    same_map nat_cmp_total nat_cmp-IsAntisymmetric _ _ (λ other.
-    get_entries now other ∙ put other
-    ∙ ap (λ b. cond b (Some used) (lookup (is_at (nat_cmp other)) es)) ((eq_by_cmp_equiv nat_cmp_total).symm id other)
-    ∙ sym (get-insert nat_cmp_total (from_entries es) id used other ∙ ap (cond (eq_by_cmp nat_cmp other id) (Some used)) (get_entries es other)))
 
 -- The next identifier.
 

@@ -1,5 +1,4 @@
-ghost use Rattle.std.specs.Prelude.{◌≡◌, ◌+◌, ◌-◌, ◌≤◌, ◌++◌, ◌∷◌, ◌⊎◌, [], codes, decimal, take, length, IfOk, OnErr};
-ghost use Rattle.outside.specs.Count.{Rose};
+ghost use Rattle.std.specs.Prelude.{◌≡◌, ◌+◌, ◌-◌, ◌≤◌, ◌++◌, ◌∷◌, ◌⊎◌, [], codes, decimal, take, length};
 ghost use Rattle.inode_scan.specs.Generated.{first_alike, generated, next_number, number_behind, row_made, row_text};
 ghost use Rattle.inode_scan.specs.GeneratedLeft.{generated_left, generated_seen};
 

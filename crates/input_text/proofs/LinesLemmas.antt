@@ -265,27 +265,6 @@ at_end most room (byte ∷ bytes) open_line within fits =
     ∙ ap (λ (xs : List ℕ). Line line xs) (drop_all (newline_at line + 1) line (omega (arith, place)))
     ∙ ap (λ (b : Bool). line_given b line []) (sym (lt-ltb 0 (length line) (omega arith)))
 
--- what stands behind a line, and nothing where there is none
-abbrev behind_of : NextLine → List ℕ
-behind_of AtEnd = []
-behind_of (Line bytes behind) = behind
-behind_of LongLine = []
-behind_of PastTotal = []
-
--- it is a line
-abbrev IsLine : NextLine → Type 0
-IsLine AtEnd = ⊥
-IsLine (Line bytes behind) = Unit {0}
-IsLine LongLine = ⊥
-IsLine PastTotal = ⊥
-
--- what is picked is a line only by the last test
-line_picked : (long past empty : Bool) (line : NextLine) → IsLine (cond long LongLine (cond past PastTotal (cond empty AtEnd line))) → cond long LongLine (cond past PastTotal (cond empty AtEnd line)) ≡ line
-line_picked true past empty line is = absurd is
-line_picked false true empty line is = absurd is
-line_picked false false true line is = absurd is
-line_picked false false false line is = refl
-
 -- the input ended, and what stands in the line is all that was left
 pub last_line : (most room : ℕ) (start rest line now behind : List ℕ) (more : Bool) → line ++ rest ≡ start → now ≡ rest → now ≡ [] → behind ≡ now → list_any is_newline line ≡ false
     → length line ≤ most → length line ≤ room → more ≡ nat_lt 0 (length line) → next_line_of most room start ≡ line_given more line behind

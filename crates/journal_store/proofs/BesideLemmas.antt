@@ -1,7 +1,7 @@
 -- Calls on a file whose name is new, beside the held one.
 use Rattle.std.proofs.Common.{◌≡◌, ℕ, Bool, List, Option, sym, ap, ◌∙◌}
 use Rattle.outside.specs.Unsynced.{Names, with_name}
-use Rattle.outside.specs.World.{KeepsOthers, World, with_bytes, with_file}
+use Rattle.outside.specs.World.{World, with_bytes, with_file}
 use Rattle.disk.specs.DiskSeen.{DiskSeen, Follows}
 use Rattle.disk.specs.Steps.{ChangesFile}
 use Rattle.edit_journal.specs.Recovered.{IsRecovered}
@@ -10,7 +10,7 @@ use Rattle.edit_journal.specs.UndoName.{undo_name}
 use Rattle.journal_store.specs.Told.{told_files, told_names}
 use Rattle.journal_store.proofs.ChangeLemmas.{told-put_new, told-written_new}
 use Rattle.journal_store.proofs.KindLemmas.{IsNew, IsPlain, new-apart, undo-apart}
-use Rattle.journal_store.proofs.NamesLemmas.{are_kept-other, names-put, told-names-at}
+use Rattle.journal_store.proofs.NamesLemmas.{are_kept-other, names-put}
 use Rattle.journal_store.proofs.ReadyLemmas.{recovered-on}
 
 -- the held file stays
@@ -36,10 +36,6 @@ put-beside a b held name spans file new put = ap (λ (f : World). told_files f h
 pub names-beside : (a b : Names) (held name : List ℕ) (spans : List Span) (is : Bool) → IsPlain held → IsNew name → b ≡ with_name a name is → told_names b held spans ≡ with_name (told_names a held spans) name is
 names-beside a b held name spans is plain new made =
     ap (λ (u : Names). told_names u held spans) made ∙ names-put a held spans name is new.undo (are_kept-other held spans name (new-apart held name plain.new new.new))
-
--- all other names
-pub others-beside : (a b : Names) (held name : List ℕ) (spans : List Span) → KeepsOthers name a b → KeepsOthers name (told_names a held spans) (told_names b held spans)
-others-beside a b held name spans keeps n differ = told-names-at a b held spans n (keeps n differ)
 
 -- where no file changed
 pub same_told : (held : List ℕ) (spans : List Span) (a b : World) → b ≡ a → told_files b held spans ≡ told_files a held spans

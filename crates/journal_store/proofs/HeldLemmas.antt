@@ -1,13 +1,12 @@
 -- What is told of the held file, and what its calls leave.
 use Rattle.std.proofs.Common.{◌≡◌, ◌≢◌, ◌≤◌, inl, inr, ◌⊎◌, ⊎_elim, ℕ, Bool, true, IsSome, refl, List, [], ◌∷◌, ◌++◌, length, Option, Some, None, option_map, unwrap_or, sym, ap, ◌∙◌, subst, arith}
-use Rattle.std.proofs.lemmas.Bool.{false≢true}
 use Rattle.std.proofs.lemmas.List.{map-append}
 use Rattle.outside.specs.Unsynced.{Names, with_handed, with_name}
 use Rattle.outside.specs.World.{World, with_bytes, with_file, with_new_name}
 use Rattle.disk.specs.DiskSeen.{DiskSeen}
 use Rattle.quota_types.specs.Bytes.{byte_at}
 use Rattle.edit_journal.specs.Recovered.{IsRecovered}
-use Rattle.edit_journal.specs.Spans.{Span, laid, span_of, spans_of}
+use Rattle.edit_journal.specs.Spans.{Span, span_of, spans_of}
 use Rattle.edit_journal.specs.UndoName.{undo_name}
 use Rattle.edit_journal.specs.declared.kept.KeptRange.{KeptRange}
 use Rattle.journal_store.specs.Kinds.{kind_of}
@@ -15,7 +14,6 @@ use Rattle.journal_store.specs.Told.{told_files, told_names}
 use Rattle.journal_store.specs.declared.kinds.NameKind.TheVariants.{Plain}
 use Rattle.journal_store.proofs.ChangeLemmas.{told-kept, told-put, told-renamed}
 use Rattle.journal_store.proofs.KindLemmas.{IsNew, IsPlain, is_plain}
-use Rattle.journal_store.proofs.LookLemmas.{told-ready}
 use Rattle.journal_store.proofs.NamesLemmas.{are_kept-none, names-handed, names-kept, names-put}
 
 -- a name is held, and its file is recovered
@@ -33,10 +31,6 @@ stands disk held name is plain now ready = record {
   ready = subst (λ (n : List ℕ). IsRecovered n (undo_name n) (disk.files n) disk) is ready;
 }
 
--- what is told of its file
-pub told-at : (disk : DiskSeen) (held name : List ℕ) (spans : List Span) → Stands disk held name → told_files disk.files held spans name ≡ option_map (laid spans) (disk.files name)
-told-at disk held name spans it = told-ready disk held spans name it.is it.plain it.now it.ready
-
 -- its gate is closed
 pub closed-at : (disk : DiskSeen) (held name : List ℕ) → Stands disk held name → byte_at (unwrap_or (disk.files (undo_name name)) []) 0 ≢ 1
 closed-at disk held name it = it.ready.closed disk.files it.now
@@ -48,18 +42,6 @@ spans-pushed items new range at bytes pushed here same =
     ∙ map-append span_of items (range ∷ [])
     ∙ ap (λ (p : ℕ). spans_of items ++ record { at = p; bytes = range.bytes.items } ∷ []) here
     ∙ ap (λ (b : List ℕ). spans_of items ++ record { at = at; bytes = b } ∷ []) same
-
-some-laid : (spans : List Span) (file : Option (List ℕ)) → IsSome file → IsSome (option_map (laid spans) file)
-some-laid spans (Some file) there = refl
-some-laid spans None there = absurd (false≢true there)
-
--- the held file is told to be there where it is
-pub there-at : (disk : DiskSeen) (held name : List ℕ) (spans : List Span) → Stands disk held name → IsSome (disk.files name) → IsSome (told_files disk.files held spans name)
-there-at disk held name spans it there = subst (λ (f : Option (List ℕ)). IsSome f) (sym (told-at disk held name spans it)) (some-laid spans (disk.files name) there)
-
--- and not to be there where it is not
-pub absent-at : (disk : DiskSeen) (held name : List ℕ) (spans : List Span) → Stands disk held name → disk.files name ≡ None → told_files disk.files held spans name ≡ None
-absent-at disk held name spans it absent = told-at disk held name spans it ∙ ap (λ (f : Option (List ℕ)). option_map (laid spans) f) absent
 
 -- a range that is kept, after the disk was asked
 pub kept-at : (a b : DiskSeen) (held name : List ℕ) (spans more : List Span) (at : ℕ) (bytes : List ℕ) → Stands a held name → b.files ≡ a.files → IsSome (a.files name) → 1 ≤ length bytes → more ≡ spans ++ record { at = at; bytes = bytes } ∷ []

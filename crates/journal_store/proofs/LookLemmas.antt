@@ -3,7 +3,6 @@ use Rattle.std.proofs.Common.{◌≡◌, ◌≤◌, inl, inr, ℕ, Bool, ◌||�
 use Rattle.std.specs.Str.{bytes_eq}
 use Rattle.std.proofs.lemmas.Bool.{cases_Bool, cond-false, false≢true}
 use Rattle.outside.specs.Unsynced.{Names}
-use Rattle.outside.specs.World.{World}
 use Rattle.outside.proofs.WorldLemmas.{bytes_eq-true}
 use Rattle.outside.proofs.FrameLemmas.{adds_none-then, keeps_others-then}
 use Rattle.disk.specs.DiskSeen.{DiskSeen}
@@ -16,12 +15,6 @@ use Rattle.journal_store.specs.Told.{LooksAt, Told, are_kept, spans_for, told, t
 use Rattle.journal_store.specs.Kinds.{is_undo}
 use Rattle.journal_store.proofs.KindLemmas.{IsPlain}
 use Rattle.journal_store.proofs.ToldLemmas.{are_kept-moved, differs, names-others, spans_for-held, told-plain, told-recovers}
-
--- what is told of the same files and names
-pub told-nothing : (a b : DiskSeen) (held : List ℕ) (spans : List Span) → b.files ≡ a.files → b.unsynced ≡ a.unsynced → told b held spans ≡ told a held spans
-told-nothing a b held spans files names =
-    ap (λ (f : World). let t : Told = record { files = told_files f held spans; unsynced = told_names b.unsynced held spans } in t) files
-    ∙ ap (λ (u : Names). let t : Told = record { files = told_files a.files held spans; unsynced = told_names u held spans } in t) names
 
 -- a call that changed nothing only looked
 pub looks-nothing : {done : Bool} (name : List ℕ) (a b : Told) → b ≡ a → LooksAt done name a b

@@ -1,7 +1,7 @@
 -- What is read of a file over which ranges are laid.
 use Rattle.std.proofs.Common.{◌≡◌, ◌⊎◌, inl, inr, ℕ, ◌+◌, ◌-◌, ◌<◌, ◌≤◌, List, [], ◌∷◌, ◌++◌, length, take, drop, get_or, replicate, sym, ap, ◌∙◌, arith, length-append, length-drop, length-take}
-use Rattle.std.specs.Prelude.{max, min}
-use Rattle.std.proofs.lemmas.List.{ext_get_or, get_or-drop, get_or-take, length-replicate, map_more, take_all}
+use Rattle.std.specs.Prelude.{max}
+use Rattle.std.proofs.lemmas.List.{length-replicate, map_more, take_all}
 use Rattle.quota_types.specs.Bytes.{byte_at}
 use Rattle.edit_journal.specs.Spans.{Span, laid, span_of, spans_of, with_laid}
 use Rattle.edit_journal.specs.declared.kept.KeptRange.{KeptRange}
@@ -32,16 +32,6 @@ spans-more ranges i range file is below =
 
 pub spans-all : (ranges : List KeptRange) (i : ℕ) → length ranges ≤ i → spans_of (take i ranges) ≡ spans_of ranges
 spans-all ranges i all = ap (λ (l : List KeptRange). spans_of l) (take_all i ranges all)
-
--- bytes that were read are those of the file from the place on
-pub read-bytes : (file buf : List ℕ) (at count len : ℕ) → count ≡ min len (length file - at) → length buf ≡ len → ((j : ℕ) → j < len → get_or buf j 0 ≡ byte_at file (at + j)) → take count buf ≡ take len (drop at file)
-read-bytes file buf at count len counts long same =
-    ext_get_or 0 (take count buf) (take len (drop at file))
-    (omega (arith, length-take count buf, length-take len (drop at file), length-drop at file, counts, long))
-    (λ j below.
-    let inside : j < count = omega (arith, below, length-take count buf) in
-    let within : j < len = omega (arith, inside, counts) in
-    get_or-take count buf j 0 inside ∙ same j within ∙ sym (get_or-drop at file j 0) ∙ sym (get_or-take len (drop at file) j 0 within))
 
 -- a place that is not in a range that is laid over a file
 pub laid-past : (file : List ℕ) (at : ℕ) (bytes : List ℕ) (place : ℕ) → (place < at) ⊎ (at + length bytes ≤ place) → byte_at file place ≡ byte_at (with_laid file at bytes) place

@@ -1,9 +1,8 @@
 -- A recovered file stays so, and a file that is there stays there.
-use Rattle.std.proofs.Common.{◌≡◌, ℕ, List, [], length, Option, Some, None, IsSome, unwrap_or, refl, sym, ap, ◌∙◌, subst, arith}
+use Rattle.std.proofs.Common.{◌≡◌, ℕ, List, [], length, Option, Some, None, IsSome, unwrap_or, refl, sym, ap, ◌∙◌, arith}
 use Rattle.outside.specs.World.{World}
-use Rattle.disk.specs.DiskSeen.{ChangesNothing, DiskSeen, Follows}
+use Rattle.disk.specs.DiskSeen.{DiskSeen, Follows}
 use Rattle.quota_types.specs.Bytes.{byte_at}
-use Rattle.edit_journal.specs.Recovery.{IsSame}
 use Rattle.edit_journal.specs.Recovered.{IsRecovered}
 use Rattle.edit_journal.specs.Undo.{recovered}
 
@@ -23,18 +22,6 @@ recovered-on name undo step a b keeps follows is = record {
       let here = ap (λ (u : Option (List ℕ)). length (unwrap_or u [])) (keeps from.0 image from.2).1 in
       omega (arith, here, is.room (omega (arith, long, read)) from.0 from.1);
 }
-
-follows-nothing : (a b : DiskSeen) → ChangesNothing a b → Follows IsSame a b
-follows-nothing a b nothing = record { left = λ image left. (image, nothing.fewer image left, refl); read = nothing.files }
-
--- so does a call that changes nothing
-pub recovered-nothing : (name undo : List ℕ) (a b : DiskSeen) → ChangesNothing a b → IsRecovered name undo (a.files name) a → IsRecovered name undo (b.files name) b
-recovered-nothing name undo a b nothing is =
-    recovered-on name undo IsSame a b (λ x y same. (ap (λ (f : World). f name) same, ap (λ (f : World). f undo) same)) (follows-nothing a b nothing) is
-
--- a recovered file, as it is read
-pub recovered-read : (name undo : List ℕ) (file : Option (List ℕ)) (disk : DiskSeen) → disk.images disk.files → IsRecovered name undo file disk → IsRecovered name undo (disk.files name) disk
-recovered-read name undo file disk now is = subst (λ (f : Option (List ℕ)). IsRecovered name undo f disk) (sym (is.whole disk.files now)) is
 
 -- a file that recovers to what one does that is there, is there
 pub recovered-there : (file undo new new_undo : Option (List ℕ)) → recovered new new_undo ≡ recovered file undo → IsSome file → IsSome new

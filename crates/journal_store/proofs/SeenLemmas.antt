@@ -43,11 +43,6 @@ pub changes_two-seen : (tells : Bool) (one two : List ℕ) (a b : Told) (fa ra w
 changes_two-seen true one two a b fa ra wa fb rb wb files names later reads = record { files = files refl; unsynced = names refl; later = later; reads = reads }
 changes_two-seen false one two a b fa ra wa fb rb wb files names later reads = record { files = λ other differ differs. refl; unsynced = λ other differ differs. refl; later = later; reads = reads }
 
--- the files of a store that tells
-pub seen-told : (tells : Bool) (t : Told) (f r w : ℕ) → IsTrue tells → ((seen_as tells t f r w).files ≡ t.files) × ((seen_as tells t f r w).unsynced ≡ t.unsynced)
-seen-told true t f r w is = (refl, refl)
-seen-told false t f r w is = absurd (cc)
-
 -- what follows from a call that was done and from one that was not
 pub by_result : {T E P Q : Type 0} (result : Result T E) (R : Type 0) → OnOk result P → OnErr result Q → (P → R) → (Q → R) → R
 by_result (Ok value) R ok err done undone = done ok

@@ -82,12 +82,6 @@ module _ {D : Type 0} {g : Ghosts D} where
   abbrev pub IsRenameRefused : Journal D g → (from to : List ℕ) → Type 0
   IsRenameRefused journal from to = (kind_of from ≢ New) ⊎ (kind_of to ≢ Plain) ⊎ KeepsAny journal
 
-  -- a journal holds the same name, and keeps the same ranges
-  pub record HoldsSame (old new : Journal D g) : Type 0 where
-    pub name : new.name.bytes ≡ old.name.bytes
-    pub ranges : new.ranges.items ≡ old.ranges.items
-    pub ready : new.ready ≡ old.ready
-
   -- the same ranges are kept
   abbrev pub KeepsSame : Journal D g → Journal D g → Type 0
   KeepsSame old new = new.ranges.items ≡ old.ranges.items

@@ -6,9 +6,8 @@ use disk::Disk;
 use outside::StoreFault;
 
 impl<D: Disk> Journal<D> {
-    ghost use Rattle.std.specs.Prelude.{◌≡◌, ◌≢◌, ◌⊎◌, ◌↔◌, ◌^◌, ◌≤◌, ◌∷◌, ℕ, List, [], None, Some, length, option_map, take, false, true, IfOk, IsErr, IsSome, IsTrue, OnErr, OnOk, is_ok};
-    ghost use Rattle.disk.specs.DiskSeen.{ChangesNothing, Follows, OnlyLeaves, Passes};
-    ghost use Rattle.edit_journal.specs.Recovery.{IsSame};
+    ghost use Rattle.std.specs.Prelude.{◌≡◌, ◌≢◌, ◌⊎◌, ◌↔◌, ◌^◌, ◌≤◌, ◌∷◌, [], None, Some, length, option_map, take, false, true, IfOk, IsErr, IsSome, IsTrue, OnErr, OnOk, is_ok};
+    ghost use Rattle.disk.specs.DiskSeen.{Follows, OnlyLeaves, Passes};
     ghost use Rattle.edit_journal.specs.Recovered.{RecoversSame, IsRecovered, KeepsOtherThree};
     ghost use Rattle.edit_journal.specs.Undo.{recovered};
     ghost use Rattle.edit_journal.specs.UndoName.{und_name, undo_name};

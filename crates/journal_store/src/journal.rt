@@ -10,7 +10,7 @@ ghost use Rattle.journal_store.specs.declared.kinds.NameKind.TheVariants.{Plain}
 use crate::kinds::NameKind;
 use crate::overlay::{laid_read, laid_size, meets_any};
 use arrayvec::{ArrayString, ArrayVec};
-use disk::{Disk, DiskFault};
+use disk::Disk;
 use edit_journal::names::{und_name, undo_name};
 use edit_journal::{KeptRange, commit_file, recover_file};
 use outside::StoreFault;
@@ -33,16 +33,16 @@ pub(crate) struct Journal<D: Disk> {
 }
 
 impl<D: Disk> Journal<D> {
-    ghost use Rattle.std.specs.Prelude.{◌≢◌, ◌⊎◌, ◌^◌, ◌∷◌, ℕ, List, [], None, Some, option_map, take, false, true, IfOk, IsErr, OnErr, OnOk, is_ok};
+    ghost use Rattle.std.specs.Prelude.{◌≢◌, ◌⊎◌, ◌^◌, ◌∷◌, [], None, Some, option_map, take, false, true, IfOk, IsErr, OnErr, OnOk, is_ok};
     ghost use Rattle.std.specs.Str.{bytes_eq};
-    ghost use Rattle.disk.specs.DiskSeen.{ChangesNothing, Follows, OnlyLeaves, Passes};
+    ghost use Rattle.disk.specs.DiskSeen.{Follows, OnlyLeaves, Passes};
     ghost use Rattle.disk.specs.Steps.{IsRenamed, MayBeRenamed};
     ghost use Rattle.edit_journal.specs.Recovery.{IsSame};
     ghost use Rattle.edit_journal.specs.Recovered.{RecoversSame, KeepsOtherThree};
     ghost use Rattle.edit_journal.specs.Undo.{recovered};
     ghost use Rattle.edit_journal.specs.UndoName.{und_name};
     ghost use Rattle.journal_store.specs.Commits.{Commits};
-    ghost use Rattle.journal_store.specs.JournalStore.{HasNoRoom, HoldsSame, IsSecond, KeepsAny, RecoversAsBeforeOr, disk_of, told_of};
+    ghost use Rattle.journal_store.specs.JournalStore.{HasNoRoom, IsSecond, KeepsAny, RecoversAsBeforeOr, disk_of, told_of};
     ghost use Rattle.journal_store.specs.Replaced.{HasClosedGate};
     ghost use Rattle.journal_store.specs.Told.{LooksAt};
     ghost use Rattle.outside.specs.Count.{Rose};

@@ -1,6 +1,6 @@
 //! What a name is to a journal.
 
-ghost use Rattle.std.specs.Prelude.{◌≡◌, codes, length, nat_le, if◌then◌else◌};
+ghost use Rattle.std.specs.Prelude.{◌≡◌, length, nat_le, if◌then◌else◌};
 ghost use Rattle.journal_store.specs.Kinds.{ends_so, is_new, is_undo, kind_of};
 
 /// What a name is to a journal.

@@ -4,7 +4,6 @@ ghost use Rattle.outside.specs.Count.{Rose, counted};
 ghost use Rattle.outside.specs.Frame.{ChangesOne, ChangesTwo, OnlyReads};
 ghost use Rattle.memory_objects.specs.InMemory.{mem_store_plan, mem_store_seen, new_plan};
 ghost use Rattle.memory_objects.specs.MemStore.{HaveDistinctNames, file_named};
-ghost use Rattle.memory_objects.specs.NameSet.{names_in};
 ghost use Rattle.outside.specs.Unsynced.{AddsNone, with_handed, with_name};
 ghost use Rattle.outside.specs.World.{bytes_from, with_bytes, with_file, with_new_name};
 

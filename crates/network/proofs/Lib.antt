@@ -1,2 +1,1 @@
-pub mod ConnectionsLemmas
 pub mod EventsLemmas

@@ -29,10 +29,6 @@ pub record IsBounded (change : FileChange) (laws : FileLaws) (old new : FileAt) 
   pub reads : new.store.reads ≤ old.store.reads + laws.change_reads old.seen change
   pub writes : new.store.writes ≤ old.store.writes + laws.change_writes old.seen change
 
--- no call was made
-pub bounded-none : (change : FileChange) (laws : FileLaws) (old new : FileAt) → new.store.reads ≡ old.store.reads → new.store.writes ≡ old.store.writes → IsBounded change laws old new
-bounded-none change laws old new reads writes = record { reads = omega (arith, reads); writes = omega (arith, writes) }
-
 -- There was something to do at each value that the file holds, and there was room for what it becomes.
 pub record IsWanted (change : FileChange) (laws : FileLaws) (old : FileAt) : Type 0 where
   pub busy : (value : QuotaValue) → old.holds value → has_nothing_to_do change value ≡ false

@@ -1,5 +1,5 @@
 -- What changes of one file leave, for none and for two in a row.
-use Rattle.std.proofs.Common.{◌≡◌, ℕ, Bool, List, inl, inr, refl, subst, ◌∙◌, arith}
+use Rattle.std.proofs.Common.{ℕ, Bool, List, inl, inr, refl, subst, ◌∙◌, arith}
 use Rattle.outside.specs.Count.{Rose}
 use Rattle.outside.specs.Frame.{ChangesOne, OnlyReads}
 use Rattle.outside.specs.Seen.{StoreSeen}

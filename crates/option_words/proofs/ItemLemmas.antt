@@ -1,14 +1,14 @@
 -- What words say, read word by word from the left.
-use Rattle.std.proofs.Common.{◌≡◌, ◌∙◌, ℕ, Bool, true, false, ◌==◌, if◌then◌else◌, Option, Some, None, String, slice_index, ◌+◌, ◌<◌, ◌≤◌, List, [], ◌∷◌, ◌++◌, length, get_or, take, drop, Result, Ok, Err, refl, sym, ap, arith, add-one, drop-cons}
+use Rattle.std.proofs.Common.{◌≡◌, ◌∙◌, ℕ, Bool, true, false, ◌==◌, if◌then◌else◌, Option, Some, None, String, slice_index, ◌+◌, ◌<◌, List, [], ◌∷◌, ◌++◌, length, get_or, take, drop, Result, Ok, Err, refl, sym, ap, arith, add-one, drop-cons}
 use Rattle.std.specs.String.{string_bytes}
 use Rattle.std.specs.declared.alloc.Global.{Global}
-use Rattle.std.proofs.lemmas.List.{append-nil, drop_all, get_or-map}
+use Rattle.std.proofs.lemmas.List.{get_or-map}
 use Rattle.option_words.specs.declared.fault.Fault.{Fault}
 use Rattle.option_words.specs.declared.scan.Wanted.{Wanted}
 use Rattle.option_words.specs.declared.tool.Tool.{Tool}
 use Rattle.option_words.specs.declared.switch.Switch.{Switch}
 use Rattle.option_words.specs.declared.switch.Switch.TheVariants.{Flagged, Setting, Export}
-use Rattle.option_words.specs.Items.{AnyWord, Item, Next, Operand, Plain, Said, end_says, items_of, letter_says, letters_say, long_says, long_word_says, operands_in, options_say, texts_of, word_says}
+use Rattle.option_words.specs.Items.{AnyWord, Item, Next, Operand, Plain, Said, items_of, letter_says, letters_say, long_says, long_word_says, operands_in, options_say, texts_of, word_says}
 use Rattle.option_words.specs.Fault.{◌>>=◌}
 use Rattle.option_words.specs.Parts.{parted}
 use Rattle.option_words.specs.Switches.{letter_switch, long_switch}
@@ -75,11 +75,6 @@ pub text_at : (words : List (String Global)) (at : ℕ) (word : String Global) (
     → word ≡ get_or words at word → text ≡ string_bytes word → text ≡ get_or (texts_of words) at []
 text_at words at word text inside found is = is ∙ ap string_bytes found ∙ sym (get_or-map _ words at word [] inside)
 
--- no operand is said by the end of the words
-pub operands_in-end : (next : Next) → operands_in (end_says next) ≡ []
-operands_in-end AnyWord = refl
-operands_in-end _ = refl
-
 -- The words before a place were read: with those from there on, the same is given as by all of them, and the same
 -- operands are kept.
 pub record IsScanned (tool : Tool) (texts : List (List ℕ)) (at : ℕ) (next : Next) (told : Told) (kept : List Operand) : Type 0 where
@@ -124,16 +119,3 @@ scanned_fault tool texts at next told kept text met told' so inside is reads =
     let rest = items_of tool said.next (at + 1 + 1) (drop (at + 1) texts) in
     so.given ∙ ap (λ (items : List Item). with_items items told) (items_here tool texts at next text inside is)
     ∙ with_items-append said.items rest told ∙ ap (λ (r : Result Told Fault). r >>= λ (t : Told). with_items rest t) reads
-
--- all words were read
-pub scanned_all : (tool : Tool) (texts : List (List ℕ)) (at : ℕ) (next : Next) (told : Told) (kept : List Operand)
-    → IsScanned tool texts at next told kept → length texts ≤ at
-    → (with_items (items_of tool AnyWord 1 texts) nothing_told ≡ with_items (end_says next) told)
-    × (take 7 (operands_in (items_of tool AnyWord 1 texts)) ≡ take 7 kept)
-scanned_all tool texts at next told kept so past =
-    let done : drop at texts ≡ [] = drop_all at texts past in
-    let ended : items_of tool next (at + 1) (drop at texts) ≡ end_says next = ap (items_of tool next (at + 1)) done in (
-      so.given ∙ ap (λ (items : List Item). with_items items told) ended,
-      so.operands ∙ ap (λ (items : List Item). take 7 (kept ++ operands_in items)) ended
-          ∙ ap (λ (os : List Operand). take 7 (kept ++ os)) (operands_in-end next) ∙ ap (take 7) (append-nil kept),
-    )

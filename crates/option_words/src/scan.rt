@@ -1,4 +1,4 @@
-ghost use Rattle.std.specs.Prelude.{◌≡◌, [], ◌∷◌, None, Some, Ok, Err, MatchResult, IfErr, IfOk, IsTrue, OnOk, take};
+ghost use Rattle.std.specs.Prelude.{◌≡◌, [], ◌∷◌, None, Some, Ok, Err, MatchResult, IfOk, IsTrue, OnOk, take};
 ghost use Rattle.option_words.specs.Items.{texts_of};
 ghost use Rattle.option_words.specs.Items.{operands_in};
 ghost use Rattle.option_words.specs.Given.{Told, nothing_told, told, with_items};

@@ -4,8 +4,7 @@ use Rattle.std.specs.Result.{is_ok}
 use Rattle.std.proofs.lemmas.Bool.{cases_Bool, false≢true}
 use Rattle.outside.specs.Count.{Rose}
 use Rattle.outside.specs.Frame.{AreSynced, ChangesOne, IsUnfailed, OnlyReads}
-use Rattle.outside.specs.ManyCalls.{IsSynced, ReplacesOne, Syncs}
-use Rattle.outside.specs.Replacement.{replacement_name}
+use Rattle.outside.specs.ManyCalls.{IsSynced, Syncs}
 use Rattle.outside.specs.Seen.{StoreSeen}
 use Rattle.outside.specs.Unsynced.{AddsNone, Names}
 use Rattle.outside.specs.World.{KeepsOthers, KeepsOtherTwo, World}
@@ -95,29 +94,6 @@ changes_one-then name old between new first second = record {
   later = omega (arith, first.later, second.later);
   reads = second.reads ∙ first.reads;
 }
-
-pub replaces_one-none : (name : List ℕ) (seen : StoreSeen) → ReplacesOne name seen seen
-replaces_one-none name seen = record { files = λ other differ differs. refl; unsynced = λ other differ differs. refl; later = omega arith }
-
-pub replaces_one-then : (name : List ℕ) (old between new : StoreSeen) → ReplacesOne name old between → ReplacesOne name between new → ReplacesOne name old new
-replaces_one-then name old between new first second = record {
-  files = keeps_other_two-then name (replacement_name name) _ _ _ first.files second.files;
-  unsynced = keeps_other_two-then name (replacement_name name) _ _ _ first.unsynced second.unsynced;
-  later = omega (arith, first.later, second.later);
-}
-
--- a call that only reads replaces nothing
-pub replaces_one-read : {done : Bool} (name : List ℕ) (old new : StoreSeen) → OnlyReads done name old new → ReplacesOne name old new
-replaces_one-read name old new read = record {
-  files = λ other differ differs. keeps_others-same name _ _ read.files other differ;
-  unsynced = λ other differ differs. read.unsynced other differ;
-  later = read.later;
-}
-
--- a change after a call that only reads
-pub replaces_one-after_read : {done : Bool} (name : List ℕ) (old between new : StoreSeen) → OnlyReads done name old between → ReplacesOne name between new → ReplacesOne name old new
-replaces_one-after_read name old between new first second =
-    replaces_one-then name old between new (replaces_one-read name old between first) second
 
 -- a name that was synced is synced after a call that made no name unsynced
 still_synced : (name : List ℕ) (old new : Names) → AddsNone old new → old name ≡ false → new name ≡ false

@@ -1,15 +1,13 @@
 -- Names that are unsynced, call by call, and as a set in memory.
-use Rattle.std.proofs.Common.{◌≡◌, ◌≢◌, ◌⊎◌, inl, inr, ℕ, Bool, true, false, cond, not, IsTrue, List, [], ◌∷◌, ◌||◌, Some, Result, Ok, Err, OnOk, OnErr, filter, refl, sym, ap, subst, ◌∙◌, String}
+use Rattle.std.proofs.Common.{◌≡◌, ◌≢◌, ◌⊎◌, inl, inr, ℕ, Bool, true, false, cond, IsTrue, List, Some, Result, Ok, Err, OnOk, OnErr, refl, sym, ap, subst, ◌∙◌}
 use Rattle.std.specs.Option.{is_some}
 use Rattle.std.specs.Str.{bytes_eq}
-use Rattle.std.specs.String.{string_bytes}
-use Rattle.std.specs.declared.alloc.Global.{Global}
 use Rattle.std.proofs.lemmas.Bool.{cases_Bool, cond-true, cond-false, false≢true, true≢false}
 use Rattle.outside.specs.ManyCalls.{replaced_names}
 use Rattle.outside.specs.Replacement.{ReplacesOnly, replacement_name}
 use Rattle.outside.specs.Unsynced.{AddsNone, Names, with_handed, with_name}
 use Rattle.outside.specs.World.{KeepsOthers, KeepsOtherTwo, World, with_file}
-use Rattle.outside.proofs.WorldLemmas.{apart_names, bytes_eq-ne, bytes_eq-same, bytes_eq-true, with_file-at}
+use Rattle.outside.proofs.WorldLemmas.{apart_names, bytes_eq-ne, bytes_eq-same, with_file-at}
 
 -- two sets with the same names
 pub same_names : (one other : Names) → ((name : List ℕ) → one name ≡ other name) → one ≡ other
@@ -23,16 +21,6 @@ swap : (one other x y z : Bool) → (one ≡ true → other ≡ true → ⊥) �
 swap true true x y z apart = absurd (apart refl refl)
 swap true false x y z apart = refl
 swap false other x y z apart = refl
-
-both_false : (test : Bool) → cond test false false ≡ false
-both_false true = refl
-both_false false = refl
-
-either : (there named : Bool) → (there || (named || false)) ≡ cond named true there
-either true true = refl
-either true false = refl
-either false true = refl
-either false false = refl
 
 -- the name itself
 pub with_name-at : (names : Names) (name : List ℕ) (is : Bool) → with_name names name is name ≡ is

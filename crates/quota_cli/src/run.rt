@@ -1,4 +1,4 @@
-ghost use Rattle.std.specs.Prelude.{◌≡◌, ◌≢◌, ◌≤◌, ◌⊎◌, ◌↔◌, false, None, Some, Err, Ok, IsTrue, IsErr, IsErrAnd, IfErr, IfOk, if◌then◌else◌, MatchResult};
+ghost use Rattle.std.specs.Prelude.{◌≡◌, ◌≢◌, ◌≤◌, ◌⊎◌, ◌↔◌, false, None, Some, Err, Ok, IsTrue, IsErr, IsErrAnd, IfErr};
 ghost use Rattle.std.specs.Result.{result_err};
 ghost use Rattle.outside.specs.Count.{Rose};
 ghost use Rattle.run_steps.specs.Done.{IsAllTold, NoFault, seen_of, tells_of};

@@ -1,36 +1,14 @@
 -- Events that are received, attempts that are made, and exchanges.
-use Rattle.std.proofs.Common.{◌≡◌, ℕ, ◌+◌, ◌<◌, List, [], ◌∷◌, ◌++◌, take, None, Some, refl, sym, ap, subst, ◌∙◌, inl, inr, append_assoc, length-append, arith}
+use Rattle.std.proofs.Common.{◌≡◌, ℕ, ◌+◌, ◌<◌, List, [], ◌∷◌, ◌++◌, None, Some, refl, sym, ap, subst, ◌∙◌, inl, append_assoc, length-append, arith}
 use Rattle.std.specs.Prelude.{replicate}
 use Rattle.std.proofs.lemmas.List.{append-nil, replicate_more}
 use Rattle.std.proofs.lemmas.List.Concat.{flat_map-append}
-use Rattle.std.proofs.lemmas.List.Elements.{All-nil, All-push}
-use Rattle.network.specs.Events.{Event, PeerSeen, TakesDatagram}
+use Rattle.std.proofs.lemmas.List.Elements.{All-push}
+use Rattle.network.specs.Events.{Event, PeerSeen}
 use Rattle.rquota_xdr.specs.declared.reply.Reply.{Reply}
-use Rattle.quota_client.specs.declared.exchange.Received.{Received}
 use Rattle.quota_client.specs.declared.exchange.Received.TheVariants.{Quiet, Other, Answer}
 use Rattle.quota_client.specs.Exchange.{Begins, Exchanges, IsAttempt, IsOther, Takes, events_joined}
-use Rattle.quota_client.specs.Receiving.{Attempts, HasNoAnswer, IsRead, IsReceived, PassesOver, Receives, StopsBehind}
-
-read_received : (xid : ℕ) (datagram : List ℕ) (received : Received) → IsRead xid (take 4096 datagram) received → IsReceived xid (Some datagram) received
-read_received xid datagram Quiet is = absurd is
-read_received xid datagram Other is = is
-read_received xid datagram (Answer reply) is = is
-
--- a datagram was received
-pub receives_datagram : (xid len : ℕ) (buf : List ℕ) (old new : PeerSeen) (received : Received) → TakesDatagram len buf old.left new.left → IsRead xid (take len buf) received → Receives xid old new received
-receives_datagram xid len buf old new received takes is = record {
-  event = Some takes.datagram;
-  left = takes.first;
-  is = read_received xid takes.datagram received (subst (λ (bytes : List ℕ). IsRead xid bytes received) takes.bytes is);
-}
-
--- a quiet was received
-pub receives_quiet : (xid : ℕ) (old new : PeerSeen) → old.left ≡ None ∷ new.left → Receives xid old new Quiet
-receives_quiet xid old new is = record { event = None; left = is; is = refl }
-
--- nothing was passed over
-pub passes-none : (xid : ℕ) (seen : PeerSeen) → PassesOver xid 0 seen seen
-passes-none xid seen = record { others = []; each = All-nil (IsOther xid); number = refl; left = refl; sent = refl }
+use Rattle.quota_client.specs.Receiving.{Attempts, HasNoAnswer, PassesOver, Receives, StopsBehind}
 
 behind : (others : List Event) (event : Event) (first middle last : List Event) → first ≡ others ++ middle → middle ≡ event ∷ last → first ≡ (others ++ event ∷ []) ++ last
 behind others event first middle last one two =
@@ -44,20 +22,6 @@ passes-more xid count old between new so_far one sent = record {
   number = omega (arith, length-append so_far.others (one.event ∷ []), so_far.number);
   left = behind so_far.others one.event old.left between.left new.left so_far.left one.left;
   sent = sent ∙ so_far.sent;
-}
-
--- the call before failed
-pub stops_behind : (xid count : ℕ) (old between new : PeerSeen) → count < 64 → PassesOver xid count old between → new.left ≡ between.left → new.sent ≡ between.sent → StopsBehind xid old new
-stops_behind xid count old between new few so_far left sent = record {
-  count = count;
-  few = few;
-  passes = record {
-    others = so_far.others;
-    each = so_far.each;
-    number = so_far.number;
-    left = so_far.left ∙ ap (λ (l : List Event). so_far.others ++ l) (sym left);
-    sent = sent ∙ so_far.sent;
-  };
 }
 
 -- an attempt ends with a quiet
@@ -85,24 +49,6 @@ attempts-answer xid count old between new reply few so_far one sent = record {
   };
   left = behind so_far.others one.event old.left between.left new.left so_far.left one.left;
   sent = sent ∙ so_far.sent;
-}
-
--- an attempt ends with the 64th other datagram
-pub attempts-others : (xid count : ℕ) (old new : PeerSeen) → count ≡ 64 → PassesOver xid count old new → Attempts xid old new None
-attempts-others xid count old new all so_far = record {
-  taken = so_far.others;
-  attempt = record { others = so_far.others; each = so_far.each; ends = inr (so_far.number ∙ all, refl) };
-  left = so_far.left;
-  sent = so_far.sent;
-}
-
--- no attempt was made
-pub unanswered-none : (xid : ℕ) (call : List ℕ) (seen : PeerSeen) → HasNoAnswer xid 0 call seen seen
-unanswered-none xid call seen = record {
-  attempts = [];
-  each = All-nil (λ (attempt : List Event). IsAttempt xid attempt None);
-  number = refl;
-  takes = record { left = refl; sent = sym (append-nil seen.sent) };
 }
 
 -- ---- a call, and what an attempt takes behind it
@@ -154,40 +100,6 @@ exchanges-answer xid count call old between asked new reply few so_far kept sent
       all = refl;
       calls_sent = omega (arith, so_far.number);
     };
-  };
-}
-
--- the exchange ends with the third attempt
-pub exchanges-none : (xid count : ℕ) (call : List ℕ) (old new : PeerSeen) → count ≡ 3 → HasNoAnswer xid count call old new → Exchanges xid call old new None
-exchanges-none xid count call old new three so_far = record {
-  taken = events_joined so_far.attempts;
-  calls = count;
-  takes = so_far.takes;
-  exchange = record {
-    unanswered = so_far.attempts;
-    each = so_far.each;
-    ends = record { three = so_far.number ∙ three; all = refl; calls_sent = three };
-  };
-}
-
--- a call was not sent
-pub begins-unsent : (xid count : ℕ) (call : List ℕ) (old between new : PeerSeen) → count < 3 → HasNoAnswer xid count call old between → new.left ≡ between.left → new.sent ≡ between.sent → Begins xid call old new
-begins-unsent xid count call old between new few so_far left sent = record {
-  taken = events_joined so_far.attempts;
-  calls = count;
-  takes = record {
-    left = so_far.takes.left ∙ ap (λ (l : List Event). events_joined so_far.attempts ++ l) (sym left);
-    sent = sent ∙ so_far.takes.sent;
-  };
-  begun = record {
-    unanswered = so_far.attempts;
-    each = so_far.each;
-    few = omega (arith, few, so_far.number);
-    others = [];
-    other = All-nil (IsOther xid);
-    few_others = omega arith;
-    all = sym (append-nil (events_joined so_far.attempts));
-    calls_sent = inr (sym so_far.number, refl);
   };
 }
 

@@ -3,7 +3,7 @@ use Rattle.quota_v1.specs.FlatFile.{FlatStandsFor}
 use Rattle.tree_file.specs.Opened.{HoldsTree}
 use Rattle.std.specs.Prelude.{IsSomeAnd}
 use Rattle.opened_file.specs.Committed.{StandsChanged}
-use Rattle.std.proofs.Common.{◌≡◌, ◌<◌, ◌≤◌, ℕ, Bool, Result, refl, sym, ap, subst, ◌∙◌, arith, true≢false, IsTrue, List, Option, Some, None}
+use Rattle.std.proofs.Common.{◌≡◌, ◌<◌, ◌≤◌, ℕ, Bool, Result, refl, sym, ap, subst, ◌∙◌, arith, true≢false, List, Option, Some, None}
 use Rattle.quota_types.specs.Format.{IsTreeFormat}
 use Rattle.quota_types.specs.declared.file_kind.Format.{Format}
 use Rattle.quota_types.specs.declared.file_kind.Format.TheVariants.{V1 as Flat, V2R0, V2R1}

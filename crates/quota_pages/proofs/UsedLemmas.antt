@@ -1,5 +1,5 @@
 -- What calls over a buffer of pages leave of it: no call, one call, and one after another.
-use Rattle.std.proofs.Common.{◌≡◌, ℕ, ◌+◌, ◌*◌, ◌<◌, ◌≤◌, max, Bool, true, false, cond, ◌&&◌, ◌||◌, IsTrue, List, [], ◌∷◌, ◌++◌, length, replicate, take, inl, inr, refl, sym, ap, subst, ◌∙◌, ◌≢◌, ◌⊎◌, arith, append-nil, eq-eqb, ne_eqb, length-append}
+use Rattle.std.proofs.Common.{◌≡◌, ℕ, ◌+◌, ◌*◌, ◌<◌, ◌≤◌, max, Bool, true, false, cond, ◌&&◌, ◌||◌, IsTrue, List, [], ◌∷◌, ◌++◌, length, replicate, take, inl, inr, refl, sym, ap, subst, ◌∙◌, ◌≢◌, arith, append-nil, eq-eqb, ne_eqb, length-append}
 use Rattle.std.specs.Prelude.{◌==◌, Result, Ok, Err, MatchResult}
 use Rattle.std.proofs.Math.Bool.{or-false, or-true}
 use Rattle.std.proofs.lemmas.Bool.{cases_lt, cond-true, cond-false, cond_both, true≢false}
@@ -13,7 +13,7 @@ use Rattle.outside.specs.Frame.{OnlyReads}
 use Rattle.outside.specs.Seen.{StoreSeen}
 use Rattle.quota_types.specs.Span.{KeepsOutside}
 use Rattle.outside.specs.World.{World}
-use Rattle.outside.proofs.FrameLemmas.{only_reads-none, only_reads-any, only_reads-less, only_reads-then}
+use Rattle.outside.proofs.FrameLemmas.{only_reads-none, only_reads-any, only_reads-then}
 use Rattle.quota_types.proofs.BytesLemmas.{number_same}
 use Rattle.file_blocks.proofs.WordLemmas.{length-block_of}
 use Rattle.quota_pages.specs.Overlay.{whole_block, with_block}
@@ -60,11 +60,6 @@ known_along tells before now old new name files clean known = record {
   told = known.told;
   clean = subst (λ (file : List ℕ). IsClean (pages_of new) file) (sym (same_file before now old new name files)) (clean known.told known.clean);
 }
-
--- a block that was brought is buffered, and the others that were still are
-pub brought : {number : ℕ} {old new : Pages} → Brings number old new → is_buffered (pages_of new) number ≡ true
-brought {number} {old} brings =
-    brings.buffered number ∙ ap (λ (b : Bool). is_buffered (pages_of old) number || b) (eq-eqb number number refl) ∙ or-true (is_buffered (pages_of old) number)
 
 still_there : {number : ℕ} {old new : Pages} → Brings number old new → (other : ℕ) → is_buffered (pages_of old) other ≡ true → is_buffered (pages_of new) other ≡ true
 still_there {number} brings other there = brings.buffered other ∙ ap (λ (b : Bool). b || number == other) there

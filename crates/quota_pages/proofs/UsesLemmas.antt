@@ -1,5 +1,5 @@
 -- What calls use of a buffer of pages, whatever they say of what is shown: no call, one call, and one after another.
-use Rattle.std.proofs.Common.{◌≡◌, ℕ, ◌+◌, ◌<◌, ◌≤◌, Bool, true, false, ◌&&◌, List, [], ◌∷◌, ◌++◌, length, get_or, take, drop, inl, inr, refl, ap, subst, ◌∙◌, arith}
+use Rattle.std.proofs.Common.{◌≡◌, ℕ, ◌+◌, ◌<◌, ◌≤◌, Bool, true, ◌&&◌, List, [], ◌∷◌, ◌++◌, length, get_or, take, drop, inl, inr, refl, ap, subst, ◌∙◌, arith}
 use Rattle.std.proofs.lemmas.Bool.{cases_Bool}
 use Rattle.std.proofs.lemmas.List.{take-append-drop, take_more}
 use Rattle.quota_types.specs.Times.{StandsIn}
@@ -11,7 +11,7 @@ use Rattle.quota_pages.specs.Page.{Page, is_buffered}
 use Rattle.quota_pages.specs.Pages.{name_of}
 use Rattle.quota_pages.specs.Used.{LendsSome, LooksAtSome, Uses, missing, missing_among}
 use Rattle.quota_pages.specs.declared.page_buffer.Pages.{Pages}
-use Rattle.quota_pages.proofs.UsedLemmas.{missing-absent, missing-few, missing-stay, missing-there, only_reads-both}
+use Rattle.quota_pages.proofs.UsedLemmas.{missing-absent, missing-stay, missing-there, only_reads-both}
 
 -- what looked at pages used that many
 pub uses_of_looks : {tells ok : Bool} {count : ℕ} {before now : StoreSeen} {old new : Pages} → LooksAtSome tells ok count before now old new → Uses tells ok count before now old new

@@ -20,10 +20,9 @@ pub struct Pages {
 
 #[tactic(auto, unfolding(crate::specs::Pages::name_of, crate::specs::Pages::pages_of))]
 impl Pages {
-    ghost use Rattle.std.specs.Prelude.{ℕ, ◌+◌, ◌<◌, ◌⊎◌, Bool, List, [], true, false, is_some, IfSome, IsOk, IfOk, OnOk, OnErr, MatchOption, slice_index_or, if◌then◌else◌, ◌∷◌, replicate};
+    ghost use Rattle.std.specs.Prelude.{ℕ, ◌+◌, ◌<◌, Bool, List, [], true, false, is_some, IfSome, IsOk, IfOk, OnOk, OnErr, if◌then◌else◌, ◌∷◌, replicate};
     ghost use Rattle.std.specs.Borrow.{sem};
     ghost use Rattle.std.specs.String.{string_bytes};
-    ghost use Rattle.arrayvec.specs.ArrayVec.{array_vec_len};
     ghost use Rattle.outside.specs.Count.{Rose, counted};
     ghost use Rattle.outside.specs.Frame.{ChangesOne, OnlyReads};
     ghost use Rattle.outside.specs.Seen.{StoreSeen};

@@ -1,6 +1,5 @@
 -- What is found in joined lists, and the first of two values that may be there.
-use Rattle.std.proofs.Common.{◌≡◌, Bool, true, false, cond, List, [], ◌∷◌, ◌++◌, find, Some, None, refl, sym, ap, ◌∙◌, ◌⊎◌, inl, inr, is_some, true≢false, Option}
-use Rattle.std.specs.Option.{option_or}
+use Rattle.std.proofs.Common.{◌≡◌, Bool, true, false, cond, List, [], ◌∷◌, ◌++◌, find, Some, None, refl, sym, ap, ◌∙◌, ◌⊎◌, inl, inr}
 
 -- what is found in a joined list
 pub find_first : {X : Type 0} (test : X → Bool) (xs ys : List X) (x : X) → find test xs ≡ Some x → find test (xs ++ ys) ≡ Some x
@@ -24,7 +23,3 @@ find_later {X} test (y ∷ xs) ys none = elim (cases test y) [
   where
     cases : {X : Type 0} (test : X → Bool) (y : X) → (test y ≡ true) ⊎ (test y ≡ false)
     cases test y = elim (test y) as (λ (b : Bool). (b ≡ true) ⊎ (b ≡ false)) [ true ↦ inl refl | false ↦ inr refl ]
-
-pub some_or : {X : Type 0} (one other : Option X) → true ≡ is_some one → option_or one other ≡ one
-some_or None other some = absurd (true≢false some)
-some_or (Some x) other some = refl

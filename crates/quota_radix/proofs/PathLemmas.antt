@@ -64,21 +64,6 @@ times_rising low high (p ∷ ps) n r = elim (times_cases p.number (map (λ path.
   | inr other ↦ omega (arith, other.1, times_rising (suc p.number) high ps n r.1)
 ]
 
--- and below the bound
-pub below_rising : (low high : ℕ) (ps : List TreePath) (n : ℕ) → Rises low ps high → StandsIn (map (λ path. path.number) ps) n → n < high
-below_rising low high [] n r stands = absurd (omega arith)
-below_rising low high (p ∷ ps) n r stands = elim (times_cases p.number (map (λ path. path.number) ps) n) [
-  | inl same ↦ omega (arith, same.0, rising_bound (suc p.number) high ps r.1)
-  | inr other ↦ below_rising (suc p.number) high ps n r.1 (omega (arith, stands, other.1))
-]
-  where
-    rising_bound : (low high : ℕ) (ps : List TreePath) → Rises low ps high → low ≤ high
-    rising_bound low high [] r = r
-    rising_bound low high (p ∷ ps) r =
-        let from : low ≤ p.number = r.0 in
-        let rest = rising_bound (suc p.number) high ps r.1 in
-        omega arith
-
 pub rising_steps : (file : List ℕ) (blocks : ℕ) (path : TreePath) (digit count : ℕ)
     → Rises (256 * path.number + digit) (filter_map (step file blocks path) (range_with_len digit count)) (256 * path.number + (digit + count))
 rising_steps file blocks path digit zero = omega arith

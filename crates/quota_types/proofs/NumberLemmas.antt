@@ -25,10 +25,6 @@ take-room at room file size = take_all room (drop at file) (omega (arith, length
 pub little_number-drop : (width at : ℕ) (file : List ℕ) → little_number width (drop at file) ≡ number_at width file at
 little_number-drop width at file = little_from-number_at width 0 (drop at file) ∙ number_at-drop width at file 0 ∙ ap (number_at width file) (omega arith)
 
--- what is read of an array, behind whose place there is that much room, is the number there
-pub little_number-room : (width at room : ℕ) (file : List ℕ) → at + room ≡ length file → little_number width (take room (drop at file)) ≡ number_at width file at
-little_number-room width at room file size = ap (little_number width) (take-room at room file size) ∙ little_number-drop width at file
-
 -- the bytes of a number in place of as many
 abbrev pub with_number : ℕ → ℕ → ℕ → List ℕ → List ℕ
 with_number width at number file = take at file ++ (little_bytes width number ++ drop (at + width) file)

@@ -130,22 +130,6 @@ few_of_distinct bound numbers distinct inside =
     ] in
     omega (arith, length_of_times numbers (range_with_len 0 bound) fewer, length-range_with_len 0 bound)
 
--- and fewer, where 0 is none of them
-pub fewer_of_distinct : (bound : ℕ) (numbers : List ℕ) → 0 < bound → ((n : ℕ) → times numbers n ≤ 1) → ((n : ℕ) → StandsIn numbers n → (0 < n) × (n < bound)) → length numbers < bound
-fewer_of_distinct bound numbers some distinct inside =
-    few_of_distinct bound (0 ∷ numbers)
-    (λ n. elim (times_cases 0 numbers n) [
-      | inl same ↦ elim (cases_lt 0 (times numbers n)) [
-        | inl stands ↦ absurd (omega (arith, inside n stands, same.0))
-        | inr none ↦ omega (arith, same.1)
-      ]
-      | inr other ↦ omega (arith, other.1, distinct n)
-    ])
-    (λ n stands. elim (times_cases 0 numbers n) [
-      | inl same ↦ omega (arith, same.0)
-      | inr other ↦ (inside n (omega (arith, other.1, stands))).1
-    ])
-
 -- what a filter keeps of a number that passes
 pub times-filter-yes : (test : ℕ → Bool) (xs : List ℕ) (n : ℕ) → test n ≡ true → times (filter test xs) n ≡ times xs n
 times-filter-yes test [] n passes = refl

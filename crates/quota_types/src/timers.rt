@@ -1,4 +1,4 @@
-ghost use Rattle.std.specs.Prelude.{◌≡◌, ◌+◌, ◌^◌, if◌then◌else◌, IfOk, Some, None};
+ghost use Rattle.std.specs.Prelude.{◌≡◌, ◌+◌, if◌then◌else◌, IfOk, Some, None};
 ghost use Rattle.std.specs.Result.{result_err};
 ghost use Rattle.quota_types.specs.Timers.{is_exceeded, timer_of, timers_of};
 ghost use Rattle.quota_types.specs.TimerRoom.{starts_past_64_bits, timer_past_64_bits};

@@ -1,5 +1,5 @@
 -- A flat file of which one record was written.
-use Rattle.std.proofs.Common.{◌≡◌, ◌⊎◌, ℕ, zero, suc, ◌+◌, ◌*◌, ◌≤◌, Bool, true, false, IsTrue, List, length, Result, Ok, Err, OnErr, OnOk, inl, inr, refl, sym, ap, subst, ◌∙◌, arith}
+use Rattle.std.proofs.Common.{◌≡◌, ◌⊎◌, ℕ, zero, suc, ◌+◌, ◌*◌, ◌≤◌, Bool, true, IsTrue, List, length, Result, Ok, Err, OnErr, OnOk, inl, inr, refl, sym, ap, subst, ◌∙◌, arith}
 use Rattle.file_blocks.specs.Block.{bytes_of}
 use Rattle.outside.specs.Count.{Rose}
 use Rattle.outside.specs.Frame.{ChangesOne, OnlyReads}
@@ -7,7 +7,7 @@ use Rattle.outside.specs.ManyCalls.{IsSynced}
 use Rattle.outside.specs.Seen.{StoreSeen}
 use Rattle.outside.specs.World.{World, overwritten, with_bytes}
 use Rattle.outside.proofs.FrameLemmas.{is_synced-read, is_synced-then}
-use Rattle.opened_file.proofs.EditsOneLemmas.{edits_one-after_read, edits_one-changed, edits_one-read}
+use Rattle.opened_file.proofs.EditsOneLemmas.{edits_one-after_read, edits_one-changed}
 use Rattle.quota_types.specs.Bytes.{byte_at, number_at}
 use Rattle.quota_types.specs.Kept.{IsKept, without_timers_of_zero}
 use Rattle.quota_types.specs.Rec.{kib_of}
@@ -102,20 +102,6 @@ changes_file tells so name at bytes old mid new (Err fault) read few written syn
   leaves = edits_one-after_read name old mid new read (edits_one-changed name mid new leaves (inr rose));
   reads = omega (arith, few, leaves.reads);
   writes = omega (arith, writes, read.writes);
-}
-
--- the store failed before anything was written
-pub changes_none : {E : Type 0} (tells : Bool) (so : (before after : List ℕ) → Type 0) (name : List ℕ) (old new : StoreSeen) (fault : E) → OnlyReads false name old new → new.reads ≤ old.reads + 1
-    → Rose old.faults new.faults → ChangesFile tells so name old new (Err fault)
-changes_none tells so name old new fault read few cause = record {
-  changed = tt;
-  synced = tt;
-  torn = λ tell. inl read.files;
-  cause = cause;
-  others = λ other differ. ap (λ (files : World). files other) read.files;
-  leaves = edits_one-read name old new read;
-  reads = few;
-  writes = omega (arith, read.writes);
 }
 
 -- a change after a call that only read, which made no call of `read` itself

@@ -1,8 +1,7 @@
 -- A flat file of which one record was written for a change of it.
-use Rattle.std.proofs.Common.{◌≡◌, ◌⊎◌, IsTrue, ℕ, ◌+◌, ◌*◌, ◌≤◌, ◌%◌, max, None, Bool, false, IfErr, List, [], length, Option, Some, Result, Ok, Err, inl, inr, refl, sym, ap, subst, ◌∙◌, arith}
+use Rattle.std.proofs.Common.{◌≡◌, ◌⊎◌, IsTrue, ℕ, ◌+◌, ◌*◌, ◌≤◌, ◌%◌, max, None, Bool, false, List, [], length, Option, Some, Ok, Err, inl, inr, refl, sym, ap, subst, ◌∙◌, arith}
 use Rattle.std.specs.Prelude.{IsSomeAnd}
 use Rattle.file_blocks.specs.Block.{bytes_of}
-use Rattle.outside.specs.Frame.{OnlyReads}
 use Rattle.outside.specs.Seen.{StoreSeen}
 use Rattle.outside.specs.World.{World}
 use Rattle.outside.proofs.WorldLemmas.{with_file-at}
@@ -18,14 +17,14 @@ use Rattle.opened_file.specs.Changes.{Changes, FileAt}
 use Rattle.opened_file.specs.FileChange.{FileChange, Put, Remove, SetGrace, changed_value}
 use Rattle.opened_file.specs.ValueEdits.{has_nothing_to_do}
 use Rattle.opened_file.specs.FileUse.{seen_in}
-use Rattle.opened_file.specs.QuotaFile.{ChangesBlocks, CountsRefusal, IfFull, StaysInPlace, WantsNoMemory}
+use Rattle.opened_file.specs.QuotaFile.{ChangesBlocks, CountsRefusal, StaysInPlace, WantsNoMemory}
 use Rattle.quota_value.specs.QuotaValue.{QuotaValue}
 use Rattle.opened_file.specs.declared.file_use.FileUse.{FileUse}
 use Rattle.opened_file.specs.declared.quota_file.FileFault.{FileFault}
-use Rattle.opened_file.specs.declared.quota_file.FileFault.TheVariants.{Store, Damage, Full, Memory}
+use Rattle.opened_file.specs.declared.quota_file.FileFault.TheVariants.{Store}
 use Rattle.opened_file.proofs.ChangesLemmas.{IsWanted, changes-done, changes-torn}
 use Rattle.quota_v1.specs.Change.{FitsFlat, FlatChanged, FlatGraced, WritesFlat}
-use Rattle.quota_v1.specs.FlatCalls.{IsFlatChange, MayRefuse}
+use Rattle.quota_v1.specs.FlatCalls.{IsFlatChange}
 use Rattle.quota_v1.specs.FlatFile.{FlatStandsFor, flat_record, unless_zeros}
 use Rattle.quota_v1.specs.Opened.{AgreesFlat, HoldsFlat, flat_at, flat_laws}
 use Rattle.quota_v1.specs.Slot.{ChangesFile, MakesOne, PutsRecord}
@@ -75,15 +74,6 @@ stays_failed tells so name old new cause fault is changes = record {
   few = λ tell. few_unless so name old.files new.files (changes.torn tell);
   others = changes.others;
   no_memory = subst WantsNoMemory (sym is) tt;
-}
-
--- and one that wrote nothing
-pub stays_unwritten : {done : Bool} (tells : Bool) (name : List ℕ) (old new : StoreSeen) (result : Result (Unit {0}) FileFault) → OnlyReads done name old new → IfErr result WantsNoMemory
-    → StaysInPlace tells name old.files new.files result
-stays_unwritten tells name old new result read none = record {
-  few = λ tell. few_unless (λ before after. ⊥) name old.files new.files (inl read.files);
-  others = λ other differ. ap (λ (files : World). files other) read.files;
-  no_memory = none;
 }
 
 module _ (change : FileChange) (tells : Bool) (so : (before after : List ℕ) → Type 0) (old new : StoreSeen) (name : List ℕ) (opened : FileUse) (len len' : ℕ) (times times' : Grace) (window window' : Window) where
@@ -165,19 +155,6 @@ module _ (change : FileChange) (tells : Bool) (so : (before after : List ℕ) �
         between = λ told. inr (new.files name, inr refl);
       })
       changes.leaves (record { reads = changes.reads; writes = changes.writes }))
-
--- a call on a flat file is never refused since the file is full
-never_full : (fault : FileFault) → MayRefuse fault → IfFull fault (λ blocks limit. ⊥)
-never_full Store may = tt
-never_full (Damage at) may = tt
-never_full (Full blocks limit) may = may
-never_full Memory may = tt
-
--- nor is a change of it
-pub change-never_full : (change : FileChange) (tells : Bool) (old new : FileAt) (result : Result (Unit {0}) FileFault) → Changes change (flat_laws tells) old new result
-    → IfErr result (λ fault. IfFull fault (λ blocks limit. ⊥))
-change-never_full change tells old new (Ok told) changes = tt
-change-never_full change tells old new (Err fault) changes = never_full fault changes.edits.refused.may
 
 id_kept : (id : ℕ) (rec : Rec) → IsKept V1 id rec → id ≤ 1048575
 id_kept id rec kept = id_fits id rec kept.fits

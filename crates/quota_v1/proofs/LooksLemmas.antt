@@ -11,7 +11,7 @@ use Rattle.opened_file.specs.Changes.{Changes}
 use Rattle.opened_file.specs.FileChange.{Remove}
 use Rattle.opened_file.specs.FileUse.{seen_in}
 use Rattle.opened_file.specs.LooksUp.{LooksUp}
-use Rattle.opened_file.specs.QuotaFile.{CountsRefusal, IfDamage, IsLookupFault, WantsNoMemory, is_store_fault}
+use Rattle.opened_file.specs.QuotaFile.{CountsRefusal, IfDamage, IsLookupFault, is_store_fault}
 use Rattle.quota_value.specs.QuotaValue.{QuotaValue}
 use Rattle.opened_file.specs.declared.file_use.FileUse.{FileUse}
 use Rattle.opened_file.specs.declared.quota_file.FileFault.{FileFault}
@@ -105,13 +105,6 @@ module _ (tells : Bool) (old new : StoreSeen) (name : List ℕ) (len : ℕ) (tim
   record_damage (Damage damage) refused = refused
   record_damage (Full blocks limit) refused = tt
   record_damage Memory refused = tt
-
-  -- and memory did not run out
-  pub record_no_memory : (fault : FileFault) → IsRecordFault old.faults new.faults (λ damage. IsNamedDefect tells (old.files name) damage) fault → WantsNoMemory fault
-  record_no_memory Store refused = tt
-  record_no_memory (Damage damage) refused = tt
-  record_no_memory (Full blocks limit) refused = tt
-  record_no_memory Memory refused = refused
 
 -- a removal that was refused before anything was written
 pub removes_refused : (tells : Bool) (old new : StoreSeen) (name : List ℕ) (opened opened' : FileUse) (len : ℕ) (times : Grace) (window window' : Window) (id : ℕ) (fault fault' : FileFault)

@@ -1,5 +1,5 @@
 -- What is seen of a flat file while it is opened.
-use Rattle.std.proofs.Common.{◌≡◌, ℕ, ◌%◌, ◌≤◌, List, length, Option, Some, None, Ok, Err, option_map, unwrap_or, sym, ap, subst, arith}
+use Rattle.std.proofs.Common.{◌≡◌, ℕ, ◌%◌, ◌≤◌, List, length, Option, Some, None, Ok, Err, sym, subst, arith}
 use Rattle.std.specs.Option.{IsSomeAnd}
 use Rattle.std.proofs.lemmas.Option.{none-some}
 use Rattle.quota_types.specs.declared.file_kind.Kind.{Kind}
@@ -19,11 +19,6 @@ value_seen named kind file is few whole = (
     flat_value-kind kind file,
   ),
 )
-
--- a store that answers the length of a file has it
-pub file_of_length : (named : Option (List ℕ)) (len : ℕ) → Some len ≡ option_map length named → IsSomeAnd named (λ file. length file ≡ len)
-file_of_length None len is = absurd (let no : Some len ≡ None = is in cc)
-file_of_length (Some file) len is = sym (ap (λ (n : Option ℕ). unwrap_or n 0) is)
 
 -- a file is not both seen as a value and refused
 pub seen_or_refused : (named : Option (List ℕ)) (kind : Kind) (value : QuotaValue) (fault : OpenFault) → IsFlatView named kind (Ok value) → IsFlatView named kind (Err fault) → ⊥

@@ -1,4 +1,4 @@
-ghost use Rattle.std.specs.Prelude.{◌≡◌, ◌≢◌, ◌⊎◌, ◌+◌, ◌-◌, ◌*◌, ◌^◌, ◌<◌, ◌≤◌, ℕ, List, Ok, Err, Some, length, min, IfErr, IfOk, IfSome, IsTrue, OnErr, OnOk, is_ok, [], ◌∷◌};
+ghost use Rattle.std.specs.Prelude.{◌≡◌, ◌⊎◌, ◌+◌, ◌-◌, ◌*◌, ◌^◌, ◌<◌, ◌≤◌, ℕ, List, Ok, Err, Some, length, min, IfErr, IfOk, IfSome, IsTrue, OnErr, OnOk, is_ok, []};
 ghost use Rattle.opened_file.specs.Committed.{CommitsOnce};
 ghost use Rattle.file_blocks.specs.Block.{file_of};
 ghost use Rattle.outside.specs.Count.{Rose, counted};
@@ -6,7 +6,6 @@ ghost use Rattle.outside.specs.Frame.{ChangesOne, OnlyReads};
 ghost use Rattle.outside.specs.ManyCalls.{IsSynced};
 ghost use Rattle.outside.specs.World.{with_bytes};
 ghost use Rattle.quota_types.specs.Kept.{IsKept};
-ghost use Rattle.quota_types.specs.Range.{unfit};
 ghost use Rattle.quota_types.specs.declared.file_kind.Format.TheVariants.{V1};
 ghost use Rattle.quota_v1.specs.Change.{FlatGraced};
 ghost use Rattle.quota_v1.specs.FlatCalls.{MayRefuse};

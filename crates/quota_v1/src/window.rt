@@ -1,4 +1,4 @@
-ghost use Rattle.std.specs.Prelude.{◌≡◌, ◌⊎◌, ◌+◌, ◌*◌, ◌%◌, ◌<◌, ◌≤◌, true, false, ℕ, List, Option, Some, length, IfErr, IfOk, IfSome, IsTrue, OnErr, OnOk, is_ok, []};
+ghost use Rattle.std.specs.Prelude.{◌≡◌, ◌⊎◌, ◌+◌, ◌*◌, ◌%◌, ◌<◌, ◌≤◌, true, false, ℕ, List, Option, Some, length, IfOk, IfSome, IsTrue, OnErr, OnOk, is_ok, []};
 ghost use Rattle.file_blocks.specs.Block.{file_of};
 ghost use Rattle.outside.specs.Count.{Rose};
 ghost use Rattle.outside.specs.Frame.{OnlyReads};

@@ -3,7 +3,7 @@ use Rattle.std.proofs.Common.{◌≡◌, ◌≢◌, ℕ, refl, arith}
 use Rattle.refusals.specs.declared.cause.Cause.{Cause}
 use Rattle.refusals.specs.declared.cause.Cause.TheVariants.{Usage}
 use Rattle.refusals.specs.declared.cause.CauseGroup.{CauseGroup}
-use Rattle.refusals.specs.declared.cause.CauseGroup.TheVariants.{Denied, BadWords, BadFile, Fault, NoMemory}
+use Rattle.refusals.specs.declared.cause.CauseGroup.TheVariants.{Denied, Fault, NoMemory}
 use Rattle.refusals.specs.declared.cause.UsageKind.{UsageKind}
 use Rattle.refusals.specs.Status.{ByGroup, status_in, status_of}
 

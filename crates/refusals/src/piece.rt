@@ -1,4 +1,4 @@
-ghost use Rattle.std.specs.Prelude.{◌≡◌, ◌≤◌, ◌++◌, ◌∷◌, [], List, ℕ, codes, IsTrue, OnOk, OnErr};
+ghost use Rattle.std.specs.Prelude.{◌≡◌, ◌≤◌, ◌++◌, [], List, ℕ, codes, IsTrue, OnOk, OnErr};
 ghost use Rattle.std.specs.List.{concat};
 ghost use Rattle.outside.specs.Count.{Rose};
 ghost use Rattle.outside.specs.Text.{AppendsPrefix};

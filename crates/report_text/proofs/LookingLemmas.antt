@@ -11,7 +11,6 @@ use Rattle.opened_file.proofs.LookupLemmas.{IsAnswer}
 use Rattle.opened_file.proofs.LooksUpLemmas.{looks_up-answer, looks_up-more, looks_up-stopped, looks_up-within}
 use Rattle.report_text.specs.Fault.{file_fault}
 use Rattle.report_text.specs.declared.fault.ReportFault.{ReportFault}
-use Rattle.report_text.specs.declared.fault.ReportFault.TheVariants.{Sink, File}
 
 -- an identifier that comes after another one leaves fewer behind it
 further : (after : Option ℕ) (id : ℕ) → IsAfter after id → id < 2 ^ 32 → (2 ^ 32 - ids_after after) + 1 ≤ 2 ^ 32 - ids_after (Some id)

@@ -114,9 +114,3 @@ module _ (capacity len : ℕ) (bytes text : List ℕ) (whole : length bytes ≡ 
         ∙ drop_past digits (width - length digits) (drop (len + length digits) bytes)
         ∙ drop-drop (width - length digits) (len + length digits) bytes
         ∙ ap (λ (k : ℕ). drop k bytes) (all ∙ sym still) ∙ spaces_past (length digits + (width - length digits)) ∙ ap (λ (k : ℕ). replicate (capacity - k) 32) still
-
--- a first byte and a text at the left of places are that byte, and the text at the left of one place fewer
-pub left_in-cons : (x width : ℕ) (text : List ℕ) → left_in (suc width) (x ∷ text) ≡ x ∷ left_in width text
-left_in-cons x width text =
-    let same : suc width - suc (length text) ≡ width - length text = omega arith in
-    ap (λ (k : ℕ). x ∷ (text ++ replicate k 32)) same

@@ -1,6 +1,6 @@
 -- The report of a quota file. What the columns mean is what the manual page of repquota says; the widths and the
 -- texts round them are this project's own.
-use Rattle.std.specs.Prelude.{ℕ, ◌-◌, Bool, not, ◌&&◌, ◌||◌, ◌==◌, nat_lt, if◌then◌else◌, List, [], ◌∷◌, ◌++◌, length, replicate, filter, codes, decimal, Option, None, unwrap_or}
+use Rattle.std.specs.Prelude.{ℕ, ◌-◌, Bool, not, ◌&&◌, ◌||◌, ◌==◌, nat_lt, if◌then◌else◌, List, [], ◌∷◌, ◌++◌, length, replicate, filter, codes, decimal, Option, unwrap_or}
 use Rattle.std.specs.List.{flat_map}
 use Rattle.std.specs.FinMap.{entries}
 use Rattle.quota_types.specs.declared.file_kind.Kind.{Kind}
@@ -136,10 +136,6 @@ shown_name names id = unwrap_or (names id) (numbered id)
 -- the name in the line of an identifier: with `-n` it is always `#` and the number
 abbrev pub name_of : (ℕ → Option (List ℕ)) → Options → ℕ → List ℕ
 name_of names options id = if options.numeric then numbered id else shown_name names id
-
--- no identifier has a name
-abbrev pub no_names : ℕ → Option (List ℕ)
-no_names id = None
 
 -- the line of an identifier with its record
 unfoldable pub entry_line : (ℕ → Option (List ℕ)) → ℕ → Options → ℕ × Rec → List ℕ

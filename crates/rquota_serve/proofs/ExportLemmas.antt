@@ -1,5 +1,5 @@
 -- Exports in a list: their paths, what they stand for, and look-ups in one of them.
-use Rattle.std.proofs.Common.{◌≡◌, ◌<◌, ◌+◌, ◌||◌, ◌&&◌, ℕ, suc, Bool, true, false, cond, not, nat_lt, IsTrue, if◌then◌else◌, List, [], ◌∷◌, ◌++◌, length, map, get_or, Option, None, Some, IfSome, Result, Ok, Err, IfErr, OnErr, refl, sym, ap, subst, ◌∙◌, arith}
+use Rattle.std.proofs.Common.{◌≡◌, ◌<◌, ◌+◌, ◌||◌, ◌&&◌, ℕ, suc, Bool, true, false, cond, not, nat_lt, IsTrue, if◌then◌else◌, List, [], ◌∷◌, ◌++◌, length, map, get_or, Option, None, Some, IfSome, Result, Ok, Err, OnErr, refl, sym, ap, subst, ◌∙◌, arith}
 use Rattle.std.proofs.Math.ListN.{get_or-map, set}
 use Rattle.std.proofs.lemmas.List.{length-map, map-append, map-set, set-get_or}
 use Rattle.std.proofs.lemmas.List.Elements.{All-cons, All-get_or, All-nil, All-push, All-set, All-weaker}
@@ -11,7 +11,6 @@ use Rattle.std.proofs.lemmas.Bool.Decides.{nat_tests}
 use Rattle.std.proofs.lemmas.Slice.Eq.{bytes_eq-Decides}
 use Rattle.std.specs.List.{All, list_any, position, position_or_len, slice_get}
 use Rattle.std.specs.Option.{is_some, option_map}
-use Rattle.std.specs.Result.{IsErrAnd}
 use Rattle.std.specs.Str.{bytes_eq}
 use Rattle.std.specs.String.{string_bytes}
 use Rattle.quota_types.specs.declared.file_kind.Kind.{Kind}
@@ -198,10 +197,6 @@ serves-push tells files files' old new exported path kind value export is same s
       value-under exported path kind path' kind' value named ∙ serves.others path' kind' (or_parts (is_exported (exports_seen old) path' kind') (list_any (is_named path' kind') (export_seen export ∷ [])) parted).0;
 }
 
--- what is seen of one more
-pub seen-push : (old new : Exports) (export : Export) → kept_in new ≡ kept_in old ++ export ∷ [] → exports_seen new ≡ exports_seen old ++ export_seen export ∷ []
-seen-push old new export is = ap (map export_seen) is ∙ map-append export_seen (kept_in old) (export ∷ [])
-
 -- Places.
 
 pub seen-at : (exports : Exports) (place : ℕ) (export : Export) → slice_get (kept_in exports) place ≡ Some export → slice_get (exports_seen exports) place ≡ Some (export_seen export)
@@ -341,7 +336,3 @@ free-of seen path kind may = free-and (nat_lt (length seen) 16) (is_exported see
 pub on-err : {T E : Type 0} (P : Type 0) (result : Result T E) → P → OnErr result P
 on-err P (Ok value) is = tt
 on-err P (Err fault) is = is
-
-pub if-err : {T E : Type 0} (P : E → Type 0) (result : Result T E) (fault : E) → IsErrAnd result (λ e. e ≡ fault) → P fault → IfErr result P
-if-err P (Ok value) fault is holds = tt
-if-err P (Err e) fault is holds = subst P (sym is) holds

@@ -40,19 +40,6 @@ plain-reply exported datagram now (Null xid) plain = refl
 plain-reply exported datagram now (Get xid caller path type id) plain = absurd (plain xid caller path type id refl)
 plain-reply exported datagram now (Set xid) plain = refl
 
--- a call has no reply exactly where it is none
-pub none-silent : (exported : Exported) (datagram : List ℕ) (now : ℕ) (call : Call) → (reply_to exported datagram now call ≡ None) ↔ (call ≡ Silent)
-none-silent exported datagram now Silent = (λ is. refl, λ is. refl)
-none-silent exported datagram now (OldRpc xid) = (λ is. cc, λ is. cc)
-none-silent exported datagram now (NoProgram xid) = (λ is. cc, λ is. cc)
-none-silent exported datagram now (NoVersion xid) = (λ is. cc, λ is. cc)
-none-silent exported datagram now (NoProcedure xid) = (λ is. cc, λ is. cc)
-none-silent exported datagram now (Auth xid stat) = (λ is. cc, λ is. cc)
-none-silent exported datagram now (Garbage xid) = (λ is. cc, λ is. cc)
-none-silent exported datagram now (Null xid) = (λ is. cc, λ is. cc)
-none-silent exported datagram now (Get xid caller path type id) = (λ is. cc, λ is. cc)
-none-silent exported datagram now (Set xid) = (λ is. cc, λ is. cc)
-
 -- no records
 abbrev none : Records
 none = empty
@@ -110,17 +97,6 @@ pub reply-denied : (exported : Exported) (xid now : ℕ) (caller : Caller) (path
     → reply.Denied xid ≡ reply_for exported xid now caller path (Some kind) id
 reply-denied exported xid now caller path kind id may =
     ap (λ (b : Bool). if b then reply_with xid now (record_under exported path kind id) else reply.Denied xid) (sym may)
-
-quota-some : (xid now id : ℕ) (found : Option QuotaValue) → is_some found ≡ true → IsQuota (Some (reply_with xid now (option_map (record_of id) found)))
-quota-some xid now id None is = absurd (cc)
-quota-some xid now id (Some value) is = tt
-
--- whoever may ask is told limits where something is exported
-pub quota-told : (seen : List ExportSeen) (exported : Exported) (xid now : ℕ) (caller : Caller) (path : List ℕ) (kind : Kind) (id : ℕ) → may_ask kind caller id ≡ true
-    → is_exported seen path kind ≡ true → HasPaths seen exported → IsQuota (Some (reply_for exported xid now caller path (Some kind) id))
-quota-told seen exported xid now caller path kind id may is paths =
-    subst (λ (r : Reply). IsQuota (Some r)) (reply-allowed exported xid now caller path kind id (record_under exported path kind id) may refl)
-    (quota-some xid now id (exported path kind) (paths path kind ∙ is))
 
 -- a datagram of which limits would be told is one that is replied to
 pub quota-not-silent : (seen : List ExportSeen) (datagram : List ℕ) (now : ℕ) (call : Call) → ((exported : Exported) → HasPaths seen exported → IsQuota (reply_to exported datagram now call)) → call ≡ Silent → ⊥

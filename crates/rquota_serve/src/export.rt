@@ -17,7 +17,7 @@ pub(crate) struct Export {
 }
 
 impl Export {
-    ghost use Rattle.std.specs.Prelude.{◌≡◌, ◌+◌, ◌≤◌, Option, None, Some, Ok, true, IfOk, IfErr, OnErr, OnOk};
+    ghost use Rattle.std.specs.Prelude.{◌≡◌, ◌+◌, ◌≤◌, Option, None, Some, Ok, IfOk, IfErr, OnOk};
     ghost use Rattle.std.specs.FinMap.{get};
     ghost use Rattle.std.specs.String.{string_bytes};
     ghost use Rattle.quota_types.specs.declared.file_kind.Format.{Format};
@@ -26,7 +26,7 @@ impl Export {
     ghost use Rattle.quota_value.specs.QuotaValue.{QuotaValue};
     ghost use Rattle.quota_map.specs.AnyFile.{HoldsAny, any_at, any_get_reads, any_laws};
     ghost use Rattle.quota_map.specs.View.{IsOpenFault, IsOpenedAs, IsView, opening_reads};
-    ghost use Rattle.file_blocks.specs.Block.{bytes_of, file_of};
+    ghost use Rattle.file_blocks.specs.Block.{file_of};
     ghost use Rattle.rquota_serve.specs.Exports.{export_seen, fresh_export};
     ghost use Rattle.rquota_serve.specs.ExportSeen.{is_named};
     ghost use Rattle.rquota_serve.specs.Reply.{record_of};

@@ -16,14 +16,14 @@ pub struct Exports {
 }
 
 impl Exports {
-    ghost use Rattle.std.specs.Prelude.{Bool, ◌≡◌, ◌+◌, ◌<◌, ◌≤◌, ◌∷◌, ◌++◌, [], Ok, Option, None, Some, IsTrue, IfOk, IfErr, IfSome, IfNone, OnErr, OnOk, is_some, position, slice_get, is_ok, length};
+    ghost use Rattle.std.specs.Prelude.{Bool, ◌≡◌, ◌+◌, ◌<◌, ◌≤◌, ◌∷◌, ◌++◌, [], Ok, Option, None, Some, IsTrue, IfOk, IfErr, IfSome, OnErr, OnOk, is_some, position, slice_get, is_ok, length};
     ghost use Rattle.quota_types.specs.declared.file_kind.Format.{Format};
     ghost use Rattle.outside.specs.Frame.{OnlyReads};
     ghost use Rattle.quota_value.specs.QuotaValue.{QuotaValue};
     ghost use Rattle.outside.specs.World.{World};
     ghost use Rattle.quota_map.specs.AnyFile.{any_get_reads};
     ghost use Rattle.quota_map.specs.View.{IsOpenFault, IsOpenedAs, IsView, opening_reads};
-    ghost use Rattle.file_blocks.specs.Block.{bytes_of, file_of};
+    ghost use Rattle.file_blocks.specs.Block.{file_of};
     ghost use Rattle.rquota_serve.specs.Adding.{AreToldOf, MayAddAll, reads_of};
     ghost use Rattle.rquota_serve.specs.Added.{AreAdded, IsRefusedAt, ReadsEach, added_of, news_seen, tried_of};
     ghost use Rattle.rquota_serve.specs.Exported.{Exported, nothing_exported, with_export};

@@ -95,10 +95,6 @@ from_path q = opaque q.path ++ behind_path q
 pub from_verifier : Question → List ℕ
 from_verifier q = bytes_of (q.verifier_flavor ∷ []) ++ (opaque q.verifier ++ from_path q)
 
--- what stands behind the numbers of the caller's groups
-pub behind_groups : Question → List ℕ
-behind_groups q = q.behind_caller ++ (q.credential_padding ++ from_verifier q)
-
 -- the numbers of the head of a question
 pub record HeadAt (d : List ℕ) (q : Question) : Type 0 where
   xid : unit_at d 0 ≡ q.xid

@@ -1,5 +1,5 @@
 -- Units and their bytes.
-use Rattle.std.proofs.Common.{◌≡◌, ℕ, zero, suc, ◌+◌, ◌-◌, ◌*◌, ◌<◌, List, [], ◌∷◌, ◌++◌, length, get_or, drop, refl, ap, ◌∙◌, arith}
+use Rattle.std.proofs.Common.{◌≡◌, ℕ, zero, suc, ◌+◌, ◌-◌, ◌*◌, ◌<◌, List, [], ◌∷◌, ◌++◌, get_or, drop, refl, ap, ◌∙◌, arith}
 use Rattle.std.specs.Int.{w32, from_be_bytes}
 use Rattle.std.proofs.lemmas.List.{get_or-take, get_or-drop}
 use Rattle.rquota_xdr.specs.Units.{unit_at, units_from}
@@ -23,8 +23,3 @@ one_unit_more bytes at (suc count) =
     let place : at + 4 * suc count ≡ at + 4 + 4 * count = omega arith in
     let more : suc count + 1 ≡ suc (count + 1) = omega arith in
     rw (place, more) (ap (λ (rest : List ℕ). unit_at bytes at ∷ rest) (one_unit_more bytes (at + 4) count))
-
-pub length-units_from : (bytes : List ℕ) (at count : ℕ) → length (units_from bytes at count) ≡ count
-unfolding units_from
-length-units_from bytes at zero = refl
-length-units_from bytes at (suc count) = let rest = length-units_from bytes (at + 4) count in omega arith

@@ -44,11 +44,6 @@ read_up_to_more word at number more read in_word digit low high = record {
   value = value_more _ number (digit_value (get_or word at 0)) _ more read.value (digits_value_more 10 word at in_word) low high;
 }
 
--- a number that was read is at most 2^32
-pub at_most : (value number : ℕ) → IsUpTo value number → number ≤ 2 ^ 32
-at_most value number (Below is low) = omega arith
-at_most value number (Past is high) = omega arith
-
 value_below : (value number : ℕ) → IsUpTo value number → number < 2 ^ 32 → number ≡ value
 value_below value number (Below is low) few = is
 value_below value number (Past is high) few = absurd (omega arith)
@@ -62,10 +57,6 @@ pub identifier_of-spoilt : (names : List NameLine) (word : List ℕ) (at : ℕ) 
 identifier_of-spoilt names word at in_word other =
     let no = all_ascii_digits-spoilt word at in_word other in
     grind arith
-
--- the empty word is a name
-pub identifier_of-empty : (names : List NameLine) (word : List ℕ) → length word ≡ 0 → identifier_of names word ≡ known (first_id names word) word
-identifier_of-empty names word none = grind (arith, nat_tests)
 
 -- all digits are read
 read_all : (word : List ℕ) (number : ℕ) → IsReadUpTo word (length word) number → (all_ascii_digits word ≡ true) × IsUpTo (value_of word) number

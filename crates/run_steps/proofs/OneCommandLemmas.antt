@@ -51,11 +51,6 @@ reads_taking is_whole read next each = λ bytes. outcome_read (read bytes)
     outcome_read (Passed value) = each value
     outcome_read (Refused refusal) = inr tt
 
--- where they end with a refusal, they never pass
-pub reads_stopped : (acts : List Act) (refusal : Refusal) → ReadsToEnd (AreDoneThen acts (Some refusal))
-reads_stopped [] refusal = tt
-reads_stopped (act ∷ acts) refusal = reads_stopped acts refusal
-
 -- They are sure.
 
 pub sure_then : {V : Type 0} (outcome : Outcome V) (next : V → Steps) (value : V) (old : Outside) → outcome ≡ Passed value → IsSure (next value) old → IsSure (Then outcome next) old

@@ -1,12 +1,10 @@
 -- The lines of a script that were read, and those that are left.
-use Rattle.std.proofs.Common.{◌≡◌, ℕ, ◌+◌, Bool, true, false, cond, List, [], ◌∷◌, ◌++◌, map, Option, None, Some, Ok, Err, Result, refl, sym, ap, subst, ◌∙◌, append-nil, append_assoc}
+use Rattle.std.proofs.Common.{◌≡◌, ℕ, ◌+◌, Bool, true, false, cond, List, ◌++◌, map, Option, None, Some, Ok, Err, Result, refl, sym, ap, subst, ◌∙◌}
 use Rattle.std.specs.Prelude.{⊤, IfOk, IfSome, MatchResult}
 use Rattle.std.specs.Str.{is_utf8}
-use Rattle.std.proofs.lemmas.List.{map-append}
 use Rattle.input_text.specs.InputLines.{InputLines, NoLine, LineThen, LongNext, PastNext}
 use Rattle.input_text.specs.LineReading.{lines_left, LinesSeen}
 use Rattle.refusals.specs.declared.cause.Cause.TheVariants.{TooLarge, LongLine, BadLine}
-use Rattle.refusals.specs.declared.reason.Refusal.{Refusal}
 use Rattle.refusals.specs.Outcome.{Outcome, Passed, Refused}
 use Rattle.run_steps.specs.InputLine.{says_nothing}
 use Rattle.script_lines.specs.declared.line.LineRead.{LineRead}
@@ -27,16 +25,6 @@ none_if false never = refl
 -- lines that were read, and then what else is said
 abbrev pub said_with : List ScriptLine → ScriptSaid → ScriptSaid
 said_with lines more = record { lines = map line_read lines ++ more.lines; refusal = more.refusal }
-
--- one more line
-pub said_more : (lines : List ScriptLine) (line : ScriptLine) (more : ScriptSaid) → said_with lines (says_then (Passed (Some (line_read line))) more) ≡ said_with (lines ++ (line ∷ [])) more
-said_more lines line more =
-    ap (λ (l : List LineSaid). record { lines = l; refusal = more.refusal })
-    (sym (append_assoc (map line_read lines) (line_read line ∷ []) more.lines) ∙ ap (λ (l : List LineSaid). l ++ more.lines) (sym (map-append line_read lines (line ∷ []))))
-
--- nothing more is said
-pub said_all : (lines : List ScriptLine) (refusal : Option Refusal) → said_with lines (ends_with refusal) ≡ record { lines = map line_read lines; refusal = refusal }
-said_all lines refusal = ap (λ (l : List LineSaid). record { lines = l; refusal = refusal }) (append-nil (map line_read lines))
 
 -- What comes next.
 

@@ -10,7 +10,6 @@ ghost use Rattle.run_steps.specs.Meaning.{EndsBy, IsSure};
 ghost use Rattle.run_steps.specs.OneCommand.{LooksFirst};
 ghost use Rattle.run_steps.specs.Received.{AreReceived, Receives};
 ghost use Rattle.run_steps.specs.declared.invocation.Invocation.{Invocation};
-ghost use Rattle.run_steps.specs.Opening.{opening_cause};
 ghost use Rattle.std.specs.Prelude.{None, ◌≡◌};
 ghost use Rattle.command_words.specs.Asked.{command_of};
 ghost use Rattle.command_words.specs.declared.command.Command.{Command};

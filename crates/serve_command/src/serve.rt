@@ -1,6 +1,6 @@
 ghost use Rattle.std.specs.Prelude.{◌≡◌, ◌<◌, ◌≤◌, ◌+◌, ◌*◌, [], Bool, IsTrue, IfErr, OnOk, OnErr, is_ok};
 ghost use Rattle.std.specs.List.{All};
-ghost use Rattle.outside.specs.Seen.{LinkSeen, SinkSeen, SourceSeen};
+ghost use Rattle.outside.specs.Seen.{SinkSeen, SourceSeen};
 ghost use Rattle.outside.specs.ManyCalls.{Syncs};
 ghost use Rattle.refusals.specs.Status.{status_of};
 ghost use Rattle.refusals.specs.declared.cause.Cause.TheVariants.{LinkFault};

@@ -191,7 +191,3 @@ exported_once format files (export ∷ list) before one other is also =
 pub if_refused : {T E : Type 0} (P : Type 0) (Q : E → Type 0) (result : Result T E) → ((fault : E) → P → Q fault) → OnErr result P → IfErr result Q
 if_refused P Q (Ok value) so on = tt
 if_refused P Q (Err fault) so on = so fault on
-
-pub on_refused : {T E : Type 0} (P Q : Type 0) (result : Result T E) → (P → Q) → OnErr result P → OnErr result Q
-on_refused P Q (Ok value) so on = tt
-on_refused P Q (Err fault) so on = so on

@@ -1,4 +1,4 @@
-ghost use Rattle.std.specs.Prelude.{ℕ, Option, [], ◌≡◌, ◌≤◌, ◌+◌, ◌⊎◌, Bool, List, Result, IsTrue, IfOk, OnOk, OnErr, length, is_ok};
+ghost use Rattle.std.specs.Prelude.{ℕ, Option, [], ◌≡◌, ◌≤◌, ◌+◌, ◌⊎◌, Bool, List, Result, IsTrue, OnOk, OnErr, length, is_ok};
 ghost use Rattle.std.specs.List.{All};
 ghost use Rattle.outside.specs.Seen.{LinkSeen, SinkSeen, SourceSeen};
 ghost use Rattle.outside.specs.ManyCalls.{Syncs};

@@ -1,10 +1,10 @@
-ghost use Rattle.std.specs.Prelude.{◌≡◌, ◌+◌, ◌-◌, ◌<◌, ◌≤◌, ◌++◌, ◌&&◌, [], true, false, decimal, codes, map, is_some, is_ok, IsTrue, IfOk, IfErr, OnOk, Ok, if◌then◌else◌};
+ghost use Rattle.std.specs.Prelude.{◌≡◌, ◌+◌, ◌-◌, ◌<◌, ◌≤◌, ◌&&◌, [], true, false, map, is_some, is_ok, IsTrue, IfOk, IfErr, OnOk, Ok, if◌then◌else◌};
 ghost use Rattle.std.specs.Str.{bytes_eq};
 ghost use Rattle.input_text.specs.LineReading.{line_then};
 ghost use Rattle.input_text.specs.Numeral.{number_of};
 ghost use Rattle.input_text.specs.Words.{words_eq, words_of};
 ghost use Rattle.set_edit.specs.Form.{form_heading, form_title};
-ghost use Rattle.set_edit.specs.FormReading.{all_limits, behind_text, form_read, if_good, limits_at, limits_in, limits_then_end, line_at, no_more_words};
+ghost use Rattle.set_edit.specs.FormReading.{all_limits, behind_text, form_read, if_good, limits_at, limits_in, line_at, no_more_words};
 ghost use Rattle.set_edit.specs.FormFaults.{IsFormFault, IsLinesFault, form_lines};
 ghost use Rattle.set_edit.specs.Number.{limit_of};
 ghost use Rattle.set_edit.specs.declared.form_reading.FormFault.TheVariants.{Lines as LinesFailed};

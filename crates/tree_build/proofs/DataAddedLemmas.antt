@@ -1,5 +1,5 @@
 -- The data blocks of a new file, as they are appended one after another.
-use Rattle.std.proofs.Common.{◌≡◌, ℕ, zero, suc, ◌+◌, ◌-◌, ◌*◌, ◌≤◌, min, List, [], ◌∷◌, ◌++◌, length, map, take, drop, refl, sym, ap, subst, ◌∙◌, inl, inr, arith, length-drop, true≢false}
+use Rattle.std.proofs.Common.{◌≡◌, ℕ, zero, suc, ◌+◌, ◌-◌, ◌*◌, ◌≤◌, min, List, [], ◌∷◌, ◌++◌, length, map, take, drop, sym, ap, subst, ◌∙◌, inl, inr, arith, length-drop, true≢false}
 use Rattle.std.proofs.lemmas.Bool.{cases_lt}
 use Rattle.std.proofs.lemmas.List.{append-nil, drop-drop, drop_all, map-append, take_all}
 use Rattle.std.proofs.lemmas.List.Concat.{flat_map-append}
@@ -14,7 +14,7 @@ use Rattle.file_blocks.specs.Block.{block_of}
 use Rattle.tree_build.specs.NewFile.{AreDataBlocks, IsDataBlock, KeepsBlocks, Part, leaves_in, part_of, parts_needed, parts_of}
 use Rattle.tree_build.specs.Size.{filled_blocks}
 use Rattle.tree_meaning.proofs.EntryLemmas.{range-suc}
-use Rattle.tree_build.proofs.NewFileLemmas.{appended, kept_again, kept_append, kept_first}
+use Rattle.tree_build.proofs.NewFileLemmas.{appended, kept_again, kept_append}
 use Rattle.quota_radix.proofs.PathLemmas.{each-append}
 
 -- a file with this many of the data blocks of a list, and the leaves of these

@@ -16,7 +16,7 @@ use Rattle.tree_build.specs.Size.{each_once}
 use Rattle.file_blocks.proofs.LeadsLemmas.{leads_below}
 use Rattle.tree_build.proofs.NewFileLemmas.{appended, kept_again, kept_append, kept_first}
 use Rattle.tree_build.proofs.OnceLemmas.{once_run}
-use Rattle.quota_radix.proofs.OrderLemmas.{each_left, each_of_places, each_right, length_numbers}
+use Rattle.quota_radix.proofs.OrderLemmas.{each_left, each_of_places, each_right}
 use Rattle.quota_radix.proofs.PathLemmas.{each-append}
 use Rattle.quota_radix.proofs.StepLemmas.{none_of_zeros, range_push, steps_all, word_in}
 use Rattle.quota_radix.proofs.LinkStepLemmas.{steps_same}

@@ -1,5 +1,5 @@
 -- A file that was written block by block, from what each step says of it.
-use Rattle.std.proofs.Common.{◌≡◌, ◌≢◌, ℕ, zero, suc, ◌+◌, ◌*◌, ◌/◌, ◌^◌, ◌<◌, ◌≤◌, Bool, cond, true, false, ◌==◌, IsTrue, List, [], ◌∷◌, length, map, filter, find, take, option_and_then, option_map, refl, sym, ap, subst, ◌∙◌, arith, None, true≢false}
+use Rattle.std.proofs.Common.{◌≡◌, ℕ, zero, suc, ◌+◌, ◌*◌, ◌/◌, ◌^◌, ◌<◌, ◌≤◌, Bool, cond, true, false, ◌==◌, IsTrue, List, [], ◌∷◌, length, map, filter, find, take, option_and_then, option_map, refl, sym, ap, subst, ◌∙◌, arith, true≢false}
 use Rattle.std.proofs.lemmas.List.{append-nil, get_or-take, length-map}
 use Rattle.std.specs.FinMap.{get}
 use Rattle.std.specs.List.{AllByRecursion, flat_map, range_with_len}

@@ -1,11 +1,10 @@
-ghost use Rattle.std.specs.Prelude.{◌≡◌, ◌≢◌, ◌+◌, ◌*◌, ◌^◌, ◌<◌, ◌≤◌, ◌++◌, ℕ, vec_len, take, drop, IfOk, OnOk};
+ghost use Rattle.std.specs.Prelude.{◌≡◌, ◌+◌, ◌*◌, ◌^◌, ◌<◌, ◌≤◌, ◌++◌, ℕ, vec_len, take, drop, IfOk, OnOk};
 ghost use Rattle.entry_codec.specs.Header.{header_of};
 ghost use Rattle.entry_codec.specs.Spelling.{AreOf};
 ghost use Rattle.quota_types.specs.Bytes.{byte_at};
 ghost use Rattle.quota_types.specs.Format.{IsTreeFormat};
 
 use entry_codec::{Header, write_header};
-use quota_types::Format;
 use std::alloc::{AllocError, Global};
 
 /// A file that is written block by block.

@@ -1,5 +1,5 @@
 -- How many blocks a file would have that is told to be full where blocks are taken.
-use Rattle.std.proofs.Common.{◌≡◌, ℕ, ◌+◌, ◌<◌, ◌≤◌, max, inl, inr, arith}
+use Rattle.std.proofs.Common.{◌≡◌, ℕ, ◌<◌, ◌≤◌, max, inl, inr, arith}
 use Rattle.std.proofs.lemmas.Bool.Decides.{eqb_tells}
 use Rattle.free_chains.specs.FreeList.{TakesHead}
 use Rattle.free_chains.specs.declared.chain_fault.ChainFault.{ChainFault}

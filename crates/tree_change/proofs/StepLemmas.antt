@@ -1,7 +1,5 @@
 -- The steps of an entry, of a tree that is as long as its bytes.
-use Rattle.std.proofs.Common.{◌≡◌, ℕ, ◌^◌, ◌<◌, Bool, true, false, cond, find, ◌==◌, List, [], ◌∷◌, length, replicate, None, Some, sym, ap, subst, ◌∙◌, inl, inr}
-use Rattle.std.specs.List.{AllByRecursion}
-use Rattle.std.proofs.lemmas.Bool.{cases_Bool}
+use Rattle.std.proofs.Common.{◌≡◌, ℕ, ◌^◌, ◌<◌, true, false, find, ◌==◌, List, ◌∷◌, length, replicate, None, Some}
 use Rattle.std.specs.FinMap.{get, insert}
 use Rattle.quota_types.specs.declared.file_kind.Format.{Format}
 use Rattle.quota_types.specs.declared.record.Rec.{Rec}
@@ -18,17 +16,6 @@ use Rattle.tree_steps.specs.EntrySteps.{RewritesEntry, WritesEntry}
 use Rattle.tree_steps.proofs.EntryWrittenLemmas.{first_room, first_written as first_tree, written_full, written_with_room}
 use Rattle.tree_steps.proofs.OverwrittenLemmas.{overwritten}
 use Rattle.tree_change.specs.Shows.{IsWholeTree}
-
--- what holds of each path holds of one that is found
-pub found_among : (P : TreePath → Type 0) (test : TreePath → Bool) (ps : List TreePath) (leaf : TreePath) → find test ps ≡ Some leaf → AllByRecursion P ps → P leaf
-found_among P test [] leaf found all = absurd cc
-found_among P test (p ∷ ps) leaf found all = elim (cases_Bool (test p)) [
-  | inl passes ↦
-      let some : Some p ≡ Some leaf = sym (ap (λ (b : Bool). cond b (Some p) (find test ps)) passes) ∙ found in
-      let same : p ≡ leaf = cc in
-      subst P same all.0
-  | inr fails ↦ found_among P test ps leaf (sym (ap (λ (b : Bool). cond b (Some p) (find test ps)) fails) ∙ found) all.1
-]
 
 module _ (held : List ℕ) (format : Format) (old new : List ℕ) (heads : Heads) (records : Records) (block place id : ℕ) (rec : Rec)
     (small : id < 2 ^ 32) (none : get records id ≡ None) (writes : WritesEntry format block place (record { id = id; rec = rec }) old new) where

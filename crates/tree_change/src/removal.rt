@@ -6,7 +6,7 @@ ghost use Rattle.arrayvec.specs.ArrayVec.{array_vec_len};
 ghost use Rattle.quota_types.specs.Format.{IsTreeFormat};
 ghost use Rattle.quota_pages.specs.Page.{lent_count};
 ghost use Rattle.quota_pages.specs.Pages.{pages_of};
-ghost use Rattle.quota_pages.specs.Used.{IsKnown, LooksAtSome, Uses, shown_over};
+ghost use Rattle.quota_pages.specs.Used.{LooksAtSome, Uses, shown_over};
 ghost use Rattle.quota_radix.specs.Link.{AreBuffered};
 ghost use Rattle.quota_radix.specs.OnWay.{blocks_on_way};
 ghost use Rattle.tree_change.specs.Beside.{LendsBeside, LendsForRemoval};

@@ -1,4 +1,4 @@
-ghost use Rattle.std.specs.Prelude.{◌≡◌, ◌≢◌, ◌+◌, ◌≤◌, IsTrue, OnOk, IfOk, IfErr, is_ok, []};
+ghost use Rattle.std.specs.Prelude.{◌≡◌, ◌+◌, ◌≤◌, IsTrue, OnOk, IfOk, IfErr, is_ok, []};
 ghost use Rattle.file_blocks.specs.Block.{block_of, file_of};
 ghost use Rattle.file_blocks.specs.CheckFault.{IsCheckFault};
 ghost use Rattle.outside.specs.Frame.{OnlyReads};

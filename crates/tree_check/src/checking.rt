@@ -1,12 +1,11 @@
-ghost use Rattle.std.specs.Prelude.{◌≡◌, ◌≢◌, ◌+◌, ◌*◌, ◌<◌, ◌≤◌, ℕ, [], length, Some, IsTrue, IfOk, IfErr, OnOk, is_ok};
+ghost use Rattle.std.specs.Prelude.{◌≡◌, ◌+◌, ◌*◌, ◌<◌, ◌≤◌, [], length, IsTrue, IfOk, IfErr, OnOk, is_ok};
 ghost use Rattle.entry_codec.specs.Header.{header_of};
 ghost use Rattle.entry_codec.specs.Spelling.{AreOf};
 ghost use Rattle.quota_types.specs.Format.{IsTreeFormat};
 ghost use Rattle.quota_types.specs.declared.damage.Damage.{Damage};
-ghost use Rattle.quota_types.specs.declared.file_kind.Format.TheVariants.{V1};
 ghost use Rattle.outside.specs.Frame.{OnlyReads};
 ghost use Rattle.quota_value.specs.QuotaValue.{QuotaValue};
-ghost use Rattle.file_blocks.specs.declared.check_fault.CheckFault.TheVariants.{Damage as Damaged, Memory};
+ghost use Rattle.file_blocks.specs.declared.check_fault.CheckFault.TheVariants.{Damage as Damaged};
 ghost use Rattle.tree_check.specs.Check.{IsChecked};
 ghost use Rattle.file_blocks.specs.CheckFault.{IsCheckFault};
 ghost use Rattle.file_blocks.specs.Block.{file_of};

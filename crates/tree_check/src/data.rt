@@ -1,13 +1,13 @@
-ghost use Rattle.std.specs.Prelude.{◌≡◌, ◌≢◌, ℕ, List, ◌+◌, ◌<◌, ◌≤◌, ◌++◌, ◌∷◌, [], ◌&&◌, nat_le, if◌then◌else◌, map, take, length, IsTrue, IfOk, OnOk, IfErr, MatchOption, is_ok};
+ghost use Rattle.std.specs.Prelude.{◌≡◌, ℕ, List, ◌+◌, ◌<◌, ◌≤◌, ◌++◌, ◌∷◌, [], ◌&&◌, nat_le, if◌then◌else◌, take, length, IsTrue, IfOk, OnOk, IfErr, MatchOption, is_ok};
 ghost use Rattle.outside.specs.Frame.{OnlyReads};
 ghost use Rattle.file_blocks.specs.Block.{block_of, file_of};
 ghost use Rattle.file_blocks.specs.BlockSet.{AreFlagsOf};
 ghost use Rattle.file_blocks.specs.CheckFault.{IsCheckFault};
-ghost use Rattle.tree_meaning.specs.Compared.{AreEntriesOf, HasEntriesOf, IsDataDefect, IsEntryDefectAt, leading_ids, rooms};
+ghost use Rattle.tree_meaning.specs.Compared.{HasEntriesOf, IsDataDefect, leading_ids, rooms};
 ghost use Rattle.quota_types.specs.Format.{IsTreeFormat};
 ghost use Rattle.quota_types.specs.Times.{StandsIn, times};
 ghost use Rattle.quota_types.specs.Damage.{NamesItsId};
-ghost use Rattle.tree_meaning.specs.Entries.{has_unused, stated_count, used_ids};
+ghost use Rattle.tree_meaning.specs.Entries.{has_unused};
 ghost use Rattle.tree_check.specs.Groups.{AreByBlock, groups_of};
 ghost use Rattle.tree_check.specs.Reads.{led_blocks};
 ghost use Rattle.tree_check.specs.EntryList.{AreListed, IsListDefect, NamesOther};

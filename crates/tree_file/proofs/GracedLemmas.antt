@@ -1,8 +1,7 @@
 -- A tree file of which the bytes of the two grace periods were written.
-use Rattle.std.proofs.Common.{◌≡◌, ℕ, zero, suc, ◌+◌, ◌*◌, ◌<◌, ◌≤◌, List, ◌++◌, length, take, drop, replicate, get_or, min, ◌-◌, refl, sym, ap, ◌∙◌, arith, inl, inr, length-take}
+use Rattle.std.proofs.Common.{◌≡◌, ℕ, ◌+◌, ◌*◌, ◌<◌, ◌≤◌, List, ◌-◌, sym, ap, ◌∙◌, arith, inl, inr}
 use Rattle.std.proofs.lemmas.Bool.{cases_lt}
-use Rattle.std.proofs.lemmas.List.{ext_get_or, get_or-drop, get_or-take, get_or_append_left, get_or_past}
-use Rattle.std.proofs.Math.Seq.{get_or-append_right}
+use Rattle.std.proofs.lemmas.List.{ext_get_or}
 use Rattle.quota_types.specs.Bytes.{byte_at, number_at}
 use Rattle.quota_types.specs.declared.record.Grace.{Grace}
 use Rattle.quota_value.specs.QuotaValue.{QuotaValue, with_grace}
@@ -97,21 +96,3 @@ graced_of grace old new header graced are =
       free = kept.free ∙ are.free;
       first = kept.first ∙ are.first;
     }
-
--- two beginnings with the same bytes have the same header
-pub same_header : (one other : List ℕ) → ((k : ℕ) → k < 32 → byte_at one k ≡ byte_at other k) → header_of one ≡ header_of other
-same_header one other same = λ i. record {
-  magic = number_same 4 0 one other (λ k from to. same k (omega arith)) i;
-  version = number_same 4 4 one other (λ k from to. same k (omega arith)) i;
-  block_grace = number_same 4 8 one other (λ k from to. same k (omega arith)) i;
-  inode_grace = number_same 4 12 one other (λ k from to. same k (omega arith)) i;
-  flags = number_same 4 16 one other (λ k from to. same k (omega arith)) i;
-  blocks = number_same 4 20 one other (λ k from to. same k (omega arith)) i;
-  free = number_same 4 24 one other (λ k from to. same k (omega arith)) i;
-  first = number_same 4 28 one other (λ k from to. same k (omega arith)) i;
-}
-
-zero_at : (count k : ℕ) → ◌≡◌ {A = ℕ} (get_or (replicate count 0) k 0) 0
-zero_at zero k = refl
-zero_at (suc count) zero = refl
-zero_at (suc count) (suc k) = zero_at count k

@@ -1,11 +1,10 @@
 -- A file whose header and blocks are those of another one, but maybe for the grace periods, stands for the same value with
 -- other grace periods.
-use Rattle.std.proofs.Common.{◌≡◌, ℕ, ◌*◌, ◌<◌, ◌≤◌, List, length, sym, ap, subst, ◌∙◌, arith}
+use Rattle.std.proofs.Common.{◌≡◌, ℕ, ◌*◌, ◌<◌, ◌≤◌, List, length, sym, ap, subst, ◌∙◌}
 use Rattle.quota_types.specs.declared.file_kind.Format.{Format}
 use Rattle.quota_types.specs.declared.record.Grace.{Grace}
 use Rattle.quota_value.specs.QuotaValue.{QuotaValue, with_grace}
 use Rattle.entry_codec.specs.Header.{HeaderNumbers, format_of, header_of}
-use Rattle.file_blocks.specs.Block.{block_of}
 use Rattle.tree_meaning.specs.Loose.{nothing_loose}
 use Rattle.tree_meaning.specs.Roles.{Chained, Filled, OneRole}
 use Rattle.tree_meaning.specs.TreeFile.{IsSound, TreeStandsFor, record_in, tree_record}

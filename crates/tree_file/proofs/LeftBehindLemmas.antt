@@ -1,5 +1,5 @@
 -- What a change that failed leaves as it was: every byte that the whole change would have left.
-use Rattle.std.proofs.Common.{◌≡◌, ℕ, ◌*◌, ◌/◌, ◌%◌, ◌<◌, ◌≤◌, List, length, inl, inr, subst, ◌∙◌, arith}
+use Rattle.std.proofs.Common.{◌≡◌, ℕ, ◌*◌, ◌/◌, ◌%◌, ◌≤◌, List, length, inl, inr, subst, ◌∙◌, arith}
 use Rattle.std.specs.Prelude.{max}
 use Rattle.quota_types.specs.Bytes.{byte_at}
 use Rattle.quota_types.specs.Span.{KeepsOutside}

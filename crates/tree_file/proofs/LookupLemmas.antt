@@ -1,5 +1,5 @@
 -- The record of an identifier among the entries of a block, and in the file that they are a part of.
-use Rattle.std.proofs.Common.{◌≡◌, ℕ, ◌^◌, ◌≤◌, Bool, cond, ◌==◌, List, [], ◌∷◌, find, Option, Some, None, Result, Ok, Err, OnErr, IfErr, IsErrAnd, option_and_then, refl, sym, ap, subst, ◌∙◌, inl, inr, arith}
+use Rattle.std.proofs.Common.{◌≡◌, ℕ, ◌≤◌, Bool, cond, ◌==◌, List, [], ◌∷◌, find, Option, Some, None, option_and_then, sym, ap, subst, ◌∙◌, inl, inr, arith}
 use Rattle.std.proofs.lemmas.Bool.{cases_Bool, cases_lt}
 use Rattle.std.specs.FinMap.{get}
 use Rattle.std.specs.List.{AllByRecursion}
@@ -23,16 +23,11 @@ use Rattle.tree_meaning.specs.EntryRecords.{IsRecordIn}
 use Rattle.tree_file.specs.Leaf.{IsLeafFault}
 use Rattle.quota_radix.specs.Tree.{ids_at, leaves}
 use Rattle.tree_meaning.specs.TreeFile.{TreeStandsFor, record_in, tree_record}
-use Rattle.tree_meaning.proofs.DefectLemmas.{no_defect_of_sound}
-use Rattle.quota_radix.proofs.DescentLemmas.{IsPathFrom, find_above, leaf_is_from, no_leaf_from, not_some, option_cases, some_same}
+use Rattle.quota_radix.proofs.DescentLemmas.{IsPathFrom, leaf_is_from, no_leaf_from, not_some, some_same}
 use Rattle.quota_radix.proofs.LeafLemmas.{IsLeaf}
-use Rattle.quota_radix.proofs.PathLemmas.{Rises-paths, leaves_lead}
+use Rattle.quota_radix.proofs.PathLemmas.{leaves_lead}
 use Rattle.tree_meaning.proofs.ValueLemmas.{found_used}
 use Rattle.tree_file.proofs.UsedLemmas.{one_is_first}
-
--- a file stands for no value
-abbrev pub StandsForNone : List ℕ → Type 0
-StandsForNone file = (value : QuotaValue) → ¬ (TreeStandsFor file value)
 
 -- what holds of each path holds of the one that is found
 pub each_found : (P : TreePath → Type 0) (test : TreePath → Bool) (ps : List TreePath) (p : TreePath) → find test ps ≡ Some p → AllByRecursion P ps → P p
@@ -89,12 +84,6 @@ pub one_record : (header : Header) (file : List ℕ) (leaf : TreePath) (rec : Re
 one_record header file leaf rec of is found value stands =
     value_record header file value leaf.number of stands ∙ ap (option_and_then (λ (other : TreePath). record_in header.format (block_of file other.block) leaf.number)) is ∙ found
 
--- behind the last identifier there is none
-pub none_past : (header : Header) (file : List ℕ) (after : Option ℕ) → AreOf header (header_of file) → ((id : ℕ) → IsAfter after id → 2 ^ 32 ≤ id)
-    → (value : QuotaValue) → TreeStandsFor file value → IsNextAfter after value.records None
-none_past header file after of past value stands = λ id is.
-    no_record header file id of (find_above 0 (256 ^ 4) id (leaves file header.blocks) (Rises-paths file header.blocks 4) (past id is)) value stands
-
 -- where there is no leaf from an identifier on, there is no next one
 pub none_next : (header : Header) (file : List ℕ) (after : Option ℕ) (from : ℕ) → AreOf header (header_of file) → ((id : ℕ) → IsAfter after id → from ≤ id)
     → None ≡ leaf_from file header.blocks from → (value : QuotaValue) → TreeStandsFor file value → IsNextAfter after value.records None
@@ -128,8 +117,3 @@ near_record header file leaf rec of is there value stands =
 pub next_leaf : (file : List ℕ) (blocks from : ℕ) (leaf : TreePath) → Some leaf ≡ leaf_from file blocks from → IsLeaf file blocks leaf × (from ≤ leaf.number)
 next_leaf file blocks from leaf is =
     let next : IsPathFrom from (leaves file blocks) leaf = leaf_is_from file blocks from leaf (sym is) in (next.there, next.above)
-
--- a fact that holds whatever a call answers
-pub on_err : {T E : Type 0} (P : Type 0) (result : Result T E) → P → OnErr result P
-on_err P (Ok x) p = tt
-on_err P (Err e) p = p

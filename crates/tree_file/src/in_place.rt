@@ -1,6 +1,6 @@
 //! Records that are put into a tree file, and taken out of one, where they stand.
 
-ghost use Rattle.std.specs.Prelude.{◌≡◌, ◌+◌, ◌<◌, ◌≤◌, [], ℕ, None, Some, is_none, true, IfErr, IfOk, IfSome, IsSome, IsTrue, OnOk, ◌∷◌};
+ghost use Rattle.std.specs.Prelude.{◌≡◌, ◌+◌, ◌<◌, ◌≤◌, [], None, Some, is_none, true, IfErr, IfOk, IfSome, IsSome, IsTrue, OnOk};
 ghost use Rattle.free_chains.specs.declared.heads.Heads.{Heads};
 ghost use Rattle.opened_file.specs.Committed.{CommitsOnce};
 ghost use Rattle.std.specs.FinMap.{get};

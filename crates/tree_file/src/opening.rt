@@ -1,18 +1,14 @@
-ghost use Rattle.std.specs.Prelude.{◌≡◌, ◌≢◌, ◌+◌, ◌*◌, ◌<◌, ◌≤◌, ℕ, List, Option, true, None, Ok, Some, IsTrue, IfErr, IfOk, IfSome, IsSome, IsSomeAnd, OnOk, is_ok, max, []};
+ghost use Rattle.std.specs.Prelude.{◌≡◌, ◌≢◌, ◌+◌, ◌*◌, ◌<◌, ◌≤◌, ℕ, Option, true, None, Ok, Some, IsTrue, IfErr, IfOk, IfSome, IsSome, IsSomeAnd, OnOk, is_ok, []};
 ghost use Rattle.entry_codec.specs.Header.{header_of};
 ghost use Rattle.entry_codec.specs.Spelling.{AreOf};
 ghost use Rattle.quota_types.specs.Format.{IsTreeFormat};
 ghost use Rattle.quota_types.specs.Range.{grace_unfit};
-ghost use Rattle.quota_types.specs.declared.damage.Damage.{Damage};
 ghost use Rattle.quota_types.specs.declared.file_kind.Format.{Format};
 ghost use Rattle.quota_types.specs.declared.file_kind.Kind.{Kind};
 ghost use Rattle.outside.specs.Frame.{OnlyReads};
 ghost use Rattle.quota_value.specs.QuotaValue.{QuotaValue};
 ghost use Rattle.std.specs.Bool.{OnFalse, OnTrue};
-ghost use Rattle.file_blocks.specs.CheckFault.{IsCheckFault};
 ghost use Rattle.file_blocks.specs.Block.{block_of, file_of};
-ghost use Rattle.tree_meaning.specs.Defect.{IsTreeDefect};
-ghost use Rattle.tree_meaning.specs.TreeFile.{TreeStandsFor};
 ghost use Rattle.tree_file.specs.View.{FitsRequest, HasHeader, IsAsAsked, IsRefusedHeader, IsTreeView};
 ghost use Rattle.tree_file.specs.TreeCalls.{IsTreeFault};
 

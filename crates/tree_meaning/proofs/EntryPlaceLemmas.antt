@@ -7,7 +7,6 @@ use Rattle.std.specs.List.{cons_option, filter_map, flat_map, list_any, range_wi
 use Rattle.quota_types.specs.Span.{KeepsOutside}
 use Rattle.quota_types.specs.Format.{record_size}
 use Rattle.quota_types.specs.declared.file_kind.Format.{Format}
-use Rattle.quota_types.specs.declared.file_kind.Format.TheVariants.{V1, V2R0, V2R1}
 use Rattle.quota_types.specs.declared.record.Entry.{Entry}
 use Rattle.entry_codec.specs.Entry.{entries_per_block, is_unused}
 use Rattle.tree_meaning.specs.Entries.{entry_bytes, entry_of, has_unused, id_in, used_entries, used_ids}

@@ -1,7 +1,7 @@
 -- The tree and the entries are the same in a file that keeps them, and that may have more blocks.
 use Rattle.std.proofs.Common.{◌≡◌, ℕ, zero, suc, ◌+◌, ◌-◌, ◌*◌, ◌<◌, ◌≤◌, Bool, true, false, cond, ◌&&◌, ◌==◌, nat_le, if◌then◌else◌, IsTrue, List, [], ◌∷◌, ◌++◌, length, map, filter, find, Option, Some, None, option_and_then, option_map, refl, sym, ap, subst, ◌∙◌, inl, inr, arith}
 use Rattle.std.specs.Prelude.{IfSome}
-use Rattle.std.specs.List.{cons_option, filter_map, flat_map, list_any, range_with_len, AllByRecursion}
+use Rattle.std.specs.List.{cons_option, filter_map, flat_map, range_with_len, AllByRecursion}
 use Rattle.std.proofs.lemmas.Bool.{cases_Bool, leb-true}
 use Rattle.std.proofs.lemmas.Bool.Decides.{nat_tests}
 use Rattle.std.proofs.lemmas.List.{append-nil}
@@ -12,12 +12,11 @@ use Rattle.quota_types.specs.Times.{StandsIn, times}
 use Rattle.quota_types.proofs.TimesLemmas.{range_with_len-add, stands_cons, stands_right, times-cons-same, times-filter-no}
 use Rattle.file_blocks.specs.Block.{block_of, leads, word_at}
 use Rattle.file_blocks.proofs.LeadsLemmas.{leads_within}
-use Rattle.entry_codec.specs.Entry.{entries_per_block, is_unused}
 use Rattle.quota_radix.specs.declared.tree_path.TreePath.{TreePath}
 use Rattle.quota_radix.specs.Tree.{blocks_of, ids_at, leaves, level, lower_blocks, paths, step, steps, tree_blocks}
 use Rattle.quota_radix.proofs.LinkPathLemmas.{level_in_tree}
 use Rattle.quota_radix.proofs.PathLemmas.{length_ids, level_leads}
-use Rattle.tree_meaning.specs.Entries.{entry_bytes, entry_of, has_unused, used_entries, used_ids, id_in}
+use Rattle.tree_meaning.specs.Entries.{has_unused, used_ids}
 use Rattle.tree_meaning.proofs.EntryPlaceLemmas.{entries_kept, ids_kept as used_ids_kept, unused_kept}
 use Rattle.tree_meaning.specs.IsTree.{IsAwaited}
 use Rattle.tree_meaning.specs.KeepsEntries.{IsNamed, KeepsEntries}

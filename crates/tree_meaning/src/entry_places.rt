@@ -1,4 +1,4 @@
-ghost use Rattle.std.specs.Prelude.{◌≡◌, ◌≢◌, ℕ, ◌<◌, ◌≤◌, true, false, is_some, None, Some, IfSome, length, replicate};
+ghost use Rattle.std.specs.Prelude.{◌≡◌, ℕ, ◌<◌, ◌≤◌, true, false, is_some, None, Some, IfSome, length, replicate};
 ghost use Rattle.entry_codec.specs.Entry.{entries_per_block, is_unused};
 ghost use Rattle.entry_codec.specs.Spelling.{padding_of};
 ghost use Rattle.quota_types.specs.Format.{IsTreeFormat, record_size};

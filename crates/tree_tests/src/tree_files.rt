@@ -4,7 +4,7 @@ use entry_codec::{Header, HeaderFault, read_header};
 use file_blocks::CheckFault;
 use memory_objects::MemStore;
 use outside::Store;
-use quota_types::{Damage, DamageKind, Format, Kind};
+use quota_types::{Damage, DamageKind, Kind};
 use row_files::store_of;
 use std::alloc::{AllocError, Global};
 use tree_check::{Checked, check};

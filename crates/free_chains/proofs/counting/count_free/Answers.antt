@@ -1,4 +1,4 @@
-use Rattle.std.proofs.Common.{ℕ, ◌+◌, ◌≢◌, ◌∷◌, [], List, ap, arith, inl, inr, refl, sym, ◌∙◌}
+use Rattle.std.proofs.Common.{ℕ, ◌+◌, ◌∷◌, [], List, ap, arith, inl, inr, refl, sym, ◌∙◌}
 use Rattle.std.specs.Prelude.{◌==◌}
 use Rattle.std.specs.List.{list_any}
 use Rattle.quota_types.proofs.TimesLemmas.{StandsIn-list_any}

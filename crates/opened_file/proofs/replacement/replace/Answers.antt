@@ -1,4 +1,4 @@
-use Rattle.std.proofs.Common.{◌≡◌, List, ℕ, [], Bool, false, Some, sym, ap, subst, ◌∙◌}
+use Rattle.std.proofs.Common.{◌≡◌, List, ℕ, [], false, Some, sym, ap, subst, ◌∙◌}
 use Rattle.std.specs.Prelude.{◌∷◌}
 use Rattle.outside.specs.Replacement.{replacement_name}
 use Rattle.outside.specs.Unsynced.{Names}

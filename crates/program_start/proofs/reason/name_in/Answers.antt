@@ -1,4 +1,4 @@
-use Rattle.std.proofs.Common.{◌≡◌, ◌≢◌, ◌<◌, ◌∷◌, ◌++◌, ◌∙◌, List, ℕ, arith, ap, drop, get_or, inl, inr, length, refl, subst, sym, take, take-append-drop}
+use Rattle.std.proofs.Common.{◌≢◌, ◌<◌, ◌∷◌, ◌++◌, ◌∙◌, List, ℕ, arith, ap, drop, get_or, inl, inr, length, refl, subst, sym, take, take-append-drop}
 use Rattle.std.proofs.lemmas.Str.Pattern.{NoCharPasses-char, drop_at_char}
 use Rattle.program_start.proofs.reason.name_in.Goals as goal
 

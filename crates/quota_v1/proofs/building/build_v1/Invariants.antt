@@ -1,4 +1,4 @@
-use Rattle.std.proofs.Common.{◌*◌, take}
+use Rattle.std.proofs.Common.{take}
 use Rattle.quota_v1.specs.Build.{records_needed}
 use Rattle.quota_v1.specs.Place.{record_start}
 use Rattle.quota_value.specs.Listed.{ids_of}

@@ -1,4 +1,4 @@
-use Rattle.std.proofs.Common.{◌≡◌, ◌*◌, ◌%◌, ◌<◌, ◌≤◌, length, List, ℕ, None}
+use Rattle.std.proofs.Common.{◌≡◌, ◌%◌, ◌<◌, ◌≤◌, length, List, ℕ, None}
 use Rattle.quota_v1.specs.FlatFile.{flat_record}
 use Rattle.quota_v1.specs.Place.{record_start}
 use Rattle.quota_v1.specs.Slot.{AreFrom}

@@ -4,7 +4,7 @@ use Rattle.quota_types.specs.declared.record.Entry.{Entry}
 use Rattle.opened_file.specs.FileSeen.{FileSeen}
 use Rattle.quota_types.specs.Ids.{IsAfter}
 use Rattle.quota_value.specs.NextRecord.{IsNextAfter}
-use Rattle.opened_file.proofs.LooksUpLemmas.{looks_up-answer, looks_up-none, looks_up-stopped, looks_up-then, looks_up-within}
+use Rattle.opened_file.proofs.LooksUpLemmas.{looks_up-answer, looks_up-none, looks_up-within}
 use Rattle.opened_file.proofs.PassingLemmas.{passed_all, passed_end, passed_found, passed_none, passed_part, passing_still}
 use Rattle.report_text.proofs.LookingLemmas.{last_one, one_more, sink_failed}
 use Rattle.report_text.proofs.LinesLemmas.{put_none, put_more, put_all, put_fault, put_part}

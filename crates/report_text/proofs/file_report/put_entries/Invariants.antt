@@ -1,4 +1,4 @@
-use Rattle.std.proofs.Common.{◌≡◌, ◌*◌, ◌-◌, ◌^◌, ◌≤◌, IsTrue, Ok, Some}
+use Rattle.std.proofs.Common.{◌*◌, ◌-◌, ◌^◌, ◌≤◌, IsTrue, Ok, Some}
 use Rattle.id_names.specs.FirstMatch.{first_name}
 use Rattle.opened_file.specs.Changes.{file_at, laws_of}
 use Rattle.opened_file.specs.LooksUp.{LooksUp}

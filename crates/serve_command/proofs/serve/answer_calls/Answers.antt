@@ -1,4 +1,4 @@
-use Rattle.std.proofs.Common.{◌+◌, ◌*◌, ◌≤◌, ℕ, sym, subst, ◌∙◌, arith}
+use Rattle.std.proofs.Common.{◌+◌, ◌*◌, ◌≤◌, ℕ, sym, subst, ◌∙◌}
 use Rattle.outside.proofs.FrameLemmas.{syncs-none}
 use Rattle.quota_map.proofs.AnyLemmas.{any_few_gets}
 use Rattle.outside.specs.Count.{Rose}

@@ -1,9 +1,8 @@
-use Rattle.std.proofs.Common.{arith, inl, ℕ, ap, List, length}
+use Rattle.std.proofs.Common.{arith, inl, ap, List, length}
 use Rattle.std.proofs.lemmas.Result.{err_from_is_err_and}
 use Rattle.tree_change.proofs.ChangeFaultLemmas.{of_walk}
 use Rattle.tree_change.proofs.WayFoundLemmas.{none_by_way, not_out, some_by_way}
 use Rattle.tree_change.proofs.BesideLemmas.{beside_looked, none_lent, removal_few}
-use Rattle.tree_change.specs.Beside.{LendsForRemoval}
 use Rattle.quota_pages.specs.Page.{Page}
 use Rattle.tree_change.proofs.removal.remove_record.Goals as goal
 

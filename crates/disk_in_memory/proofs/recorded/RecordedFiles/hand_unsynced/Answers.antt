@@ -1,4 +1,4 @@
-use Rattle.std.proofs.Common.{◌≤◌, ℕ, refl, true, ap, sym, subst, ◌∙◌, List, ◌≡◌}
+use Rattle.std.proofs.Common.{◌≤◌, ℕ, refl, true, ap, sym, subst, ◌∙◌, ◌≡◌}
 use Rattle.disk.specs.DiskSeen.{ChangesNothing}
 use Rattle.disk_in_memory.specs.Told.{told_of, told_with, present_of, names_of, left_unsynced}
 use Rattle.disk_in_memory.proofs.ToldLemmas.{on_err_any, told_nothing}
