@@ -13,14 +13,14 @@ use Rattle.batch_commands.specs.declared.batch_input.InputFault.{InputFault}
 use Rattle.batch_commands.specs.declared.batch_input.InputFault.TheVariants.{Memory as NoMemory}
 use Rattle.batch_commands.specs.declared.batch_line.FiveWords.{FiveWords}
 use Rattle.batch_commands.specs.declared.batch_line.LineEdit.{LineEdit}
-use Rattle.batch_commands.specs.declared.batch_line.LineRead.{LineRead}
-use Rattle.batch_commands.specs.declared.batch_line.LineRead.TheVariants.{Nothing, Edit as Found, Refused as Faulty}
+use Rattle.batch_commands.specs.declared.batch_line.BatchLineRead.{BatchLineRead}
+use Rattle.batch_commands.specs.declared.batch_line.BatchLineRead.TheVariants.{Nothing, Edit as Found, Refused as Faulty}
 use Rattle.refusals.specs.declared.cause.Cause.{Cause}
 use Rattle.refusals.specs.declared.cause.Cause.TheVariants.{TooLarge, LongLine, UnknownName, BadNumber}
 use Rattle.refusals.specs.declared.reason.Refusal.{Refusal}
 use Rattle.refusals.specs.Outcome.{Outcome, Passed, Refused}
-use Rattle.batch_commands.specs.Batch.{Asked, LineMayRefuse, asks_then, ends_with, five_of, limits_asked, line_asks, line_named, lines_ask, read_at, words_ask}
-use Rattle.batch_commands.specs.BatchReading.{IsOfLine, line_outcome, read_then, refusal_read}
+use Rattle.batch_commands.specs.Batch.{AskedEdits, LineMayRefuse, asks_then, ends_with, five_of, limits_asked, line_asks, line_named, lines_ask, read_at, words_ask}
+use Rattle.batch_commands.specs.BatchReading.{IsOfInputLine, line_outcome, read_then, refusal_read}
 use Rattle.refusals.specs.Refusals.{refusal_of, stands_in_line}
 use Rattle.run_steps.specs.InputLine.{says_nothing}
 use Rattle.run_steps.specs.Numbers.{identifier_of, known, limit_read, limits_read, number_or_refused}
@@ -29,7 +29,7 @@ use Rattle.edit_steps.proofs.OutcomeLemmas.{OnlyRefused, only_if, only_then}
 -- What was read so far.
 
 -- edits, and then what else is asked for
-abbrev pub asked_with : List LineEdit → Asked → Asked
+abbrev pub asked_with : List LineEdit → AskedEdits → AskedEdits
 asked_with edits more = record { edits = edits ++ more.edits; refusal = more.refusal }
 
 -- What comes next.
@@ -39,7 +39,7 @@ abbrev pub left_lines : LinesSeen → List ℕ → InputLines
 left_lines seen left = lines_left 1024 16777216 seen left
 
 -- a line was read
-pub line_taken : (names : List NameLine) (place : List ℕ) (old new : LinesSeen) (left left_now line : List ℕ) (number : ℕ) (read : LineRead)
+pub line_taken : (names : List NameLine) (place : List ℕ) (old new : LinesSeen) (left left_now line : List ℕ) (number : ℕ) (read : BatchLineRead)
     → left_lines old left ≡ LineThen line (left_lines new left_now) → new.number ≡ old.number + 1 → number ≡ old.number → line_asks names place number line ≡ line_outcome read
     → lines_ask names place old.number (left_lines old left) ≡ read_then (Some read) (lines_ask names place new.number (left_lines new left_now))
 line_taken names place old new left left_now line number read is next same asks =
@@ -49,25 +49,25 @@ line_taken names place old new left left_now line number read is next same asks 
     ∙ ap (λ (n : ℕ). asks_then (line_outcome read) (lines_ask names place n (left_lines new left_now))) (sym next)
 
 -- there was none
-pub end_taken : (names : List NameLine) (place : List ℕ) (old : LinesSeen) (left : List ℕ) (more : Asked) → left_lines old left ≡ NoLine
+pub end_taken : (names : List NameLine) (place : List ℕ) (old : LinesSeen) (left : List ℕ) (more : AskedEdits) → left_lines old left ≡ NoLine
     → lines_ask names place old.number (left_lines old left) ≡ read_then None more
 end_taken names place old left more is = ap (λ (l : InputLines). lines_ask names place old.number l) is
 
 -- it was too long
-pub long_taken : (names : List NameLine) (place : List ℕ) (old : LinesSeen) (left : List ℕ) (number : ℕ) (more : Asked) → left_lines old left ≡ LongNext → number ≡ old.number
+pub long_taken : (names : List NameLine) (place : List ℕ) (old : LinesSeen) (left : List ℕ) (number : ℕ) (more : AskedEdits) → left_lines old left ≡ LongNext → number ≡ old.number
     → lines_ask names place old.number (left_lines old left) ≡ read_then (Some (Faulty (refusal_of (LongLine number) place))) more
 long_taken names place old left number more is same =
     ap (λ (l : InputLines). lines_ask names place old.number l) is ∙ ap (λ (n : ℕ). ends_with (Some (refusal_of (LongLine n) place))) (sym same)
 
 -- it passes the bytes that are read
-pub past_taken : (names : List NameLine) (place : List ℕ) (old : LinesSeen) (left : List ℕ) (more : Asked) → left_lines old left ≡ PastNext
+pub past_taken : (names : List NameLine) (place : List ℕ) (old : LinesSeen) (left : List ℕ) (more : AskedEdits) → left_lines old left ≡ PastNext
     → lines_ask names place old.number (left_lines old left) ≡ read_then (Some (Faulty (refusal_of TooLarge place))) more
 past_taken names place old left more is = ap (λ (l : InputLines). lines_ask names place old.number l) is
 
 -- a refusal that was made for what comes next
-pub refused_taken : (result : Result (Option LineRead) InputFault) (read : Option LineRead) (told : Type 0) (asks more : Asked) → MatchResult result (λ (r : Option LineRead). r ≡ read) (λ (fault : InputFault). fault ≡ NoMemory)
-    → (told → asks ≡ read_then read more) → IfOk result (λ (r : Option LineRead). told → asks ≡ read_then r more)
-refused_taken (Ok found) read told asks more is taken = λ known. taken known ∙ ap (λ (r : Option LineRead). read_then r more) (sym is)
+pub refused_taken : (result : Result (Option BatchLineRead) InputFault) (read : Option BatchLineRead) (told : Type 0) (asks more : AskedEdits) → MatchResult result (λ (r : Option BatchLineRead). r ≡ read) (λ (fault : InputFault). fault ≡ NoMemory)
+    → (told → asks ≡ read_then read more) → IfOk result (λ (r : Option BatchLineRead). told → asks ≡ read_then r more)
+refused_taken (Ok found) read told asks more is taken = λ known. taken known ∙ ap (λ (r : Option BatchLineRead). read_then r more) (sym is)
 refused_taken (Err fault) read told asks more is taken = tt
 
 -- What a line may be refused for.
@@ -132,25 +132,25 @@ named_if false number untrue = refl
 pub unnamed : (number : ℕ) (cause : Cause) → stands_in_line cause ≡ false → line_named number cause ≡ None
 unnamed number cause untrue = named_if (stands_in_line cause) number untrue
 
-read_line_at : (names : List NameLine) (place : List ℕ) (number : ℕ) (outcome : Outcome LineEdit) → OnlyRefused (ForLine names place) outcome → OnlyRefused (IsOfLine names place) (read_at number outcome)
+read_line_at : (names : List NameLine) (place : List ℕ) (number : ℕ) (outcome : Outcome LineEdit) → OnlyRefused (ForLine names place) outcome → OnlyRefused (IsOfInputLine names place) (read_at number outcome)
 read_line_at names place number (Passed edit) may = tt
 read_line_at names place number (Refused refusal) may = record { may = may; line = refl; input_line = λ untrue. unnamed number refusal.cause untrue }
 
-words_line : (names : List NameLine) (place : List ℕ) (number : ℕ) (five : Option FiveWords) → ForFive names place number five → OnlyRefused (IsOfLine names place) (words_ask names place number five)
+words_line : (names : List NameLine) (place : List ℕ) (number : ℕ) (five : Option FiveWords) → ForFive names place number five → OnlyRefused (IsOfInputLine names place) (words_ask names place number five)
 words_line names place number (Some words) may = read_line_at names place number (limits_asked names number words) may
 words_line names place number None may = record { may = refl; line = refl; input_line = λ untrue. refl }
 
 -- a line is refused only by a refusal that a line may have
-pub asks_line : (names : List NameLine) (place : List ℕ) (number : ℕ) (line : List ℕ) → OnlyRefused (IsOfLine names place) (line_asks names place number line)
+pub asks_line : (names : List NameLine) (place : List ℕ) (number : ℕ) (line : List ℕ) → OnlyRefused (IsOfInputLine names place) (line_asks names place number line)
 asks_line names place number line =
-    only_if (IsOfLine names place) (says_nothing line) (Passed None) (words_ask names place number (five_of (words_of line))) tt
+    only_if (IsOfInputLine names place) (says_nothing line) (Passed None) (words_ask names place number (five_of (words_of line))) tt
     (words_line names place number (five_of (words_of line)) (five_line names place number (words_of line)))
 
-outcome_may : (names : List NameLine) (place : List ℕ) (read : LineRead) → OnlyRefused (IsOfLine names place) (line_outcome read) → IfSome (refusal_read (Some read)) (IsOfLine names place)
+outcome_may : (names : List NameLine) (place : List ℕ) (read : BatchLineRead) → OnlyRefused (IsOfInputLine names place) (line_outcome read) → IfSome (refusal_read (Some read)) (IsOfInputLine names place)
 outcome_may names place Nothing may = tt
 outcome_may names place (Found edit) may = tt
 outcome_may names place (Faulty refusal) may = may
 
-pub line_may : (names : List NameLine) (place : List ℕ) (number : ℕ) (line : List ℕ) (read : LineRead) → line_asks names place number line ≡ line_outcome read → IfSome (refusal_read (Some read)) (IsOfLine names place)
+pub line_may : (names : List NameLine) (place : List ℕ) (number : ℕ) (line : List ℕ) (read : BatchLineRead) → line_asks names place number line ≡ line_outcome read → IfSome (refusal_read (Some read)) (IsOfInputLine names place)
 line_may names place number line read asks =
-    outcome_may names place read (subst (λ (o : Outcome (Option LineEdit)). OnlyRefused (IsOfLine names place) o) asks (asks_line names place number line))
+    outcome_may names place read (subst (λ (o : Outcome (Option LineEdit)). OnlyRefused (IsOfInputLine names place) o) asks (asks_line names place number line))

@@ -16,7 +16,7 @@ use Rattle.quota_map.specs.declared.any_file.AnyFile.{AnyFile}
 use Rattle.quota_map.specs.View.{IsOpenedAs, fresh_seen}
 use Rattle.set_edit.specs.Edits.{limits_edit}
 use Rattle.set_edit.specs.declared.limits.Limits.{Limits as FourLimits}
-use Rattle.set_edit.specs.declared.fault.EditFault.{EditFault}
+use Rattle.set_edit.specs.declared.edit_fault.EditFault.{EditFault}
 use Rattle.batch_commands.specs.declared.batch_line.LineEdit.{LineEdit}
 use Rattle.refusals.specs.declared.cause.Cause.{Cause}
 use Rattle.refusals.specs.declared.cause.Cause.TheVariants.{StoreFault, SourceFault, SinkFault, LinkFault, Memory as NoMemory}
@@ -31,8 +31,8 @@ use Rattle.run_steps.specs.Run.{HasReason, HasSteps, IsDoneInPart}
 use Rattle.run_steps.specs.Carrying.{CarriesOut}
 use Rattle.run_steps.specs.Steps.{DoingAll, Then, Steps}
 use Rattle.run_steps.specs.Writes.{edits_in}
-use Rattle.batch_commands.specs.Batch.{Applying, Asked, EditsThen, LineEditMayRefuse, LineMayRefuse, at_line, edit_of, line_uses, met_at, way_behind, way_of}
-use Rattle.batch_commands.specs.BatchReading.{IsOfLine, LineSteps}
+use Rattle.batch_commands.specs.Batch.{Applying, AskedEdits, EditsThen, LineEditMayRefuse, LineMayRefuse, at_line, edit_of, line_uses, met_at, way_behind, way_of}
+use Rattle.batch_commands.specs.BatchReading.{IsOfInputLine, LineSteps}
 use Rattle.edit_steps.specs.EditStep.{value_left, ChangeMayRefuse, edit_cause, edit_step}
 use Rattle.run_steps.proofs.DoingLemmas.{AreWritten, done_of, written_both, written_none}
 use Rattle.run_steps.proofs.LookingLemmas.{AddsEnd, adds_looking, adds_none, adds_then, leads_doing, part_adding, steps_adding}
@@ -238,8 +238,8 @@ lines_add way file now (line ∷ lines) value behind =
     adds_looking behind _ _ (λ files. adds_then behind (met_at line.number (edit_step way file edit (files file) value)) (LineSteps after file now lines left) (EditsThen after file now lines left behind) adds)
 
 -- the edits before a refused line were made, and then comes its refusal
-pub then_refused : (file : List ℕ) (now : ℕ) (start : QuotaValue) (names : List NameLine) (place : List ℕ) (asked : Asked) (refusal : Refusal) (may more : Cause → List ℕ → Type 0) (tells : RunTells) (old new : RunSeen)
-    → asked.refusal ≡ Some refusal → IsOfLine names place refusal → more refusal.cause refusal.name
+pub then_refused : (file : List ℕ) (now : ℕ) (start : QuotaValue) (names : List NameLine) (place : List ℕ) (asked : AskedEdits) (refusal : Refusal) (may more : Cause → List ℕ → Type 0) (tells : RunTells) (old new : RunSeen)
+    → asked.refusal ≡ Some refusal → IsOfInputLine names place refusal → more refusal.cause refusal.name
     → CarriesOut (LineSteps (way_of asked.edits) file now asked.edits start) line_uses may tells old new (Ok tt) → CarriesOut (Applying file now start asked) line_uses more tells old new (Err refusal)
 then_refused file now start names place asked refusal may more tells old new is line_may allowed carries =
     let steps = LineSteps (way_of asked.edits) file now asked.edits start in
@@ -260,7 +260,7 @@ then_refused file now start names place asked refusal may more tells old new is 
     }
 
 -- the edits of all lines were made
-pub then_ended : (file : List ℕ) (now : ℕ) (start : QuotaValue) (asked : Asked) (may more : Cause → List ℕ → Type 0) (tells : RunTells) (old new : RunSeen)
+pub then_ended : (file : List ℕ) (now : ℕ) (start : QuotaValue) (asked : AskedEdits) (may more : Cause → List ℕ → Type 0) (tells : RunTells) (old new : RunSeen)
     → asked.refusal ≡ None → CarriesOut (LineSteps (way_of asked.edits) file now asked.edits start) line_uses may tells old new (Ok tt) → CarriesOut (Applying file now start asked) line_uses more tells old new (Ok tt)
 then_ended file now start asked may more tells old new is carries =
     let steps = LineSteps (way_of asked.edits) file now asked.edits start in
@@ -271,7 +271,7 @@ then_ended file now start asked may more tells old new is carries =
     (λ only. absurd (false≢true (sym only))) carries.quiet carries.later
 
 -- an edit was refused, whatever comes behind the edits
-pub then_stopped : (file : List ℕ) (now : ℕ) (start : QuotaValue) (asked : Asked) (refusal : Refusal) (may more : Cause → List ℕ → Type 0) (tells : RunTells) (old new : RunSeen)
+pub then_stopped : (file : List ℕ) (now : ℕ) (start : QuotaValue) (asked : AskedEdits) (refusal : Refusal) (may more : Cause → List ℕ → Type 0) (tells : RunTells) (old new : RunSeen)
     → ((cause : Cause) (said : List ℕ) → may cause said → more cause said)
     → CarriesOut (LineSteps (way_of asked.edits) file now asked.edits start) line_uses may tells old new (Err refusal) → CarriesOut (Applying file now start asked) line_uses more tells old new (Err refusal)
 then_stopped file now start asked refusal may more tells old new allows carries =

@@ -26,11 +26,11 @@ use Rattle.run_steps.specs.Steps.{DoingAll, Opening, Then}
 use Rattle.run_steps.specs.Taking.{file_said, input_said}
 use Rattle.run_steps.specs.declared.invocation.Invocation.{Invocation}
 use Rattle.quota_map.proofs.SeenAgainLemmas.{seen_again}
-use Rattle.batch_commands.specs.Batch.{Applying, Asked, BatchSteps, EditsThen, LineMayRefuse, ReadSteps, asks_then, batch_step, edit_of, is_to_end, line_asks, lines_ask, met_at, way_behind, way_of}
-use Rattle.batch_commands.specs.BatchReading.{IsOfLine}
+use Rattle.batch_commands.specs.Batch.{Applying, AskedEdits, BatchSteps, EditsThen, LineMayRefuse, ReadSteps, asks_then, batch_step, edit_of, is_to_end, line_asks, lines_ask, met_at, way_behind, way_of}
+use Rattle.batch_commands.specs.BatchReading.{IsOfInputLine}
 use Rattle.edit_steps.specs.EditStep.{value_left, changed, is_too_large}
-use Rattle.edit_steps.specs.Room.{IsFullFor}
-use Rattle.batch_commands.specs.Room.{IsFullForLine, IsFullForOne}
+use Rattle.edit_steps.specs.Fits.{IsFullFor}
+use Rattle.batch_commands.specs.FullForLines.{IsFullForLine, IsFullForOne}
 use Rattle.batch_commands.specs.declared.batch_line.LineEdit.{LineEdit}
 use Rattle.batch_commands.proofs.BatchInputLemmas.{asks_line}
 use Rattle.edit_steps.proofs.LimitsLemmas.{idle_same, set_format, set_kind}
@@ -43,7 +43,7 @@ never_may : (names : List NameLine) (place : List ℕ) (cause : Cause) (said : L
 never_may names place (Full blocks limit) said may = absurd may
 never_may names place _ said may = refl
 
-never_of_line : {V : Type 0} (names : List NameLine) (place : List ℕ) (outcome : Outcome V) → OnlyRefused (IsOfLine names place) outcome → NeverFull outcome
+never_of_line : {V : Type 0} (names : List NameLine) (place : List ℕ) (outcome : Outcome V) → OnlyRefused (IsOfInputLine names place) outcome → NeverFull outcome
 never_of_line names place (Passed value) only = tt
 never_of_line names place (Refused refusal) only = never_may names place refusal.cause refusal.name only.may
 
@@ -51,7 +51,7 @@ never_of_line names place (Refused refusal) only = never_may names place refusal
 abbrev pub IfOther : Option Refusal → Type 0
 IfOther refusal = IfSome refusal (λ (r : Refusal). is_full r.cause ≡ false)
 
-never_then : (outcome : Outcome (Option LineEdit)) (more : Asked) → NeverFull outcome → IfOther more.refusal → IfOther (asks_then outcome more).refusal
+never_then : (outcome : Outcome (Option LineEdit)) (more : AskedEdits) → NeverFull outcome → IfOther more.refusal → IfOther (asks_then outcome more).refusal
 never_then (Passed None) more one other = other
 never_then (Passed (Some edit)) more one other = other
 never_then (Refused refusal) more one other = one
@@ -145,14 +145,14 @@ applying_full common from file invocation names value old acts new refusal block
     let one = applied_full (way_of asked.edits) common.kind common.format file invocation.now asked.edits asked.refusal new refusal blocks limit is never value (record old { input = said.1 }) acts view said.3 in
     (one.0, record { names = names; asked = asked; known = known; said = said.2; one = one.1 })
   where
-    of_passed : (asked other : Asked) → Passed asked ≡ Passed other → IfOther asked.refusal → IfOther other.refusal
-    of_passed asked other same never = let one : asked ≡ other = cc in subst (λ (a : Asked). IfOther a.refusal) one never
+    of_passed : (asked other : AskedEdits) → Passed asked ≡ Passed other → IfOther asked.refusal → IfOther other.refusal
+    of_passed asked other same never = let one : asked ≡ other = cc in subst (λ (a : AskedEdits). IfOther a.refusal) one never
 
-    of_file : (name : List ℕ) (file_there : Option (List ℕ)) (asked : Asked) → file_said name (batch_step names (Some name)) file_there ≡ Passed asked → IfOther asked.refusal
+    of_file : (name : List ℕ) (file_there : Option (List ℕ)) (asked : AskedEdits) → file_said name (batch_step names (Some name)) file_there ≡ Passed asked → IfOther asked.refusal
     of_file name None asked passed = absurd (cc)
     of_file name (Some bytes) asked passed = of_passed _ asked passed (never_lines names name (input_lines 1024 16777216 (left_from (Some bytes) 0)) 1)
 
-    never_asked : (taken : Option (List ℕ)) (files : World) (input : List ℕ) (asked : Asked) → input_said taken (batch_step names taken) files input ≡ Passed asked → IfOther asked.refusal
+    never_asked : (taken : Option (List ℕ)) (files : World) (input : List ℕ) (asked : AskedEdits) → input_said taken (batch_step names taken) files input ≡ Passed asked → IfOther asked.refusal
     never_asked None files input asked passed = of_passed _ asked passed (never_lines names [] (input_lines 1024 16777216 input) 1)
     never_asked (Some name) files input asked passed = of_file name (files name) asked passed
 

@@ -13,7 +13,7 @@ use Rattle.run_steps.proofs.LookLemmas.{alike_naming, alike_taking, alike_then, 
 use Rattle.run_steps.proofs.LookingLemmas.{alike_doing, opens_doing}
 use Rattle.refusals.specs.declared.reason.Refusal.{Refusal}
 use Rattle.batch_commands.specs.declared.batch_line.LineEdit.{LineEdit}
-use Rattle.batch_commands.specs.Batch.{Applying, Asked, BatchSteps, EditsThen, ReadSteps, batch_step, edit_of, is_to_end, met_at, way_behind, way_of}
+use Rattle.batch_commands.specs.Batch.{Applying, AskedEdits, BatchSteps, EditsThen, ReadSteps, batch_step, edit_of, is_to_end, met_at, way_behind, way_of}
 use Rattle.edit_steps.specs.EditStep.{value_left, edit_step}
 use Rattle.batch_commands.proofs.AlikeLemmas.{line_steps_alike}
 
@@ -45,7 +45,7 @@ lines_open holds way file now (line ∷ lines) value behind old opened opens =
     opens_then holds (met_at line.number (edit_step way file edit (old.files file) value)) (λ (acts : List Act). DoingAll acts rest) old opened (λ acts more.
     lines_open holds after file now lines left behind old opened (opens_doing acts rest old opened more)) opens
 
-applying_opens : (holds : Type 0) (file : List ℕ) (now : ℕ) (value : QuotaValue) (asked : Asked) (old : Outside) (opened : FileAsked) → Opens (Applying file now value asked) old opened → holds
+applying_opens : (holds : Type 0) (file : List ℕ) (now : ℕ) (value : QuotaValue) (asked : AskedEdits) (old : Outside) (opened : FileAsked) → Opens (Applying file now value asked) old opened → holds
 applying_opens holds file now value asked old opened opens = lines_open holds (way_of asked.edits) file now asked.edits value asked.refusal old opened opens
 
 pub batch_opens : (common : Common) (from : Option (List ℕ)) (file : List ℕ) (invocation : Invocation) (old : Outside) (opened : FileAsked) → Opens (BatchSteps common from file invocation) old opened

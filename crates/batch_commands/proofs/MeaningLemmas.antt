@@ -18,10 +18,10 @@ use Rattle.run_steps.specs.Taking.{input_said}
 use Rattle.run_steps.specs.declared.invocation.Invocation.{Invocation}
 use Rattle.run_steps.proofs.OneCommandLemmas.{looks_naming, looks_taking, looks_then, reads_taking, reads_then, sure_naming, sure_opening, sure_taking, sure_then}
 use Rattle.batch_commands.specs.declared.batch_line.LineEdit.{LineEdit}
-use Rattle.batch_commands.specs.Batch.{Applying, Asked, BatchSteps, EditsThen, ReadSteps, batch_step, edit_of, is_to_end, met_at, way_behind, way_of}
+use Rattle.batch_commands.specs.Batch.{Applying, AskedEdits, BatchSteps, EditsThen, ReadSteps, batch_step, edit_of, is_to_end, met_at, way_behind, way_of}
 use Rattle.batch_commands.specs.BatchReading.{LineSteps}
 use Rattle.edit_steps.specs.EditStep.{value_left, edit_step}
-use Rattle.batch_commands.specs.Room.{AllFit}
+use Rattle.batch_commands.specs.FullForLines.{AllFit}
 use Rattle.run_steps.proofs.LookingLemmas.{looks_doing, reads_doing, sure_doing}
 use Rattle.batch_commands.proofs.AlikeLemmas.{line_steps_alike}
 use Rattle.edit_steps.proofs.EditLemmas.{change_acts, step_fits}
@@ -91,7 +91,7 @@ lines_sure way file now (line ∷ lines) value old fit =
 
 -- The file is accepted, the input is there, each of its lines has the stated form and is of names that are known, and the edits
 -- fit.
-pub batch_sure : (common : Common) (from : Option (List ℕ)) (file : List ℕ) (invocation : Invocation) (names : List NameLine) (value : QuotaValue) (asked : Asked) (old : Outside)
+pub batch_sure : (common : Common) (from : Option (List ℕ)) (file : List ℕ) (invocation : Invocation) (names : List NameLine) (value : QuotaValue) (asked : AskedEdits) (old : Outside)
     → names_seen common.kind common.names old.files ≡ Passed names → IsView (old.files file) common.kind common.format (Ok value)
     → input_said from (batch_step names from) old.files old.input ≡ Passed asked → asked.refusal ≡ None
     → AllFit (way_of asked.edits) file invocation.now asked.edits old.files value → IsSure (BatchSteps common from file invocation) old

@@ -24,7 +24,7 @@ use Rattle.run_steps.specs.Writes.{ReadsWithin}
 use Rattle.run_steps.specs.Act.{Way}
 use Rattle.run_steps.specs.Done.{RunSeen, RunTells, outside_of}
 use Rattle.run_steps.specs.Run.{HasSteps}
-use Rattle.batch_commands.specs.Batch.{Asked, batch_reads, batch_step, if_neither, input_asks, input_edits, line_reads, may_fill, whole_reads}
+use Rattle.batch_commands.specs.Batch.{AskedEdits, batch_reads, batch_step, if_neither, input_asks, input_edits, line_reads, may_fill, whole_reads}
 use Rattle.batch_commands.specs.BatchReading.{LineSteps}
 use Rattle.batch_commands.specs.Together.{AreNeverDone, AreNotTogether, ReadsWhole}
 use Rattle.batch_commands.specs.declared.batch_line.LineEdit.{LineEdit}
@@ -38,18 +38,18 @@ line_few seen before now once =
     let most = any_few_gets in
     omega (arith, once.few, change, look, most)
 
-same_passed : (asked other : Asked) → Passed asked ≡ Passed other → asked ≡ other
+same_passed : (asked other : AskedEdits) → Passed asked ≡ Passed other → asked ≡ other
 same_passed asked other same = cc
 
 -- what the standard input asked for
-asked_edits : (names : List NameLine) (from : Option (List ℕ)) (files : World) (left : List ℕ) (asked : Asked) → from ≡ None → input_said from (batch_step names from) files left ≡ Passed asked → input_asks names [] left ≡ asked
+asked_edits : (names : List NameLine) (from : Option (List ℕ)) (files : World) (left : List ℕ) (asked : AskedEdits) → from ≡ None → input_said from (batch_step names from) files left ≡ Passed asked → input_asks names [] left ≡ asked
 asked_edits names None files left asked none said = same_passed (input_asks names [] left) asked said
 asked_edits names (Some name) files left asked none said = absurd (cc)
 
-pub asked_reads : (format : Option Format) (names : List NameLine) (from : Option (List ℕ)) (files : World) (left : List ℕ) (asked : Asked) (before middle now size : ℕ) → from ≡ None → input_said from (batch_step names from) files left ≡ Passed asked
+pub asked_reads : (format : Option Format) (names : List NameLine) (from : Option (List ℕ)) (files : World) (left : List ℕ) (asked : AskedEdits) (before middle now size : ℕ) → from ≡ None → input_said from (batch_step names from) files left ≡ Passed asked
     → middle ≡ before → now ≤ middle + line_reads format asked.edits size → now ≤ before + line_reads format (input_edits names left) size
 asked_reads format names from files left asked before middle now size none said same few =
-    subst (λ (a : Asked). now ≤ before + line_reads format a.edits size) (sym (asked_edits names from files left asked none said))
+    subst (λ (a : AskedEdits). now ≤ before + line_reads format a.edits size) (sym (asked_edits names from files left asked none said))
     (subst (λ (b : ℕ). now ≤ b + line_reads format asked.edits size) same few)
 
 -- Files that are read whole.

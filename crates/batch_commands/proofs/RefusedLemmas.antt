@@ -23,7 +23,7 @@ use Rattle.run_steps.specs.Meaning.{EndsBy}
 use Rattle.run_steps.specs.Steps.{DoingAll, Steps, Then}
 use Rattle.edit_steps.specs.EditStep.{changed, is_too_large, value_left}
 use Rattle.edit_steps.proofs.FullLemmas.{is_full}
-use Rattle.edit_steps.specs.Room.{IsFullFor}
+use Rattle.edit_steps.specs.Fits.{IsFullFor}
 use Rattle.edit_steps.proofs.LimitsLemmas.{set_format}
 use Rattle.batch_commands.specs.Batch.{EditsThen, edit_of, may_fill, met_at, way_behind}
 use Rattle.batch_commands.specs.BatchReading.{LineSteps}

@@ -6,8 +6,8 @@ use Rattle.opened_file.specs.QuotaFile.{WantsNoMemory}
 use Rattle.outside.specs.Seen.{StoreSeen}
 use Rattle.opened_file.specs.declared.quota_file.FileFault.TheVariants.{Store, Damage, Full, Memory as NoMemory}
 use Rattle.set_edit.specs.EditFault.{file_fault}
-use Rattle.set_edit.specs.declared.fault.EditFault.{EditFault}
-use Rattle.set_edit.specs.declared.fault.EditFault.TheVariants.{File, NoRoom as Unfit}
+use Rattle.set_edit.specs.declared.edit_fault.EditFault.{EditFault}
+use Rattle.set_edit.specs.declared.edit_fault.EditFault.TheVariants.{File, NoRoom as Unfit}
 use Rattle.refusals.specs.declared.cause.Cause.{Cause}
 use Rattle.refusals.specs.declared.cause.Cause.TheVariants.{Memory}
 use Rattle.refusals.specs.declared.reason.Refusal.{Refusal}

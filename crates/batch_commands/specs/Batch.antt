@@ -86,37 +86,37 @@ line_asks names place number line =
 -- What an input says.
 
 -- the edits that an input asks for, in order, up to the first line that is refused, and its refusal
-pub record Asked : Type 0 where
+pub record AskedEdits : Type 0 where
   pub edits : List LineEdit
   pub refusal : Option Refusal
 
 -- nothing more is asked for
-abbrev pub ends_with : Option Refusal → Asked
+abbrev pub ends_with : Option Refusal → AskedEdits
 ends_with refusal = record { edits = []; refusal = refusal }
 
 -- what a line asks for, and the lines behind it
-abbrev pub asks_then : Outcome (Option LineEdit) → Asked → Asked
+abbrev pub asks_then : Outcome (Option LineEdit) → AskedEdits → AskedEdits
 asks_then (Passed None) more = more
 asks_then (Passed (Some edit)) more = record { edits = edit ∷ more.edits; refusal = more.refusal }
 asks_then (Refused refusal) more = ends_with (Some refusal)
 
 -- what lines ask for, of which the first has this number, in an input of this name
-abbrev pub lines_ask : List NameLine → List ℕ → ℕ → InputLines → Asked
+abbrev pub lines_ask : List NameLine → List ℕ → ℕ → InputLines → AskedEdits
 lines_ask names place number NoLine = ends_with None
 lines_ask names place number (LineThen line more) = asks_then (line_asks names place number line) (lines_ask names place (number + 1) more)
 lines_ask names place number LongNext = ends_with (Some (refusal_of (LongLine number) place))
 lines_ask names place number PastNext = ends_with (Some (refusal_of TooLarge place))
 
 -- what an input of this name asks for: a line has 1,024 bytes at most, and the input 16,777,216
-abbrev pub input_asks : List NameLine → List ℕ → List ℕ → Asked
+abbrev pub input_asks : List NameLine → List ℕ → List ℕ → AskedEdits
 input_asks names place bytes = lines_ask names place 1 (input_lines 1024 16777216 bytes)
 
 -- the step that reads the lines
-abbrev pub batch_step : List NameLine → Option (List ℕ) → List ℕ → Outcome Asked
+abbrev pub batch_step : List NameLine → Option (List ℕ) → List ℕ → Outcome AskedEdits
 batch_step names from bytes = Passed (input_asks names (input_name from) bytes)
 
 -- an input is read to its end where no line is refused
-abbrev pub is_to_end : Asked → Bool
+abbrev pub is_to_end : AskedEdits → Bool
 is_to_end asked = is_none asked.refusal
 
 -- What edits do.
@@ -146,7 +146,7 @@ EditsThen way name now (line ∷ lines) value behind =
     DoingAll acts (EditsThen (way_behind way ((edit_of line now).is_idle value)) name now lines (value_left ((edit_of line now).edited value) value) behind)))
 
 -- edits are done, up to one that is refused, and then comes the refusal of the line behind them
-abbrev pub Applying : List ℕ → ℕ → QuotaValue → Asked → Steps
+abbrev pub Applying : List ℕ → ℕ → QuotaValue → AskedEdits → Steps
 Applying file now value asked = EditsThen (way_of asked.edits) file now asked.edits value asked.refusal
 
 -- the lines are read, and their edits done

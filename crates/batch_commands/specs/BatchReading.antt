@@ -12,23 +12,23 @@ use Rattle.run_steps.specs.Steps.{Steps}
 use Rattle.batch_commands.specs.declared.batch_input.InputFault.{InputFault}
 use Rattle.batch_commands.specs.declared.batch_input.InputFault.TheVariants.{Source, Memory as NoMemory}
 use Rattle.batch_commands.specs.declared.batch_line.LineEdit.{LineEdit}
-use Rattle.batch_commands.specs.declared.batch_line.LineRead.{LineRead}
-use Rattle.batch_commands.specs.declared.batch_line.LineRead.TheVariants.{Nothing, Edit as Found, Refused as Faulty}
-use Rattle.batch_commands.specs.Batch.{Asked, ends_with, asks_then, EditsThen, LineMayRefuse}
+use Rattle.batch_commands.specs.declared.batch_line.BatchLineRead.{BatchLineRead}
+use Rattle.batch_commands.specs.declared.batch_line.BatchLineRead.TheVariants.{Nothing, Edit as Found, Refused as Faulty}
+use Rattle.batch_commands.specs.Batch.{AskedEdits, ends_with, asks_then, EditsThen, LineMayRefuse}
 
 -- the answer that says so
-abbrev pub line_outcome : LineRead → Outcome (Option LineEdit)
+abbrev pub line_outcome : BatchLineRead → Outcome (Option LineEdit)
 line_outcome Nothing = Passed None
 line_outcome (Found edit) = Passed (Some edit)
 line_outcome (Faulty refusal) = Refused refusal
 
 -- what a line says that was read, or that there is none, and the lines behind it
-abbrev pub read_then : Option LineRead → Asked → Asked
+abbrev pub read_then : Option BatchLineRead → AskedEdits → AskedEdits
 read_then None more = ends_with None
 read_then (Some read) more = asks_then (line_outcome read) more
 
 -- the refusal of a line that was read
-abbrev pub refusal_read : Option LineRead → Option Refusal
+abbrev pub refusal_read : Option BatchLineRead → Option Refusal
 refusal_read None = None
 refusal_read (Some Nothing) = None
 refusal_read (Some (Found edit)) = None
@@ -44,7 +44,7 @@ abbrev pub LineSteps : Way → List ℕ → ℕ → List LineEdit → QuotaValue
 LineSteps way file now edits value = EditsThen way file now edits value None
 
 -- A refusal that a line may have. It stands in no line of a script, and in none of an input unless its cause may stand in one.
-pub record IsOfLine (names : List NameLine) (place : List ℕ) (refusal : Refusal) : Type 0 where
+pub record IsOfInputLine (names : List NameLine) (place : List ℕ) (refusal : Refusal) : Type 0 where
   pub may : LineMayRefuse names place refusal.cause refusal.name
   pub line : refusal.place.line ≡ None
   pub input_line : stands_in_line refusal.cause ≡ false → refusal.place.input_line ≡ None

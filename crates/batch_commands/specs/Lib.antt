@@ -1,4 +1,4 @@
 pub mod Batch
 pub mod BatchReading
-pub mod Room
+pub mod FullForLines
 pub mod Together

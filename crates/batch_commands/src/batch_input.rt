@@ -9,12 +9,12 @@ ghost use Rattle.refusals.specs.Outcome.{Passed};
 ghost use Rattle.run_steps.specs.Taking.{InputMayRefuse, Lines, file_said, input_name, input_said};
 ghost use Rattle.run_steps.specs.Causes.{IsInputFault};
 ghost use Rattle.batch_commands.specs.Batch.{batch_step, input_asks, lines_ask};
-ghost use Rattle.batch_commands.specs.BatchReading.{IsOfLine, input_cause, read_then, refusal_read};
+ghost use Rattle.batch_commands.specs.BatchReading.{IsOfInputLine, input_cause, read_then, refusal_read};
 ghost use Rattle.batch_commands.specs.declared.batch_input.InputFault.TheVariants.{Source as SourceFailed, Memory as NoMemory};
-ghost use Rattle.batch_commands.specs.declared.batch_line.LineRead.TheVariants.{Refused as Faulty};
+ghost use Rattle.batch_commands.specs.declared.batch_line.BatchLineRead.TheVariants.{Refused as Faulty};
 ghost use Rattle.refusals.specs.Refusals.{nowhere, refusal_of};
 
-use crate::batch_line::{LineEdit, LineRead, read_edit_line};
+use crate::batch_line::{BatchLineRead, LineEdit, read_edit_line};
 use arrayvec::ArrayVec;
 use id_names::Names;
 use input_text::{LineFault, LineReader, StoreInput, StoreSource};
@@ -65,7 +65,7 @@ pub fn take_batch<S: Store, I: Source>(
     ensures behind { IsTrue I.tells → IsBehind (I.seen input.old).left (I.seen input.new).left }
     ensures untouched { IsSome from → input.new ≡ input.old }
     ensures unread { from ≡ None → store.new ≡ store.old }
-    ensures may_ask { IfOk result (λ batch. IfSome batch.refusal (IsOfLine names.now (input_name from))) }
+    ensures may_ask { IfOk result (λ batch. IfSome batch.refusal (IsOfInputLine names.now (input_name from))) }
     ensures refused { IfErr result (λ refusal. IsInputFault (Rose (S.seen store.old).faults (S.seen store.new).faults)
         (Rose (I.seen input.old).faults (I.seen input.new).faults) (IsTrue S.tells × IsTrue I.tells)
         (input_said from (batch_step names.now from) (S.seen store.old).files (I.seen input.old).left) refusal refusal.cause) }
@@ -88,7 +88,7 @@ fn take_input<I: Source>(alloc: Global, names: &Names, input: &mut I) -> Result<
         ≡ record { edits = batch.edits.items; refusal = batch.refusal }) }
     ensures ended { IfOk result (λ batch. batch.refusal ≡ None → IsTrue I.tells → (I.seen input.new).left ≡ []) }
     ensures behind { IsTrue I.tells → IsBehind (I.seen input.old).left (I.seen input.new).left }
-    ensures may_ask { IfOk result (λ batch. IfSome batch.refusal (IsOfLine names.now [])) }
+    ensures may_ask { IfOk result (λ batch. IfSome batch.refusal (IsOfInputLine names.now [])) }
     ensures refused { IfErr result (λ refusal. IsInputFault ⊥ (Rose (I.seen input.old).faults (I.seen input.new).faults) (IsTrue I.tells)
         (batch_step names.now None (I.seen input.old).left) refusal refusal.cause) }
     ensures may { IfErr result (λ refusal. InputMayRefuse Lines None refusal.cause refusal.name) }
@@ -112,7 +112,7 @@ fn take_file<S: Store>(
     ensures read { IfOk result (λ batch. IsTrue S.tells
         → file_said name (batch_step names.now (Some name)) ((S.seen store.old).files name)
         ≡ Passed (record { edits = batch.edits.items; refusal = batch.refusal })) }
-    ensures may_ask { IfOk result (λ batch. IfSome batch.refusal (IsOfLine names.now name)) }
+    ensures may_ask { IfOk result (λ batch. IfSome batch.refusal (IsOfInputLine names.now name)) }
     ensures refused { IfErr result (λ refusal. IsInputFault
         (Rose (S.seen store.old).faults (S.seen store.new).faults) ⊥ (IsTrue S.tells)
         (file_said name (batch_step names.now (Some name)) ((S.seen store.old).files name)) refusal refusal.cause) }
@@ -137,7 +137,7 @@ fn take_there<S: Store>(
 ) -> Result<Batch, Refusal>
     ensures read { IfOk result (λ batch. IsTrue S.tells → input_asks names.now name (left_from ((S.seen store.old).files name) 0)
         ≡ record { edits = batch.edits.items; refusal = batch.refusal }) }
-    ensures may_ask { IfOk result (λ batch. IfSome batch.refusal (IsOfLine names.now name)) }
+    ensures may_ask { IfOk result (λ batch. IfSome batch.refusal (IsOfInputLine names.now name)) }
     ensures refused { IfErr result (λ refusal. IsInputFault
         (Rose (S.seen store.old).faults (S.seen store.new).faults) ⊥ (IsTrue S.tells)
         (batch_step names.now (Some name) (left_from ((S.seen store.old).files name) 0)) refusal refusal.cause) }
@@ -183,7 +183,7 @@ fn read_batch<I: Source>(
     ensures read { IfOk result (λ batch. IsTrue I.tells → input_asks names.now place.now (I.seen source.old).left
         ≡ record { edits = batch.edits.items; refusal = batch.refusal }) }
     ensures ended { IfOk result (λ batch. batch.refusal ≡ None → IsTrue I.tells → (I.seen source.new).left ≡ []) }
-    ensures may_ask { IfOk result (λ batch. IfSome batch.refusal (IsOfLine names.now place.now)) }
+    ensures may_ask { IfOk result (λ batch. IfSome batch.refusal (IsOfInputLine names.now place.now)) }
     ensures cause { IfErr result (λ fault. fault ≡ SourceFailed → Rose (I.seen source.old).faults (I.seen source.new).faults) }
     ensures later { (I.seen source.old).faults ≤ (I.seen source.new).faults }
     ensures keeps { I.keeps false source.old source.new }
@@ -200,13 +200,13 @@ fn read_batch<I: Source>(
                     refusal: None,
                 });
             }
-            Some(LineRead::Nothing) => {}
-            Some(LineRead::Edit(edit)) => {
+            Some(BatchLineRead::Nothing) => {}
+            Some(BatchLineRead::Edit(edit)) => {
                 if edits.push(edit).is_err() {
                     return Err(InputFault::Memory);
                 }
             }
-            Some(LineRead::Refused(refusal)) => {
+            Some(BatchLineRead::Refused(refusal)) => {
                 return Ok(Batch {
                     edits,
                     refusal: Some(refusal),
@@ -224,12 +224,12 @@ fn take_line<I: Source>(
     reader: &mut LineReader,
     line: &mut ArrayVec<u8, 4096>,
     source: &mut I,
-) -> Result<Option<LineRead>, InputFault>
+) -> Result<Option<BatchLineRead>, InputFault>
     ensures read { IfOk result (λ read. IsTrue I.tells
         → lines_ask names.now place.now reader.old.number (lines_left 1024 16777216 reader.old (I.seen source.old).left)
         ≡ read_then read (lines_ask names.now place.now reader.new.number (lines_left 1024 16777216 reader.new (I.seen source.new).left))) }
     ensures ended { IfOk result (λ read. read ≡ None → IsTrue I.tells → (I.seen source.new).left ≡ []) }
-    ensures may_ask { IfOk result (λ read. IfSome (refusal_read read) (IsOfLine names.now place.now)) }
+    ensures may_ask { IfOk result (λ read. IfSome (refusal_read read) (IsOfInputLine names.now place.now)) }
     ensures nearer { IfOk result (λ read. IsSome read → refusal_read read ≡ None
         → 16777216 - reader.new.given < 16777216 - reader.old.given) }
     ensures cause { IfErr result (λ fault. fault ≡ SourceFailed → Rose (I.seen source.old).faults (I.seen source.new).faults) }
@@ -250,11 +250,15 @@ fn take_line<I: Source>(
 }
 
 /// The refusal of an input of this name.
-fn refused_input(alloc: Global, cause: Cause, place: &str) -> Result<Option<LineRead>, InputFault>
+fn refused_input(
+    alloc: Global,
+    cause: Cause,
+    place: &str,
+) -> Result<Option<BatchLineRead>, InputFault>
     ensures { MatchResult result (λ read. read ≡ Some (Faulty (refusal_of cause place.now))) (λ fault. fault ≡ NoMemory) }
 {
     match Word::copy_of(alloc, place) {
-        Ok(name) => Ok(Some(LineRead::Refused(Refusal::of(cause, name)))),
+        Ok(name) => Ok(Some(BatchLineRead::Refused(Refusal::of(cause, name)))),
         Err(_) => Err(InputFault::Memory),
     }
 }

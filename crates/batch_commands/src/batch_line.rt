@@ -34,7 +34,7 @@ struct FiveWords {
 
 /// What a line of an input says.
 #[derive(Debug, Drop)]
-pub enum LineRead {
+pub enum BatchLineRead {
     /// Nothing: it is a comment, or has no words.
     Nothing,
     /// An edit.
@@ -55,17 +55,17 @@ pub fn read_edit_line(
     place: &str,
     number: u64,
     line: &[u8],
-) -> Result<LineRead, AllocError>
+) -> Result<BatchLineRead, AllocError>
     ensures { IfOk result (λ read. line_asks names.now place.now number line.now ≡ line_outcome read) }
 {
     if says_nothing(line) {
-        return Ok(LineRead::Nothing);
+        return Ok(BatchLineRead::Nothing);
     }
     match five_words(alloc, line)? {
         Some(words) => Ok(read_five(alloc, names, number, words)),
         None => {
             let place = Word::copy_of(alloc, place)?;
-            Ok(LineRead::Refused(Refusal::of(Cause::BadLine(number), place)))
+            Ok(BatchLineRead::Refused(Refusal::of(Cause::BadLine(number), place)))
         }
     }
 }
@@ -126,12 +126,12 @@ fn copied_word(alloc: Global, word: &[u8]) -> Result<Option<Word>, AllocError>
 }
 
 /// What five words in the line of this number say.
-fn read_five(alloc: Global, names: &Names, number: u64, words: FiveWords) -> LineRead
+fn read_five(alloc: Global, names: &Names, number: u64, words: FiveWords) -> BatchLineRead
     ensures { line_outcome result ≡ read_at number (limits_asked names.now number words) }
 {
     match read_asked(alloc, names, number, words) {
-        Ok(edit) => LineRead::Edit(edit),
-        Err(refusal) => LineRead::Refused(at_line(number, refusal)),
+        Ok(edit) => BatchLineRead::Edit(edit),
+        Err(refusal) => BatchLineRead::Refused(at_line(number, refusal)),
     }
 }
 

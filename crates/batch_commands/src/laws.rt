@@ -2,7 +2,7 @@
 
 ghost use Rattle.std.specs.Prelude.{◌≡◌, ◌≤◌, ◌+◌, ◌*◌, List, length, Ok, Option, Some, ℕ};
 ghost use Rattle.batch_commands.specs.Batch.{BatchSteps, line_reads};
-ghost use Rattle.batch_commands.specs.Room.{IsFullForLine};
+ghost use Rattle.batch_commands.specs.FullForLines.{IsFullForLine};
 ghost use Rattle.batch_commands.specs.declared.batch_line.LineEdit.{LineEdit};
 ghost use Rattle.command_words.specs.declared.command.Common.{Common};
 ghost use Rattle.quota_value.specs.QuotaValue.{QuotaValue};

@@ -7,7 +7,7 @@
 ghost use Rattle.std.specs.Prelude.{◌≡◌, ◌≤◌, ℕ, IsTrue, List, Ok};
 ghost use Rattle.network.specs.Events.{PeerSeen};
 ghost use Rattle.option_words.specs.Items.{texts_of};
-ghost use Rattle.rquota_serve.specs.Exported.{Exported};
+ghost use Rattle.rquota_serve.specs.ExportedValues.{ExportedValues};
 ghost use Rattle.quota_client.specs.Paths.{PathAsked};
 ghost use Rattle.quota_client.specs.Run.{AsksPaths, asking_of};
 ghost use Rattle.quota_client.specs.Words.{Asked, asked_of};
@@ -19,7 +19,7 @@ use quota_client::{Peer, run_client};
 /// Each path that was asked for and has a reply has one to its own call, where the datagrams come from an `rquotad`, whatever
 /// it exports.
 pub fn each_reply_of_rquotad_is_one_to_its_own_call()
-    ensures { (exported : Exported) (asked : Asked) (first : ℕ) (done : List PathAsked) (old new : PeerSeen)
+    ensures { (exported : ExportedValues) (asked : Asked) (first : ℕ) (done : List PathAsked) (old new : PeerSeen)
         → AsksPaths asked first done old new → HasRepliesOf exported asked first done }
 {}
 
@@ -32,7 +32,7 @@ pub fn ask_rquotad<P: Peer, O: Sink, E: Sink>(
     err: &mut E,
     xid: u32,
 ) -> u8
-    ensures { (exported : Exported) (asked : Asked) → asked_of (texts_of words.now) ≡ Ok asked
+    ensures { (exported : ExportedValues) (asked : Asked) → asked_of (texts_of words.now) ≡ Ok asked
         → IsTrue P.tells → IsTrue O.tells → result ≤ 1
         → PrintsRepliesOf exported asked xid (asking_of (P.seen peer.old) (O.seen out.old))
         (asking_of (P.seen peer.new) (O.seen out.new)) }

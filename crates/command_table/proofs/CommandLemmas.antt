@@ -43,7 +43,7 @@ use Rattle.edit_commands.proofs.WordLemmas.{IsOfWord, edit_refusal, identifier_r
 use Rattle.file_commands.specs.Check.{CheckMayRefuse, UsageMayRefuse, new_value}
 use Rattle.file_commands.specs.Conversion.{ConvertMayRefuse}
 use Rattle.file_commands.specs.Report.{ReportMayRefuse}
-use Rattle.option_words.specs.declared.export.Export.{Export}
+use Rattle.option_words.specs.declared.export_option.ExportOption.{ExportOption}
 use Rattle.serve_command.specs.Serve.{ServeMayRefuse}
 use Rattle.serve_steps.specs.Exporting.{ExportingMayRefuse}
 use Rattle.serve_command.specs.Words.{CanServe}
@@ -116,12 +116,12 @@ spares_check common false from file kind word said (inr (value, asked, kept, may
 spares_convert : (kind : Kind) (old new : Format) (source target : List ℕ) → Spares (ConvertMayRefuse kind old new source target)
 spares_convert kind old new source target what word said may = may
 
-spares_exporting : (format : Option Format) (exports : List Export) → Spares (ExportingMayRefuse format exports)
+spares_exporting : (format : Option Format) (exports : List ExportOption) → Spares (ExportingMayRefuse format exports)
 spares_exporting format [] kind word said may = may
 spares_exporting format (export ∷ exports) kind word said (inl may) = may
 spares_exporting format (export ∷ exports) kind word said (inr may) = spares_exporting format exports kind word said may
 
-spares_serve : (format : Option Format) (exports : List Export) → Spares (ServeMayRefuse format exports)
+spares_serve : (format : Option Format) (exports : List ExportOption) → Spares (ServeMayRefuse format exports)
 spares_serve format exports kind word said (inl may) = spares_exporting format exports kind word said may
 spares_serve format exports kind word said (inr may) = may
 

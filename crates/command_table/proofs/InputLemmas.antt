@@ -13,8 +13,8 @@ use Rattle.command_words.specs.declared.command.Command.{Command}
 use Rattle.command_words.specs.declared.command.Command.TheVariants.{Report, SetLimits, CopyLimits, SetGrace, SetTimes, Batch, PrintForm, ApplyForm, Check, Convert, Serve, Script, Generate}
 use Rattle.command_words.specs.declared.command.Common.{Common}
 use Rattle.command_words.proofs.InScriptLemmas.{NamesInput, names_input}
-use Rattle.option_words.specs.declared.export.Export.{Export}
-use Rattle.option_words.specs.declared.fault.Fault.{Fault}
+use Rattle.option_words.specs.declared.export_option.ExportOption.{ExportOption}
+use Rattle.option_words.specs.declared.word_fault.Fault.{Fault}
 use Rattle.run_steps.specs.Naming.{NamesMayRefuse}
 use Rattle.run_steps.specs.Showing.{ShowingMayRefuse}
 use Rattle.run_steps.specs.Taking.{AForm, AListing, InputKind, InputMayRefuse, Lines}
@@ -124,12 +124,12 @@ not_check common true from file named said may = not_usage (new_value common.kin
 not_check common false from file named said (inl may) = may
 not_check common false from file named said (inr (value, asked, kept, may)) = not_usage value from file named said may
 
-not_exporting : (format : Option Format) (exports : List Export) → SparesInput (ExportingMayRefuse format exports)
+not_exporting : (format : Option Format) (exports : List ExportOption) → SparesInput (ExportingMayRefuse format exports)
 not_exporting format [] said may = may
 not_exporting format (export ∷ exports) said (inl may) = may
 not_exporting format (export ∷ exports) said (inr may) = not_exporting format exports said may
 
-not_serve : (format : Option Format) (exports : List Export) → SparesInput (ServeMayRefuse format exports)
+not_serve : (format : Option Format) (exports : List ExportOption) → SparesInput (ServeMayRefuse format exports)
 not_serve format exports said (inl may) = not_exporting format exports said may
 not_serve format exports said (inr may) = may
 

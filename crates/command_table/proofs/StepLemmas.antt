@@ -11,7 +11,7 @@ use Rattle.edit_commands.proofs.MeaningLemmas.{apply_looks, apply_reads, edit_lo
 use Rattle.batch_commands.proofs.MeaningLemmas.{batch_looks, batch_reads}
 use Rattle.file_commands.proofs.GenerateStepLemmas.{generate_looks}
 use Rattle.file_commands.proofs.StepLemmas.{check_looks, check_reads, convert_looks, report_looks}
-use Rattle.rquota_serve.specs.Exported.{Exported, nothing_exported}
+use Rattle.rquota_serve.specs.ExportedValues.{ExportedValues, nothing_exported}
 use Rattle.run_steps.specs.Steps.{Starting}
 use Rattle.serve_command.specs.Serve.{AnsweringSteps}
 use Rattle.serve_command.proofs.StepLemmas.{looks_answering, looks_opening_all}
@@ -31,7 +31,7 @@ command_looks (ApplyForm common input name file) invocation = apply_looks common
 command_looks (Check common fresh device input file) invocation = check_looks common fresh device input file invocation
 command_looks (Convert kind old new source target) invocation = convert_looks kind old new source target invocation
 command_looks (Serve format calls port exports) invocation =
-    looks_opening_all true format exports nothing_exported (λ (exported : Exported). Starting port (AnsweringSteps exported calls)) (λ exported. looks_answering true exported calls)
+    looks_opening_all true format exports nothing_exported (λ (exported : ExportedValues). Starting port (AnsweringSteps exported calls)) (λ exported. looks_answering true exported calls)
 command_looks Script invocation = tt
 command_looks (Generate seed count file) invocation = generate_looks seed count file invocation.now
 

@@ -14,7 +14,7 @@ use Rattle.edit_commands.proofs.MeaningLemmas.{apply_sure, edit_sure, print_sure
 use Rattle.batch_commands.proofs.MeaningLemmas.{batch_sure}
 use Rattle.file_commands.proofs.GenerateStepLemmas.{generate_sure}
 use Rattle.file_commands.proofs.StepLemmas.{check_sure, convert_sure, report_sure}
-use Rattle.rquota_serve.specs.Exported.{Exported, nothing_exported}
+use Rattle.rquota_serve.specs.ExportedValues.{ExportedValues, nothing_exported}
 use Rattle.run_steps.specs.Steps.{Starting}
 use Rattle.serve_command.specs.Serve.{AnsweringSteps}
 use Rattle.serve_command.proofs.StepLemmas.{sure_answering, sure_opening_all}
@@ -41,7 +41,7 @@ command_sure (Check common fresh device input file) invocation old (value, usage
 command_sure (Convert kind before after source target) invocation old (value, new, apart, none, view, fits, few) =
     convert_sure kind before after source target invocation value new old apart none view fits few
 command_sure (Serve format calls port exports) invocation old (exported, are) =
-    sure_opening_all format exports nothing_exported exported (λ (e : Exported). Starting port (AnsweringSteps e calls)) old are (sure_answering exported calls old)
+    sure_opening_all format exports nothing_exported exported (λ (e : ExportedValues). Starting port (AnsweringSteps e calls)) old are (sure_answering exported calls old)
 command_sure Script invocation old can = absurd can
 command_sure (Generate seed count file) invocation old can = generate_sure seed count file invocation.now old can
 

@@ -19,10 +19,10 @@ use Rattle.run_steps.specs.Numbers.{identifier_of}
 use Rattle.run_steps.specs.Taking.{input_said}
 use Rattle.run_steps.specs.declared.invocation.Invocation.{Invocation}
 use Rattle.edit_commands.specs.Apply.{form_step}
-use Rattle.batch_commands.specs.Batch.{Asked, batch_step, way_of}
+use Rattle.batch_commands.specs.Batch.{AskedEdits, batch_step, way_of}
 use Rattle.edit_commands.specs.EditWords.{edit_meant, edit_read, names_wanted}
-use Rattle.batch_commands.specs.Room.{AllFit}
-use Rattle.edit_steps.specs.Room.{Fits}
+use Rattle.batch_commands.specs.FullForLines.{AllFit}
+use Rattle.edit_steps.specs.Fits.{Fits}
 use Rattle.edit_commands.specs.declared.edit.EditWords.{EditWords}
 use Rattle.edit_commands.specs.declared.edit.FileEdit.{FileEdit}
 use Rattle.file_commands.specs.Check.{IsToBeChecked, checked, scan_step}
@@ -57,7 +57,7 @@ CanApply common from word file invocation old =
 -- edits of lines: the file is accepted, the lines are of the stated form and of names that are known, and the edits fit
 abbrev pub CanEditLines : Common → Option (List ℕ) → List ℕ → Invocation → Outside → Type 0
 CanEditLines common from file invocation old =
-    (names : List NameLine) × (value : QuotaValue) × (asked : Asked)
+    (names : List NameLine) × (value : QuotaValue) × (asked : AskedEdits)
     × (names_seen common.kind common.names old.files ≡ Passed names) × IsView (old.files file) common.kind common.format (Ok value)
     × (input_said from (batch_step names from) old.files old.input ≡ Passed asked) × (asked.refusal ≡ None)
     × AllFit (way_of asked.edits) file invocation.now asked.edits old.files value

@@ -25,16 +25,16 @@ use Rattle.edit_commands.specs.EditWords.{words_warn}
 use Rattle.edit_commands.specs.Edits.{EditMayRefuse, EditSteps, faulty_edit}
 use Rattle.edit_commands.specs.Made.{MakesWords}
 use Rattle.edit_commands.specs.Print.{PrintMayRefuse, PrintSteps, faulty_print}
-use Rattle.edit_commands.specs.Room.{IsFullForForm, IsFullForWords}
-use Rattle.batch_commands.specs.Room.{IsFullForLine}
+use Rattle.edit_commands.specs.FullForEdit.{IsFullForForm, IsFullForWords}
+use Rattle.batch_commands.specs.FullForLines.{IsFullForLine}
 use Rattle.edit_commands.specs.declared.edit.EditWords.{EditWords}
 use Rattle.edit_commands.specs.declared.edit.EditWords.TheVariants.{Limits, Copy, Grace, Times}
 use Rattle.file_commands.specs.Check.{CheckMayRefuse, CheckSteps, check_uses}
 use Rattle.file_commands.specs.Conversion.{ConvertMayRefuse, ConvertSteps}
 use Rattle.file_commands.specs.Generate.{GenerateMayRefuse, GenerateSteps, generate_uses}
 use Rattle.file_commands.specs.Report.{ReportMayRefuse, ReportSteps}
-use Rattle.option_words.specs.declared.export.Export.{Export}
-use Rattle.rquota_serve.specs.Exported.{Exported, nothing_exported}
+use Rattle.option_words.specs.declared.export_option.ExportOption.{ExportOption}
+use Rattle.rquota_serve.specs.ExportedValues.{ExportedValues, nothing_exported}
 use Rattle.rquota_serve.specs.Serving.{Stopped}
 use Rattle.serve_command.specs.Serve.{ServeMayRefuse, ServeSteps, serving_reads}
 use Rattle.serve_steps.specs.Exporting.{AreExported, MayExport, serve_uses}
@@ -215,7 +215,7 @@ converting kind old new source target = record {
 
 -- Calls that are answered out of exported files. One call is to be answered at least, and the files may be exported one after another:
 -- no words ask for anything else. The link is said to have failed only where fewer datagrams were taken, or the last reply was not sent.
-abbrev pub serving : Option Format → (calls port : ℕ) → List Export → Description
+abbrev pub serving : Option Format → (calls port : ℕ) → List ExportOption → Description
 serving format calls port exports = record {
   steps = ServeSteps format calls port exports;
   uses = serve_uses;
@@ -231,10 +231,10 @@ serving format calls port exports = record {
   made = makes_none;
   known = (0 < calls) × MayExport [] exports;
   unfinished = λ (invocation : Invocation) (tells : RunTells) (old new : RunSeen). IsTrue tells.link
-      → Stopped (λ (exported : Exported). IsTrue tells.store × AreExported format old.store.files exports nothing_exported exported) calls old.link new.link;
+      → Stopped (λ (exported : ExportedValues). IsTrue tells.store × AreExported format old.store.files exports nothing_exported exported) calls old.link new.link;
   full = edits_none;
   links = links_as serve_uses;
-  suffices = λ (invocation : Invocation) (old : Outside). (exported : Exported) × AreExported format old.files exports nothing_exported exported;
+  suffices = λ (invocation : Invocation) (old : Outside). (exported : ExportedValues) × AreExported format old.files exports nothing_exported exported;
 }
 
 -- A file out of a listing that is made, and a line on it. A count is one of 32 bits: no words ask for another one.

@@ -2,7 +2,7 @@
 use Rattle.std.specs.Prelude.{◌≡◌, ℕ, Bool, true, false, List, [], ◌∷◌, map, Option, Some, None}
 use Rattle.quota_types.specs.declared.file_kind.Format.{Format}
 use Rattle.refusals.specs.declared.reason.Refusal.{Refusal}
-use Rattle.option_words.specs.declared.export.Export.{Export}
+use Rattle.option_words.specs.declared.export_option.ExportOption.{ExportOption}
 use Rattle.command_words.specs.declared.command.Command.{Command}
 use Rattle.command_words.specs.declared.command.Command.TheVariants.{Report, SetLimits, CopyLimits, SetGrace, SetTimes, Batch, PrintForm, ApplyForm, Check, Convert, Serve, Script, Generate}
 use Rattle.command_words.specs.declared.command.Common.{Common}
@@ -32,7 +32,7 @@ abbrev pub looks_at_input : Option (List ℕ) → Looks
 looks_at_input input = record { opens = []; names = None; input = input; target = None }
 
 -- the file of an export
-abbrev pub file_of : Option Format → Export → FileAsked
+abbrev pub file_of : Option Format → ExportOption → FileAsked
 file_of format export = record { kind = export.kind; asked = format; name = export.file }
 
 -- What each command looks at. For new grace periods no names are read, since they are no identifier's; a new file is made without

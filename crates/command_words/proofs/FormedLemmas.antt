@@ -5,12 +5,12 @@ use Rattle.std.proofs.lemmas.Bool.Decides.{nat_tests}
 use Rattle.quota_types.specs.declared.file_kind.Format.{Format}
 use Rattle.input_text.specs.Numeral.{number_of}
 use Rattle.refusals.specs.declared.cause.UsageKind.TheVariants.{UnknownCommand, Excludes, MissingOption, BadValue, BadFileName}
-use Rattle.option_words.specs.declared.fault.Fault.{Fault}
+use Rattle.option_words.specs.declared.word_fault.Fault.{Fault}
 use Rattle.option_words.specs.declared.given.Conversion.{Conversion}
 use Rattle.option_words.specs.declared.tool.Tool.{Tool}
 use Rattle.option_words.specs.Fault.{fault, unless, with_value, ◌>>=◌}
 use Rattle.option_words.specs.FileName.{is_file_name}
-use Rattle.option_words.specs.Given.{Told, nothing_told, with_items}
+use Rattle.option_words.specs.Given.{GivenOptions, nothing_given, with_items}
 use Rattle.option_words.specs.Items.{AnyWord, Item, Operand, items_of, operands_in}
 use Rattle.option_words.specs.Tools.{tool_of}
 use Rattle.option_words.specs.Values.{number_within, within}
@@ -54,7 +54,7 @@ most_of low high (Some number) found is = most low high number found is
 -- What a mode forms.
 
 -- it holds of each command that a mode forms of what was given, whatever its operands
-abbrev pub HoldsOfFormed : (holds : Command → Type 0) → Mode → Told → Type 0
+abbrev pub HoldsOfFormed : (holds : Command → Type 0) → Mode → GivenOptions → Type 0
 HoldsOfFormed holds Reporting told = (file : List ℕ) → holds (Report (common_of told) (options_of told.flags) file)
 HoldsOfFormed holds Limiting told = (name : List ℕ) (limits : List (List ℕ)) (file : List ℕ) → holds (SetLimits (common_of told) name limits file)
 HoldsOfFormed holds Copying told = (proto name file : List ℕ) → holds (CopyLimits (common_of told) proto name file)
@@ -74,7 +74,7 @@ HoldsOfFormed holds Generating told = (seed count : ℕ) (file : List ℕ) → c
 held_by : (holds : Command → Type 0) (this command : Command) → ◌≡◌ {A = Result Command Fault} (Ok this) (Ok command) → holds this → holds command
 held_by holds this command is held = let same : this ≡ command = cc in subst holds same held
 
-holds_formed : (holds : Command → Type 0) (mode : Mode) (told : Told) (words : ℕ) (operands : List Operand) (command : Command)
+holds_formed : (holds : Command → Type 0) (mode : Mode) (told : GivenOptions) (words : ℕ) (operands : List Operand) (command : Command)
     → HoldsOfFormed holds mode told → formed mode told words operands ≡ Ok command → holds command
 holds_formed holds Reporting told words (file ∷ []) command each is = held_by holds _ command (unless_ok _ _ _ command is).1 (each file.text)
 holds_formed holds Limiting told words (name ∷ bsoft ∷ bhard ∷ isoft ∷ ihard ∷ file ∷ []) command each is =
@@ -125,7 +125,7 @@ refused_ok (Err met) command is = absurd (cc)
 
 -- what holds of each command that a tool's options may choose, where they lack nothing, holds of every command that words ask for
 pub holds_of_asked : (in_script : Bool) (holds : Command → Type 0) (words : List (List ℕ)) (command : Command)
-    → ((tool : Tool) (items : List Item) (told : Told) → with_items items nothing_told ≡ Ok told → lacks in_script tool told ≡ false → HoldsOfFormed holds (mode_of tool told) told)
+    → ((tool : Tool) (items : List Item) (told : GivenOptions) → with_items items nothing_given ≡ Ok told → lacks in_script tool told ≡ false → HoldsOfFormed holds (mode_of tool told) told)
     → command_of in_script words ≡ Ok command → holds command
 holds_of_asked in_script holds [] command each is = absurd (cc)
 holds_of_asked in_script holds (name ∷ texts) command each is =
@@ -135,7 +135,7 @@ holds_of_asked in_script holds (name ∷ texts) command each is =
     let items = items_of tool AnyWord 1 texts in
     let words = length texts + 1 in
     let asks = (unless_ok (not (may_stand in_script tool)) (fault UnknownCommand 0) (asked_of in_script tool texts) command found.2).1 in
-    let given = then_ok (with_items items nothing_told) (λ (told : Told). settled in_script tool told words items) command asks in
+    let given = then_ok (with_items items nothing_given) (λ (told : GivenOptions). settled in_script tool told words items) command asks in
     let told = given.0 in
     let outer : unless (lacks in_script tool told) (fault MissingOption words) (formed (mode_of tool told) told words (operands_in items)) ≡ Ok command =
     (unless_ok (excludes tool told) (fault Excludes words) _ command given.2).1 in

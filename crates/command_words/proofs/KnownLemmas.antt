@@ -7,7 +7,7 @@ use Rattle.command_words.specs.Modes.{mode_of}
 use Rattle.command_words.specs.declared.mode.Mode.{Mode}
 use Rattle.command_words.specs.declared.mode.Mode.TheVariants.{Reporting, Limiting, Copying, Batching, SettingGrace, SettingTimes, Printing, Applying, Checking, Converting, Serving, Scripting, Generating}
 use Rattle.option_words.specs.FileName.{is_file_name}
-use Rattle.option_words.specs.Given.{Told}
+use Rattle.option_words.specs.Given.{GivenOptions}
 use Rattle.command_words.proofs.FormedLemmas.{HoldsOfFormed, holds_of_asked}
 
 -- the file that is converted has the name of a file, and a listing that is made has 1,000,000 lines at most
@@ -16,7 +16,7 @@ IsKnown (Convert _ _ _ source _) = is_file_name source ≡ true
 IsKnown (Generate _ count _) = count ≤ 1000000
 IsKnown _ = Unit {0}
 
-known_by : (mode : Mode) (told : Told) → HoldsOfFormed IsKnown mode told
+known_by : (mode : Mode) (told : GivenOptions) → HoldsOfFormed IsKnown mode told
 known_by Reporting told = λ file. tt
 known_by Limiting told = λ name limits file. tt
 known_by Copying told = λ proto name file. tt

@@ -4,19 +4,19 @@ use Rattle.refusals.specs.declared.cause.Cause.TheVariants.{Usage}
 use Rattle.refusals.specs.declared.cause.UsageKind.TheVariants.{NoCommand, UnknownCommand, Excludes, MissingOption}
 use Rattle.refusals.specs.declared.reason.Refusal.{Refusal}
 use Rattle.command_words.specs.declared.command.Command.{Command}
-use Rattle.option_words.specs.declared.fault.Fault.{Fault}
+use Rattle.option_words.specs.declared.word_fault.Fault.{Fault}
 use Rattle.option_words.specs.declared.tool.Tool.{Tool}
 use Rattle.option_words.specs.declared.tool.Tool.TheVariants.{Script}
 use Rattle.option_words.specs.Fault.{fault, unless, with_value, ◌>>=◌}
 use Rattle.command_words.specs.Modes.{excludes, mode_of, formed, lacks}
 use Rattle.option_words.specs.Items.{AnyWord, Item, items_of, operands_in}
-use Rattle.option_words.specs.Given.{Told, nothing_told, with_items}
+use Rattle.option_words.specs.Given.{GivenOptions, nothing_given, with_items}
 use Rattle.option_words.specs.Tools.{tool_of}
 use Rattle.refusals.specs.Refusals.{refusal_of}
 
 -- What is asked for by a command that was given this, with these operands, in this number of words: first come options
 -- that exclude each other, then those that are missing, then the operands.
-abbrev pub settled : (in_script : Bool) → Tool → Told → (words : ℕ) → List Item → Result Command Fault
+abbrev pub settled : (in_script : Bool) → Tool → GivenOptions → (words : ℕ) → List Item → Result Command Fault
 settled in_script tool told words items =
     unless (excludes tool told) (fault Excludes words)
     (unless (lacks in_script tool told) (fault MissingOption words)
@@ -25,7 +25,7 @@ settled in_script tool told words items =
 -- what a command is asked for by this number of words, which say these items
 abbrev pub asked_of_items : (in_script : Bool) → Tool → (words : ℕ) → List Item → Result Command Fault
 asked_of_items in_script tool words items =
-    with_items items nothing_told >>= λ told. settled in_script tool told words items
+    with_items items nothing_given >>= λ told. settled in_script tool told words items
 
 -- a script is no command of a script
 abbrev pub may_stand : (in_script : Bool) → Tool → Bool

@@ -10,7 +10,7 @@ use Rattle.refusals.specs.declared.cause.UsageKind.TheVariants.{MissingOption, W
 use Rattle.command_words.specs.declared.command.Command.{Command}
 use Rattle.command_words.specs.declared.command.Command.TheVariants.{Report, SetLimits, CopyLimits, Batch, SetGrace, SetTimes, PrintForm, ApplyForm, Check, Convert, Serve, Script, Generate}
 use Rattle.command_words.specs.declared.command.Common.{Common}
-use Rattle.option_words.specs.declared.fault.Fault.{Fault}
+use Rattle.option_words.specs.declared.word_fault.Fault.{Fault}
 use Rattle.command_words.specs.declared.mode.Mode.{Mode}
 use Rattle.command_words.specs.declared.mode.Mode.TheVariants.{Reporting, Limiting, Copying, Batching, SettingGrace, SettingTimes, Printing, Applying, Checking, Converting, Serving, Scripting, Generating}
 use Rattle.option_words.specs.declared.switch.Flags.{Flags}
@@ -18,7 +18,7 @@ use Rattle.option_words.specs.declared.tool.Tool.{Tool}
 use Rattle.option_words.specs.declared.tool.Tool.TheVariants.{Repquota as RepquotaTool, Setquota as SetquotaTool, Edquota as EdquotaTool, Quotacheck as QuotacheckTool, Convertquota as ConvertquotaTool, Rquotad as RquotadTool, Script as ScriptTool, Generate as GenerateTool}
 use Rattle.option_words.specs.Fault.{fault, unless, with_value}
 use Rattle.option_words.specs.FileName.{is_file_name}
-use Rattle.option_words.specs.Given.{Told}
+use Rattle.option_words.specs.Given.{GivenOptions}
 use Rattle.option_words.specs.Items.{Operand}
 use Rattle.option_words.specs.Values.{number_within}
 
@@ -27,7 +27,7 @@ abbrev pub two_of : Bool → Bool → Bool → Bool → Bool
 two_of a b c d = (a && (b || c || d)) || (b && (c || d)) || (c && d)
 
 -- Options that exclude each other: users and groups; two modes of one command; and an input where the mode reads none.
-abbrev pub excludes : Tool → Told → Bool
+abbrev pub excludes : Tool → GivenOptions → Bool
 excludes SetquotaTool told =
     (told.flags.users && told.flags.groups)
     || two_of (is_some told.proto) told.flags.batch told.flags.grace told.flags.times
@@ -39,7 +39,7 @@ excludes EdquotaTool told =
 excludes _ told = told.flags.users && told.flags.groups
 
 -- A required option is not there. In a script the standard input is the script's, so what reads an input has to name it.
-abbrev pub lacks : (in_script : Bool) → Tool → Told → Bool
+abbrev pub lacks : (in_script : Bool) → Tool → GivenOptions → Bool
 lacks in_script SetquotaTool told = in_script && told.flags.batch && is_none told.input
 lacks in_script EdquotaTool told =
     not (told.flags.print || told.flags.apply) || (in_script && told.flags.apply && is_none told.input)
@@ -49,7 +49,7 @@ lacks in_script RquotadTool told = is_none told.calls || is_none told.port || no
 lacks in_script _ told = false
 
 -- the mode of a command that its options choose
-abbrev pub mode_of : Tool → Told → Mode
+abbrev pub mode_of : Tool → GivenOptions → Mode
 mode_of RepquotaTool told = Reporting
 mode_of SetquotaTool told =
     if is_some told.proto then Copying
@@ -69,7 +69,7 @@ abbrev pub kind_asked : Flags → Kind
 kind_asked flags = if flags.groups then Group else User
 
 -- what the options say of the file
-abbrev pub common_of : Told → Common
+abbrev pub common_of : GivenOptions → Common
 common_of told = record { kind = kind_asked told.flags; format = told.format; names = told.names }
 
 -- what a report shows
@@ -88,7 +88,7 @@ is_value operand None = false
 -- The command that a mode asks for by its operands, which are as many as stand here. A file is the name of one; the seed
 -- of a listing is below 2^64, and it has 1 to 1,000,000 lines. What is wrong with their number is said at the number of
 -- all words.
-abbrev pub formed : Mode → Told → (words : ℕ) → List Operand → Result Command Fault
+abbrev pub formed : Mode → GivenOptions → (words : ℕ) → List Operand → Result Command Fault
 formed Reporting told words (file ∷ []) =
     named file (Ok (Report (common_of told) (options_of told.flags) file.text))
 formed Limiting told words (name ∷ bsoft ∷ bhard ∷ isoft ∷ ihard ∷ file ∷ []) =

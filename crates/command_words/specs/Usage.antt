@@ -3,7 +3,7 @@ use Rattle.std.specs.Prelude.{◌≡◌, [], Result, Err, IsOk}
 use Rattle.refusals.specs.declared.cause.Cause.TheVariants.{Usage as UsageCause, Memory as WantOfMemory}
 use Rattle.refusals.specs.declared.reason.Refusal.{Refusal}
 use Rattle.command_words.specs.declared.command.Command.{Command}
-use Rattle.option_words.specs.declared.fault.Fault.{Fault}
+use Rattle.option_words.specs.declared.word_fault.Fault.{Fault}
 use Rattle.command_words.specs.declared.reading.UsageFault.{UsageFault}
 use Rattle.command_words.specs.declared.reading.UsageFault.TheVariants.{Usage, Memory}
 use Rattle.refusals.specs.Refusals.{refusal_of}

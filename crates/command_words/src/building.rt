@@ -2,7 +2,7 @@ ghost use Rattle.std.specs.Prelude.{◌≡◌, [], false, true, Ok, Err, MatchRe
 ghost use Rattle.std.specs.Option.{option_copied};
 ghost use Rattle.option_words.specs.FileName.{is_file_name};
 ghost use Rattle.command_words.specs.Modes.{formed, is_value};
-ghost use Rattle.option_words.specs.Given.{Told, told};
+ghost use Rattle.option_words.specs.Given.{GivenOptions, given_options};
 ghost use Rattle.option_words.specs.Reads.{operand_seen, operands_seen};
 ghost use Rattle.command_words.specs.Usage.{IsFaultOf};
 
@@ -22,8 +22,8 @@ pub fn mode_command(
     operands: &[OperandWord<'_>],
     words: usize,
 ) -> Result<Command, UsageFault>
-    ensures { MatchResult result (λ command. formed mode (told given.now) words (operands_seen operands.now) ≡ Ok command)
-        (IsFaultOf (formed mode (told given.now) words (operands_seen operands.now))) }
+    ensures { MatchResult result (λ command. formed mode (given_options given.now) words (operands_seen operands.now) ≡ Ok command)
+        (IsFaultOf (formed mode (given_options given.now) words (operands_seen operands.now))) }
 {
     match mode {
         Mode::Reporting => report(alloc, given, operands, words),
@@ -44,7 +44,7 @@ pub fn mode_command(
 
 /// A list of commands.
 fn script(operands: &[OperandWord<'_>], words: usize) -> Result<Command, UsageFault>
-    ensures { (given : Told) → MatchResult result (λ command. formed Mode.Scripting given words (operands_seen operands.now) ≡ Ok command)
+    ensures { (given : GivenOptions) → MatchResult result (λ command. formed Mode.Scripting given words (operands_seen operands.now) ≡ Ok command)
         (IsFaultOf (formed Mode.Scripting given words (operands_seen operands.now))) }
 {
     if operands.is_empty() {
@@ -61,8 +61,8 @@ fn report(
     operands: &[OperandWord<'_>],
     words: usize,
 ) -> Result<Command, UsageFault>
-    ensures { MatchResult result (λ command. formed Mode.Reporting (told given.now) words (operands_seen operands.now) ≡ Ok command)
-        (IsFaultOf (formed Mode.Reporting (told given.now) words (operands_seen operands.now))) }
+    ensures { MatchResult result (λ command. formed Mode.Reporting (given_options given.now) words (operands_seen operands.now) ≡ Ok command)
+        (IsFaultOf (formed Mode.Reporting (given_options given.now) words (operands_seen operands.now))) }
 {
     let [file] = operands else {
         return Err(wrong_operands(words));
@@ -82,8 +82,8 @@ fn limits(
     operands: &[OperandWord<'_>],
     words: usize,
 ) -> Result<Command, UsageFault>
-    ensures { MatchResult result (λ command. formed Mode.Limiting (told given.now) words (operands_seen operands.now) ≡ Ok command)
-        (IsFaultOf (formed Mode.Limiting (told given.now) words (operands_seen operands.now))) }
+    ensures { MatchResult result (λ command. formed Mode.Limiting (given_options given.now) words (operands_seen operands.now) ≡ Ok command)
+        (IsFaultOf (formed Mode.Limiting (given_options given.now) words (operands_seen operands.now))) }
 {
     let [name, bsoft, bhard, isoft, ihard, file] = operands else {
         return Err(wrong_operands(words));
@@ -109,8 +109,8 @@ fn copy(
     operands: &[OperandWord<'_>],
     words: usize,
 ) -> Result<Command, UsageFault>
-    ensures { MatchResult result (λ command. formed Mode.Copying (told given.now) words (operands_seen operands.now) ≡ Ok command)
-        (IsFaultOf (formed Mode.Copying (told given.now) words (operands_seen operands.now))) }
+    ensures { MatchResult result (λ command. formed Mode.Copying (given_options given.now) words (operands_seen operands.now) ≡ Ok command)
+        (IsFaultOf (formed Mode.Copying (given_options given.now) words (operands_seen operands.now))) }
 {
     let [name, file] = operands else {
         return Err(wrong_operands(words));
@@ -134,8 +134,8 @@ fn batch(
     operands: &[OperandWord<'_>],
     words: usize,
 ) -> Result<Command, UsageFault>
-    ensures { MatchResult result (λ command. formed Mode.Batching (told given.now) words (operands_seen operands.now) ≡ Ok command)
-        (IsFaultOf (formed Mode.Batching (told given.now) words (operands_seen operands.now))) }
+    ensures { MatchResult result (λ command. formed Mode.Batching (given_options given.now) words (operands_seen operands.now) ≡ Ok command)
+        (IsFaultOf (formed Mode.Batching (given_options given.now) words (operands_seen operands.now))) }
 {
     let [file] = operands else {
         return Err(wrong_operands(words));
@@ -158,8 +158,8 @@ fn grace(
     operands: &[OperandWord<'_>],
     words: usize,
 ) -> Result<Command, UsageFault>
-    ensures { MatchResult result (λ command. formed Mode.SettingGrace (told given.now) words (operands_seen operands.now) ≡ Ok command)
-        (IsFaultOf (formed Mode.SettingGrace (told given.now) words (operands_seen operands.now))) }
+    ensures { MatchResult result (λ command. formed Mode.SettingGrace (given_options given.now) words (operands_seen operands.now) ≡ Ok command)
+        (IsFaultOf (formed Mode.SettingGrace (given_options given.now) words (operands_seen operands.now))) }
 {
     let [block, inode, file] = operands else {
         return Err(wrong_operands(words));
@@ -180,8 +180,8 @@ fn times(
     operands: &[OperandWord<'_>],
     words: usize,
 ) -> Result<Command, UsageFault>
-    ensures { MatchResult result (λ command. formed Mode.SettingTimes (told given.now) words (operands_seen operands.now) ≡ Ok command)
-        (IsFaultOf (formed Mode.SettingTimes (told given.now) words (operands_seen operands.now))) }
+    ensures { MatchResult result (λ command. formed Mode.SettingTimes (given_options given.now) words (operands_seen operands.now) ≡ Ok command)
+        (IsFaultOf (formed Mode.SettingTimes (given_options given.now) words (operands_seen operands.now))) }
 {
     let [name, block, inode, file] = operands else {
         return Err(wrong_operands(words));
@@ -203,8 +203,8 @@ fn print(
     operands: &[OperandWord<'_>],
     words: usize,
 ) -> Result<Command, UsageFault>
-    ensures { MatchResult result (λ command. formed Mode.Printing (told given.now) words (operands_seen operands.now) ≡ Ok command)
-        (IsFaultOf (formed Mode.Printing (told given.now) words (operands_seen operands.now))) }
+    ensures { MatchResult result (λ command. formed Mode.Printing (given_options given.now) words (operands_seen operands.now) ≡ Ok command)
+        (IsFaultOf (formed Mode.Printing (given_options given.now) words (operands_seen operands.now))) }
 {
     let [name, file] = operands else {
         return Err(wrong_operands(words));
@@ -224,8 +224,8 @@ fn apply(
     operands: &[OperandWord<'_>],
     words: usize,
 ) -> Result<Command, UsageFault>
-    ensures { MatchResult result (λ command. formed Mode.Applying (told given.now) words (operands_seen operands.now) ≡ Ok command)
-        (IsFaultOf (formed Mode.Applying (told given.now) words (operands_seen operands.now))) }
+    ensures { MatchResult result (λ command. formed Mode.Applying (given_options given.now) words (operands_seen operands.now) ≡ Ok command)
+        (IsFaultOf (formed Mode.Applying (given_options given.now) words (operands_seen operands.now))) }
 {
     let [name, file] = operands else {
         return Err(wrong_operands(words));
@@ -246,8 +246,8 @@ fn check(
     operands: &[OperandWord<'_>],
     words: usize,
 ) -> Result<Command, UsageFault>
-    ensures { MatchResult result (λ command. formed Mode.Checking (told given.now) words (operands_seen operands.now) ≡ Ok command)
-        (IsFaultOf (formed Mode.Checking (told given.now) words (operands_seen operands.now))) }
+    ensures { MatchResult result (λ command. formed Mode.Checking (given_options given.now) words (operands_seen operands.now) ≡ Ok command)
+        (IsFaultOf (formed Mode.Checking (given_options given.now) words (operands_seen operands.now))) }
 {
     let [file] = operands else {
         return Err(wrong_operands(words));
@@ -269,8 +269,8 @@ fn convert(
     operands: &[OperandWord<'_>],
     words: usize,
 ) -> Result<Command, UsageFault>
-    ensures { MatchResult result (λ command. formed Mode.Converting (told given.now) words (operands_seen operands.now) ≡ Ok command)
-        (IsFaultOf (formed Mode.Converting (told given.now) words (operands_seen operands.now))) }
+    ensures { MatchResult result (λ command. formed Mode.Converting (given_options given.now) words (operands_seen operands.now) ≡ Ok command)
+        (IsFaultOf (formed Mode.Converting (given_options given.now) words (operands_seen operands.now))) }
 {
     let [source, target] = operands else {
         return Err(wrong_operands(words));
@@ -296,8 +296,8 @@ fn serve(
     operands: &[OperandWord<'_>],
     words: usize,
 ) -> Result<Command, UsageFault>
-    ensures { MatchResult result (λ command. formed Mode.Serving (told given.now) words (operands_seen operands.now) ≡ Ok command)
-        (IsFaultOf (formed Mode.Serving (told given.now) words (operands_seen operands.now))) }
+    ensures { MatchResult result (λ command. formed Mode.Serving (given_options given.now) words (operands_seen operands.now) ≡ Ok command)
+        (IsFaultOf (formed Mode.Serving (given_options given.now) words (operands_seen operands.now))) }
 {
     if !operands.is_empty() {
         return Err(wrong_operands(words));
@@ -319,7 +319,7 @@ fn generate(
     operands: &[OperandWord<'_>],
     words: usize,
 ) -> Result<Command, UsageFault>
-    ensures { (given : Told) → MatchResult result (λ command. formed Mode.Generating given words (operands_seen operands.now) ≡ Ok command)
+    ensures { (given : GivenOptions) → MatchResult result (λ command. formed Mode.Generating given words (operands_seen operands.now) ≡ Ok command)
         (IsFaultOf (formed Mode.Generating given words (operands_seen operands.now))) }
 {
     let [seed, count, file] = operands else {

@@ -1,4 +1,4 @@
-use option_words::ExportList;
+use option_words::ExportOptions;
 use quota_types::{Format, Kind};
 use refusals::Word;
 use report_options::Options;
@@ -136,7 +136,7 @@ pub enum Command {
         /// The port; 0 for any one that is free.
         port: u16,
         /// What is exported.
-        exports: ExportList,
+        exports: ExportOptions,
     },
     /// A list of commands, a line each.
     Script,

@@ -1,11 +1,11 @@
 ghost use Rattle.std.specs.Prelude.{◌≡◌, IfOk};
 ghost use Rattle.std.specs.Option.{option_copied};
 ghost use Rattle.command_words.specs.Modes.{common_of};
-ghost use Rattle.option_words.specs.Given.{export_told, exports_told, told};
+ghost use Rattle.option_words.specs.Given.{export_given, exports_given, given_options};
 
 use crate::Common;
 use crate::mode::kind_asked;
-use option_words::{Export, ExportList, ExportWords, Given, OperandWord};
+use option_words::{ExportOption, ExportOptions, ExportWords, Given, OperandWord};
 use refusals::Word;
 use std::alloc::{AllocError, Global};
 
@@ -28,7 +28,7 @@ pub fn copy_given(alloc: Global, value: Option<&str>) -> Result<Option<Word>, Al
 
 /// What the options say of the file.
 pub fn common_of(alloc: Global, given: &Given<'_>) -> Result<Common, AllocError>
-    ensures { IfOk result (λ common. common ≡ common_of (told given.now)) }
+    ensures { IfOk result (λ common. common ≡ common_of (given_options given.now)) }
 {
     let names = copy_given(alloc, given.names)?;
     Ok(Common {
@@ -39,21 +39,21 @@ pub fn common_of(alloc: Global, given: &Given<'_>) -> Result<Common, AllocError>
 }
 
 /// A copy of the exports.
-pub fn exports_of(alloc: Global, exports: &[ExportWords<'_>]) -> Result<ExportList, AllocError>
-    ensures { IfOk result (λ list. list ≡ exports_told exports.now) }
+pub fn exports_of(alloc: Global, exports: &[ExportWords<'_>]) -> Result<ExportOptions, AllocError>
+    ensures { IfOk result (λ list. list ≡ exports_given exports.now) }
 {
     let mut list = Vec::new(alloc);
     for export in exports {
         list.push(export_of(alloc, export)?)?;
     }
-    Ok(ExportList::from_vec(list))
+    Ok(ExportOptions::from_vec(list))
 }
 
 /// A copy of an export.
-fn export_of(alloc: Global, export: &ExportWords<'_>) -> Result<Export, AllocError>
-    ensures { IfOk result (λ copy. copy ≡ export_told export.now) }
+fn export_of(alloc: Global, export: &ExportWords<'_>) -> Result<ExportOption, AllocError>
+    ensures { IfOk result (λ copy. copy ≡ export_given export.now) }
 {
-    Ok(Export {
+    Ok(ExportOption {
         path: Word::copy_of(alloc, export.path)?,
         kind: export.kind,
         file: Word::copy_of(alloc, export.file)?,

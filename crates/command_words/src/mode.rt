@@ -1,6 +1,6 @@
 ghost use Rattle.std.specs.Prelude.{◌≡◌};
 ghost use Rattle.command_words.specs.Modes.{excludes, mode_of, kind_asked, lacks, options_of, two_of};
-ghost use Rattle.option_words.specs.Given.{told};
+ghost use Rattle.option_words.specs.Given.{given_options};
 
 use option_words::{Flags, Given, Tool};
 use quota_types::Kind;
@@ -39,7 +39,7 @@ pub enum Mode {
 
 /// Whether options were given that exclude each other.
 pub fn excludes(tool: Tool, given: &Given<'_>) -> bool
-    ensures { result ≡ excludes tool (told given.now) }
+    ensures { result ≡ excludes tool (given_options given.now) }
 {
     let flags = &given.flags;
     let both_kinds = flags.users && flags.groups;
@@ -65,7 +65,7 @@ fn two_of(a: bool, b: bool, c: bool, d: bool) -> bool
 
 /// Whether a required option was not given. In a script what reads an input has to name it.
 pub fn lacks(in_script: bool, tool: Tool, given: &Given<'_>) -> bool
-    ensures { result ≡ lacks in_script tool (told given.now) }
+    ensures { result ≡ lacks in_script tool (given_options given.now) }
 {
     let flags = &given.flags;
     let unnamed_input = in_script && given.input.is_none();
@@ -83,7 +83,7 @@ pub fn lacks(in_script: bool, tool: Tool, given: &Given<'_>) -> bool
 
 /// The mode that the options choose.
 pub fn mode_of(tool: Tool, given: &Given<'_>) -> Mode
-    ensures { result ≡ mode_of tool (told given.now) }
+    ensures { result ≡ mode_of tool (given_options given.now) }
 {
     match tool {
         Tool::Repquota => Mode::Reporting,
@@ -100,7 +100,7 @@ pub fn mode_of(tool: Tool, given: &Given<'_>) -> Mode
 
 /// The mode of `setquota` that the options choose.
 fn setquota_mode(given: &Given<'_>) -> Mode
-    ensures { result ≡ mode_of Tool.Setquota (told given.now) }
+    ensures { result ≡ mode_of Tool.Setquota (given_options given.now) }
 {
     if given.proto.is_some() {
         Mode::Copying

@@ -24,11 +24,11 @@ use Rattle.quota_map.specs.Size.{blocks_needed, ids_in}
 use Rattle.quota_map.specs.Replacing.{IsReplaceFileFault, IsReplacedBy, built_size, flags_in}
 use Rattle.quota_map.specs.View.{IsOpenFault, IsView, most_blocks}
 use Rattle.convert.specs.Conversion.{grace_no_room}
-use Rattle.convert.specs.Convert.{Asked, HasNoTarget, IsConvertFault, IsConverted, IsMade, IsNotMade, IsUnfit, UnlessFaultOfStore}
+use Rattle.convert.specs.Convert.{AskedConversion, HasNoTarget, IsConvertFault, IsConverted, IsMade, IsNotMade, IsUnfit, UnlessFaultOfStore}
 use Rattle.convert.specs.Source.{HasRead, IsReadingFault, IsSourceFault}
 use Rattle.convert.specs.Listing.{kept_list, list_without_room}
-use Rattle.convert.specs.declared.fault.ConvertFault.{ConvertFault}
-use Rattle.convert.specs.declared.fault.ConvertFault.TheVariants.{SameName, TargetExists, Open, File, NoRoom, Replace}
+use Rattle.convert.specs.declared.convert_fault.ConvertFault.{ConvertFault}
+use Rattle.convert.specs.declared.convert_fault.ConvertFault.TheVariants.{SameName, TargetExists, Open, File, NoRoom, Replace}
 use Rattle.convert.proofs.ValueLemmas.{converted_listed, ids_listed, refused_listed}
 use Rattle.quota_map.proofs.OpeningLemmas.{open_since}
 
@@ -56,7 +56,7 @@ with_store P (FormatMismatch found) is = is
 with_store P (Damage damage) is = is
 
 -- the file was not opened, or not read
-pub source_refused : (tells : Bool) (asked : Asked) (old between new : StoreSeen) (fault : ConvertFault) → HasNoTarget tells asked old.files → between.files ≡ old.files → old.faults ≤ between.faults
+pub source_refused : (tells : Bool) (asked : AskedConversion) (old between new : StoreSeen) (fault : ConvertFault) → HasNoTarget tells asked old.files → between.files ≡ old.files → old.faults ≤ between.faults
     → IsSourceFault between.faults new.faults tells (between.files asked.from) asked.kind asked.old fault → IsConvertFault tells asked old new fault
 source_refused tells asked old between new SameName free same later cause = absurd cause
 source_refused tells asked old between new TargetExists free same later cause = absurd cause
@@ -90,7 +90,7 @@ no_flags V1 = refl
 no_flags V2R0 = refl
 no_flags V2R1 = refl
 
-module _ (tells : Bool) (asked : Asked) (old between : StoreSeen) (grace : Grace) (flags : ℕ) (list : List Entry) (same : between.files ≡ old.files)
+module _ (tells : Bool) (asked : AskedConversion) (old between : StoreSeen) (grace : Grace) (flags : ℕ) (list : List Entry) (same : between.files ≡ old.files)
     (read : HasRead tells (between.files asked.from) asked.kind asked.old (value_of asked.kind asked.old grace flags list)) (ascends : IsStrictlyIncreasing (ids_of list)) where
   read_before : HasRead tells (old.files asked.from) asked.kind asked.old (value_of asked.kind asked.old grace flags list)
   read_before = subst (λ (files : World). HasRead tells (files asked.from) asked.kind asked.old (value_of asked.kind asked.old grace flags list)) same read
@@ -114,7 +114,7 @@ module _ (tells : Bool) (asked : Asked) (old between : StoreSeen) (grace : Grace
         ∙ ap (λ (l : List Entry). Ok (value_of asked.kind asked.new grace 0 l)) (sym kept);
   }
 
-module _ (tells : Bool) (asked : Asked) (old between new : StoreSeen) (grace : Grace) (entries : List Entry) (free : HasNoTarget tells asked old.files)
+module _ (tells : Bool) (asked : AskedConversion) (old between new : StoreSeen) (grace : Grace) (entries : List Entry) (free : HasNoTarget tells asked old.files)
     (converts : IsConverted tells asked old.files (value_of asked.kind asked.new grace 0 entries)) (ascends : IsStrictlyIncreasing (ids_of entries)) where
   abbrev made : QuotaValue
   made = value_of asked.kind asked.new grace 0 entries

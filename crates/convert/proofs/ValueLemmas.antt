@@ -46,21 +46,21 @@ kept_ascends format list rising =
 
 -- Lists and the maps of their records.
 
-both : (a b : Bool) → T a → T b → T (a && b)
-both true b p q = q
-both false b p q = p
+both_true : (a b : Bool) → T a → T b → T (a && b)
+both_true true b p q = q
+both_true false b p q = p
 
 below_pairs : (id low : ℕ) (list : List Entry) → Ascends low (ids_of list) → id < low → T (below_all nat_cmp id (pairs_of list))
 below_pairs id low [] ascends less = tt
 below_pairs id low (entry ∷ list) ascends less =
     let before : Less ≡ nat_cmp id entry.id = nat_cmp_is id entry.id Less (omega (arith, less, ascends.0)) in
-    both (is_lt (nat_cmp id entry.id)) (below_all nat_cmp id (pairs_of list)) (subst (λ o. T (is_lt o)) before tt)
+    both_true (is_lt (nat_cmp id entry.id)) (below_all nat_cmp id (pairs_of list)) (subst (λ o. T (is_lt o)) before tt)
     (below_pairs id (suc entry.id) list ascends.1 (omega (arith, less, ascends.0)))
 
 sorted_pairs : (low : ℕ) (list : List Entry) → Ascends low (ids_of list) → T (is_sorted nat_cmp (pairs_of list))
 sorted_pairs low [] ascends = tt
 sorted_pairs low (entry ∷ list) ascends =
-    both (below_all nat_cmp entry.id (pairs_of list)) (is_sorted nat_cmp (pairs_of list))
+    both_true (below_all nat_cmp entry.id (pairs_of list)) (is_sorted nat_cmp (pairs_of list))
     (below_pairs entry.id (suc entry.id) list ascends.1 (omega arith)) (sorted_pairs (suc entry.id) list ascends.1)
 
 -- the entries of its records are those of the list

@@ -14,12 +14,12 @@ use Rattle.quota_map.specs.Replacing.{IsReplaceFileFault, IsReplacedBy, UnlessSt
 use Rattle.quota_map.specs.View.{IsOpenFault, IsView, most_blocks}
 use Rattle.convert.specs.Conversion.{converted}
 use Rattle.convert.specs.Source.{HasRead, IsReadingFault}
-use Rattle.convert.specs.declared.fault.ConvertFault.{ConvertFault}
-use Rattle.convert.specs.declared.fault.ConvertFault.TheVariants.{SameName, TargetExists, Open, File, NoRoom as Unfit, Replace}
+use Rattle.convert.specs.declared.convert_fault.ConvertFault.{ConvertFault}
+use Rattle.convert.specs.declared.convert_fault.ConvertFault.TheVariants.{SameName, TargetExists, Open, File, NoRoom as Unfit, Replace}
 
 -- What is asked for: the name of the file that is converted and that of the new one, the formats of both, whose usage they limit,
 -- and how many blocks the new one may have.
-pub record Asked : Type 0 where
+pub record AskedConversion : Type 0 where
   pub from : List ℕ
   pub to : List ℕ
   pub old : Format
@@ -28,23 +28,23 @@ pub record Asked : Type 0 where
   pub limit : ℕ
 
 -- the conversion of the file of one name into one of another name
-abbrev pub asked_for : (from to : List ℕ) → (old new : Format) → Kind → (limit : ℕ) → Asked
+abbrev pub asked_for : (from to : List ℕ) → (old new : Format) → Kind → (limit : ℕ) → AskedConversion
 asked_for from to old new kind limit = record { from = from; to = to; old = old; new = new; kind = kind; limit = limit }
 
 -- the names are two, and the store has no file of the second one
-pub record HasNoTarget (tells : Bool) (asked : Asked) (files : World) : Type 0 where
+pub record HasNoTarget (tells : Bool) (asked : AskedConversion) (files : World) : Type 0 where
   pub apart : asked.from ≢ asked.to
   pub absent : IsTrue tells → files asked.to ≡ None
 
 -- the value that was read of the first file is this one in the new format
-pub record IsConverted (tells : Bool) (asked : Asked) (files : World) (made : QuotaValue) : Type 0 where
+pub record IsConverted (tells : Bool) (asked : AskedConversion) (files : World) (made : QuotaValue) : Type 0 where
   pub value : QuotaValue
   pub read : HasRead tells (files asked.from) asked.kind asked.old value
   pub converts : converted asked.new value ≡ Ok made
 
 -- The new file was made: there was none of its name, and it is a new one of the converted value, with nothing beside it. Whoever
 -- opens it sees that value, unless it may have more blocks than an opened file.
-pub record IsMade (tells : Bool) (asked : Asked) (old new : StoreSeen) : Type 0 where
+pub record IsMade (tells : Bool) (asked : AskedConversion) (old new : StoreSeen) : Type 0 where
   pub free : HasNoTarget tells asked old.files
   pub made : QuotaValue
   pub converts : IsConverted tells asked old.files made
@@ -69,20 +69,20 @@ UnlessFaultOfStore (Damage _) P = P
 
 -- The names are two, and the first file could not be opened; or the store failed before. But for a fault of the store there is no
 -- file of the second name.
-pub record IsNotOpened (tells : Bool) (asked : Asked) (old new : StoreSeen) (fault : OpenFault) : Type 0 where
+pub record IsNotOpened (tells : Bool) (asked : AskedConversion) (old new : StoreSeen) (fault : OpenFault) : Type 0 where
   pub apart : asked.from ≢ asked.to
   pub absent : UnlessFaultOfStore fault (IsTrue tells → old.files asked.to ≡ None)
   pub cause : IsOpenFault old.faults new.faults tells (old.files asked.from) asked.kind (Some asked.old) fault
 
 -- the new format has no room for what was read, first of all for this value
-pub record IsUnfit (tells : Bool) (asked : Asked) (files : World) (out : NoRoom) : Type 0 where
+pub record IsUnfit (tells : Bool) (asked : AskedConversion) (files : World) (out : NoRoom) : Type 0 where
   pub free : HasNoTarget tells asked files
   pub value : QuotaValue
   pub read : HasRead tells (files asked.from) asked.kind asked.old value
   pub refused : converted asked.new value ≡ Err out
 
 -- the new format has room for what was read, and the new file could not be made
-pub record IsNotMade (tells : Bool) (asked : Asked) (old new : StoreSeen) (fault : ReplaceFault) : Type 0 where
+pub record IsNotMade (tells : Bool) (asked : AskedConversion) (old new : StoreSeen) (fault : ReplaceFault) : Type 0 where
   pub free : HasNoTarget tells asked old.files
   pub made : QuotaValue
   pub converts : IsConverted tells asked old.files made
@@ -91,7 +91,7 @@ pub record IsNotMade (tells : Bool) (asked : Asked) (old new : StoreSeen) (fault
 -- The first cause that holds, in this order: the names are the same; there is a file of the second name; the first file is not
 -- opened, or not read; the new format has no room for a value; the new file would need more blocks than it may have. A fault of
 -- the store comes only where its count of faults rose; whether memory runs out is left open.
-abbrev pub IsConvertFault : (tells : Bool) (asked : Asked) (old new : StoreSeen) → ConvertFault → Type 0
+abbrev pub IsConvertFault : (tells : Bool) (asked : AskedConversion) (old new : StoreSeen) → ConvertFault → Type 0
 IsConvertFault tells asked old new SameName = asked.from ≡ asked.to
 IsConvertFault tells asked old new TargetExists = (asked.from ≢ asked.to) × (IsTrue tells → IsSome (old.files asked.to))
 IsConvertFault tells asked old new (Open fault) = IsNotOpened tells asked old new fault

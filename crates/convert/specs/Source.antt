@@ -11,8 +11,8 @@ use Rattle.opened_file.specs.declared.quota_file.FileFault.{FileFault}
 use Rattle.opened_file.specs.declared.quota_file.FileFault.TheVariants.{Store, Damage, Full, Memory}
 use Rattle.quota_map.specs.AnyFile.{MayRefuse}
 use Rattle.quota_map.specs.View.{IsOpenFault, IsView}
-use Rattle.convert.specs.declared.fault.ConvertFault.{ConvertFault}
-use Rattle.convert.specs.declared.fault.ConvertFault.TheVariants.{Open, File}
+use Rattle.convert.specs.declared.convert_fault.ConvertFault.{ConvertFault}
+use Rattle.convert.specs.declared.convert_fault.ConvertFault.TheVariants.{Open, File}
 
 -- A value was read of a file: where the store tells, the one that is seen of it, and whatever it tells, one of the kind and the
 -- format, which has room for the grace periods and for each record, and keeps it as it is.

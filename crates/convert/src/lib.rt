@@ -4,10 +4,10 @@
 //! that limits or counts something, or names the first cause for which it cannot, and then has written nothing.
 #![tactic(auto)]
 
+mod convert_fault;
 mod converting;
-mod fault;
 mod keeping;
 mod source;
 
+pub use convert_fault::ConvertFault;
 pub use converting::convert;
-pub use fault::ConvertFault;

@@ -2,7 +2,7 @@
 use Rattle.std.proofs.Common.{ℕ, List, refl, ◌∙◌, arith, Option}
 use Rattle.outside.specs.World.{World}
 use Rattle.outside.proofs.FrameLemmas.{keeps_others-then}
-use Rattle.disk.specs.Steps.{ChangesFile, CutShort, Shortened, Torn}
+use Rattle.disk.specs.DiskCalls.{ChangesFile, CutShort, Shortened, Torn}
 
 -- a file that stays is torn nowhere
 pub torn-same : (stays : ℕ → Type 0) (file : Option (List ℕ)) → Torn stays file file

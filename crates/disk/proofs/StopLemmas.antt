@@ -1,17 +1,17 @@
 -- What a stop may leave after no call, after one, and after two changes in a row.
 use Rattle.std.proofs.Common.{◌≡◌, ◌⊎◌, inl, inr, ⊎_elim, ℕ, List, sym, ◌∙◌, arith}
 use Rattle.outside.specs.World.{World}
-use Rattle.disk.specs.DiskSeen.{ChangesNothing, DiskSeen, Follows, IsKept, OnlyLeaves, Passes, TakesStep}
+use Rattle.disk.specs.DiskSeen.{ChangesNothing, DiskSeen, DiskFollows, IsDurable, OnlyLeaves, Passes, TakesStep}
 
 -- a wider step is followed too
-pub follows-wider : (step wider : World → World → Type 0) (old new : DiskSeen) → ((before after : World) → step before after → wider before after) → Follows step old new → Follows wider old new
+pub follows-wider : (step wider : World → World → Type 0) (old new : DiskSeen) → ((before after : World) → step before after → wider before after) → DiskFollows step old new → DiskFollows wider old new
 follows-wider step wider old new sub follows = record {
   left = λ image is. let from = follows.left image is in (from.0, from.1, sub from.0 image from.2);
   read = sub old.files new.files follows.read;
 }
 
 pub follows-then : (step : World → World → Type 0) (old between new : DiskSeen) → ((a b c : World) → step a b → step b c → step a c)
-    → Follows step old between → Follows step between new → Follows step old new
+    → DiskFollows step old between → DiskFollows step between new → DiskFollows step old new
 follows-then step old between new on first second = record {
   left = λ image is.
       let last = second.left image is in
@@ -104,7 +104,7 @@ only_leaves-passes step Property old new passes here after read is = record {
 
 -- a file that is kept is kept by each step that keeps it
 pub kept-on : (name : List ℕ) (step : World → World → Type 0) (old new : DiskSeen) → ((before after : World) → step before after → after name ≡ before name)
-    → IsKept name old → Follows step old new → IsKept name new
+    → IsDurable name old → DiskFollows step old new → IsDurable name new
 kept-on name step old new keeps kept follows image is =
     let from = follows.left image is in
     keeps from.0 image from.2 ∙ kept from.0 from.1 ∙ sym (keeps old.files new.files follows.read)

@@ -1,8 +1,8 @@
 -- When a call takes a step: where it changes nothing, and where it took a narrower one; and what a sync leaves that takes one.
 use Rattle.std.proofs.Common.{◌≡◌, inl, ℕ, List, refl, sym, ap, ◌∙◌, subst}
 use Rattle.outside.specs.World.{World}
-use Rattle.disk.specs.DiskSeen.{ChangesNothing, DiskSeen, IsKept, TakesStep}
-use Rattle.disk.specs.Steps.{CutShort, CutsShort, IsOutside, MayBeRenamed, Shortened, Shortens, TearsRange, Torn}
+use Rattle.disk.specs.DiskSeen.{ChangesNothing, DiskSeen, IsDurable, TakesStep}
+use Rattle.disk.specs.DiskCalls.{CutShort, CutsShort, IsOutside, MayBeRenamed, Shortened, Shortens, TearsRange, Torn}
 use Rattle.disk.proofs.StepLemmas.{changes_file-same, cut_short-same, shortened-same, torn-same}
 
 -- a call that changes nothing takes each step that leads from files to themselves
@@ -35,7 +35,7 @@ sync_nothing name old new same takes = record {
 }
 
 pub sync_keeps : (name : List ℕ) (old new : DiskSeen) → new.files ≡ old.files
-    → TakesStep (λ before after. (after ≡ before) × (after name ≡ old.files name)) old new → IsKept name new
+    → TakesStep (λ before after. (after ≡ before) × (after name ≡ old.files name)) old new → IsDurable name new
 sync_keeps name old new same takes image is =
     let from = takes.follows.left image is in from.2.1 ∙ ap (λ (files : World). files name) (sym same)
 

@@ -1,6 +1,6 @@
 -- What is seen of a disk: what a read gives, and what a stop of the machine may leave.
 use Rattle.std.specs.Prelude.{◌≡◌, ◌≤◌, ◌⊎◌, ◌↔◌, ℕ, List}
-use Rattle.outside.specs.Unsynced.{Names}
+use Rattle.outside.specs.Unsynced.{UnsyncedNames}
 use Rattle.outside.specs.World.{World}
 
 -- A disk: its files as they are read, the files that a stop of the machine now may leave (each of them is called an
@@ -11,7 +11,7 @@ pub record DiskSeen : Type 1 where
   pub images : World → Type 0
   pub moment : ℕ
   pub since : ℕ → World → Type 0
-  pub unsynced : Names
+  pub unsynced : UnsyncedNames
   pub faults : ℕ
 
 -- each image has a property
@@ -19,12 +19,12 @@ abbrev pub EachImage : (World → Type 0) → DiskSeen → Type 0
 EachImage Property disk = (image : World) → disk.images image → Property image
 
 -- The file of a name is kept: each image has it as it is read. Source: fsync(2).
-abbrev pub IsKept : List ℕ → DiskSeen → Type 0
-IsKept name disk = EachImage (λ image. image name ≡ disk.files name) disk
+abbrev pub IsDurable : List ℕ → DiskSeen → Type 0
+IsDurable name disk = EachImage (λ image. image name ≡ disk.files name) disk
 
 -- The new disk follows the old one by a step: each new image has an old image with the step between them, and so have
 -- the files that are read.
-pub record Follows (step : World → World → Type 0) (old new : DiskSeen) : Type 0 where
+pub record DiskFollows (step : World → World → Type 0) (old new : DiskSeen) : Type 0 where
   pub left : (image : World) → new.images image → (before : World) × old.images before × step before image
   pub read : step old.files new.files
 
@@ -37,7 +37,7 @@ pub record Elapses (old new : DiskSeen) : Type 0 where
 -- A change passes by a step: the new disk follows the old one by it, and a stop since an earlier moment left what one
 -- before might have left, or something with the step from an old image to it.
 pub record Passes (step : World → World → Type 0) (old new : DiskSeen) : Type 0 where
-  pub follows : Follows step old new
+  pub follows : DiskFollows step old new
   pub later : old.moment ≤ new.moment
   pub known : (moment : ℕ) (image : World) → moment ≤ old.moment → new.since moment image
       → old.since moment image ⊎ ((before : World) × old.images before × step before image)
@@ -61,6 +61,6 @@ pub record ChangesNothing (old new : DiskSeen) : Type 0 where
 
 -- A call that changes files by a step: the new disk follows the old one by it, time elapses, and no fault is forgotten.
 pub record TakesStep (step : World → World → Type 0) (old new : DiskSeen) : Type 0 where
-  pub follows : Follows step old new
+  pub follows : DiskFollows step old new
   pub elapses : Elapses old new
   pub counted : old.faults ≤ new.faults

@@ -1,3 +1,3 @@
 pub mod DiskLaws
 pub mod DiskSeen
-pub mod Steps
+pub mod DiskCalls

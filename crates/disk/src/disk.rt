@@ -1,7 +1,7 @@
 ghost use Rattle.std.specs.Prelude.{◌≡◌, ◌≢◌, ◌≤◌, ◌^◌, ◌⊎◌, ◌↔◌, ℕ, Bool, List, [], length, take, true, false, None, Some, IsSome, IsTrue, IfOk, OnOk, OnErr};
 ghost use Rattle.std.specs.Option.{option_map};
-ghost use Rattle.disk.specs.DiskSeen.{ChangesNothing, DiskSeen, Follows, IsKept, TakesStep};
-ghost use Rattle.disk.specs.Steps.{CutsShort, IsRenamed, MayBeRenamed, Shortens, TearsRange, with_cut};
+ghost use Rattle.disk.specs.DiskSeen.{ChangesNothing, DiskSeen, DiskFollows, IsDurable, TakesStep};
+ghost use Rattle.disk.specs.DiskCalls.{CutsShort, IsRenamed, MayBeRenamed, Shortens, TearsRange, with_cut};
 ghost use Rattle.outside.specs.Count.{Rose};
 ghost use Rattle.outside.specs.Unsynced.{AddsNone, with_handed, with_name};
 ghost use Rattle.outside.specs.World.{KeepsOtherTwo, KeepsOthers, World, bytes_from, with_bytes, with_file, with_new_name};
@@ -114,7 +114,7 @@ pub trait Disk {
     ///
     /// The disk failed. The name may still be unsynced, and a stop may leave what it might before.
     fn sync(&mut self, name: &str) -> Result<(), DiskFault>
-        ensures kept { OnOk result (IsTrue tells → IsKept name.now (seen self.new)) }
+        ensures kept { OnOk result (IsTrue tells → IsDurable name.now (seen self.new)) }
         ensures unsynced { OnOk result (IsTrue tells
             → (seen self.new).unsynced ≡ with_name (seen self.old).unsynced name.now false) }
         ensures none { OnOk result (AddsNone (seen self.old).unsynced (seen self.new).unsynced) }
@@ -134,7 +134,7 @@ pub trait Disk {
         ensures ok { OnOk result (IsTrue tells
             → (seen self.new).files ≡ with_new_name (seen self.old).files from.now to.now) }
         ensures done { OnOk result (IsTrue tells
-            → Follows (IsRenamed from.now to.now) (seen self.old) (seen self.new)) }
+            → DiskFollows (IsRenamed from.now to.now) (seen self.old) (seen self.new)) }
         ensures unsynced { OnOk result (IsTrue tells → IsSome ((seen self.old).files from.now)
             → (seen self.new).unsynced ≡ with_handed (seen self.old).unsynced from.now to.now) }
         ensures absent { OnOk result (IsTrue tells → (seen self.old).files from.now ≡ None
@@ -152,5 +152,5 @@ pub trait Disk {
 
     /// A stop leaves the file of each name that is not unsynced as it is read, and none where there is none.
     ghost synced_is_kept: { (disk : Self) (name : List ℕ) → IsTrue tells → (seen disk).unsynced name ≡ false
-        → IsKept name (seen disk) };
+        → IsDurable name (seen disk) };
 }

@@ -1,8 +1,8 @@
 //! Laws of disks, for those who build on them.
 
 ghost use Rattle.std.specs.Prelude.{◌≢◌, ◌⊎◌, ℕ, Bool, List, Option, IsTrue};
-ghost use Rattle.disk.specs.DiskSeen.{ChangesNothing, Follows, IsKept, OnlyLeaves, Passes, TakesStep};
-ghost use Rattle.disk.specs.Steps.{ChangesFile, CutShort, CutsShort, IsOutside, MayBeRenamed, TearsRange, Torn};
+ghost use Rattle.disk.specs.DiskSeen.{ChangesNothing, DiskFollows, IsDurable, OnlyLeaves, Passes, TakesStep};
+ghost use Rattle.disk.specs.DiskCalls.{ChangesFile, CutShort, CutsShort, IsOutside, MayBeRenamed, TearsRange, Torn};
 ghost use Rattle.outside.specs.World.{KeepsOthers, World};
 
 use crate::Disk;
@@ -54,10 +54,10 @@ pub fn what_is_left_adds_up<D: Disk>()
 
 /// A file that was synced is the same in whatever a stop may leave, as long as no call changes it.
 pub fn a_synced_file_is_kept<D: Disk>()
-    ensures others { (name other : List ℕ) (old new : D) → name ≢ other → IsKept name (D.seen old)
-        → Follows (KeepsOthers other) (D.seen old) (D.seen new) → IsKept name (D.seen new) }
-    ensures renamed { (name from to : List ℕ) (old new : D) → name ≢ from → name ≢ to → IsKept name (D.seen old)
-        → Follows (MayBeRenamed from to) (D.seen old) (D.seen new) → IsKept name (D.seen new) }
-    ensures nothing { (name : List ℕ) (old new : D) → IsKept name (D.seen old)
-        → ChangesNothing (D.seen old) (D.seen new) → IsKept name (D.seen new) }
+    ensures others { (name other : List ℕ) (old new : D) → name ≢ other → IsDurable name (D.seen old)
+        → DiskFollows (KeepsOthers other) (D.seen old) (D.seen new) → IsDurable name (D.seen new) }
+    ensures renamed { (name from to : List ℕ) (old new : D) → name ≢ from → name ≢ to → IsDurable name (D.seen old)
+        → DiskFollows (MayBeRenamed from to) (D.seen old) (D.seen new) → IsDurable name (D.seen new) }
+    ensures nothing { (name : List ℕ) (old new : D) → IsDurable name (D.seen old)
+        → ChangesNothing (D.seen old) (D.seen new) → IsDurable name (D.seen new) }
 {}

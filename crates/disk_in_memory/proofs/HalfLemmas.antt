@@ -8,9 +8,9 @@ use Rattle.outside.proofs.WorldLemmas.{KeepsOthers-with_file, apart_names, bytes
 use Rattle.std.specs.Str.{bytes_eq}
 use Rattle.disk_in_memory.specs.Calls.{LeftAfter, MayMake, after_call, half_call, half_left, half_of, read_after}
 use Rattle.disk_in_memory.specs.Images.{cuts-nothing, done, shortens-nothing, tears-written}
-use Rattle.disk.specs.Steps.{ChangesFile, CutShort, IsOutside, Shortened, Torn}
-use Rattle.disk_in_memory.specs.declared.call.Call.{Call}
-use Rattle.disk_in_memory.specs.declared.call.Call.TheVariants.{Write, Create, Cut, Sync, Rename}
+use Rattle.disk.specs.DiskCalls.{ChangesFile, CutShort, IsOutside, Shortened, Torn}
+use Rattle.disk_in_memory.specs.declared.disk_call.DiskCall.{DiskCall}
+use Rattle.disk_in_memory.specs.declared.disk_call.DiskCall.TheVariants.{Write, Create, Cut, Sync, Rename}
 
 -- a change of one name's file, where the file of some name is as it is read before and after
 changed : (Changes : Option (List ℕ) → Option (List ℕ) → Type 0) (name at : List ℕ) (read now old new : World) → ChangesFile Changes at read now → ChangesFile Changes at old new
@@ -124,7 +124,7 @@ module _ (from to : List ℕ) (differ : from ≢ to) (read : World) where
       other_name one other e same = true≢false (sym (ap (λ (n : List ℕ). bytes_eq one n) (sym same) ∙ bytes_eq-same one) ∙ e)
 
 -- what is left of a call may have the file of any name as it is read
-read_too : (call : Call) (Left : World → Type 0) (read : World) → ((name : List ℕ) (image : World) → Left image → Left (with_file image name (read name)))
+read_too : (call : DiskCall) (Left : World → Type 0) (read : World) → ((name : List ℕ) (image : World) → Left image → Left (with_file image name (read name)))
     → (name : List ℕ) (old new : World) → Left old → MayMake call read old new
     → (before : World) × Left before × MayMake call read before (with_file new name (after_call call read name))
 read_too (Write writing) Left read closed name old new left makes =
@@ -144,13 +144,13 @@ read_too (Rename renaming) Left read closed name old new left makes =
     moved (string_bytes renaming.from) (string_bytes renaming.to) renaming.differ read Left closed name old new left makes
 
 -- an image with the file of any name as it is read is an image
-as_read : (first : World) (calls : List Call) (name : List ℕ) (image : World) → LeftAfter first calls image → LeftAfter first calls (with_file image name (read_after first calls name))
+as_read : (first : World) (calls : List DiskCall) (name : List ℕ) (image : World) → LeftAfter first calls image → LeftAfter first calls (with_file image name (read_after first calls name))
 as_read first [] name image is = ap (λ (f : World). with_file f name (first name)) is ∙ with_file-same first name (first name) refl
 as_read first (call ∷ earlier) name image left =
     read_too call (LeftAfter first earlier) (read_after first earlier) (λ n other was. as_read first earlier n other was) name left.0 image left.1 left.2
 
 -- what is left of a call by half is an image
-half_step : (call : Call) (first : World) (earlier : List Call) (files : World) → LeftAfter first earlier files → LeftAfter first (call ∷ earlier) (half_call call (read_after first earlier) files)
+half_step : (call : DiskCall) (first : World) (earlier : List DiskCall) (files : World) → LeftAfter first earlier files → LeftAfter first (call ∷ earlier) (half_call call (read_after first earlier) files)
 half_step (Write writing) first earlier files left =
     (files, left, tears-written files (string_bytes writing.name) writing.at (length writing.bytes.items) (half_of writing.bytes.items) (omega (arith, length-take (length writing.bytes.items - length writing.bytes.items / 2) writing.bytes.items)))
 half_step (Create name) first earlier files left = (files, left, cuts-nothing files (string_bytes name) 0)
@@ -161,6 +161,6 @@ half_step (Sync name) first earlier files left =
 half_step (Rename renaming) first earlier files left = (files, left, refl)
 
 -- what a disk in memory leaves where it is stopped is an image
-pub half-left : (first : World) (calls : List Call) → LeftAfter first calls (half_left first calls)
+pub half-left : (first : World) (calls : List DiskCall) → LeftAfter first calls (half_left first calls)
 half-left first [] = refl
 half-left first (call ∷ earlier) = half_step call first earlier (half_left first earlier) (half-left first earlier)

@@ -1,13 +1,13 @@
 -- What is told of a disk in memory, call by call.
 use Rattle.std.proofs.Common.{Result, Ok, Err, OnOk, OnErr, is_ok, ◌≡◌, ◌≤◌, inl, inr, ⊎_elim, ℕ, List, ◌∷◌, refl, sym, ap, ◌∙◌, subst, arith}
 use Rattle.std.proofs.lemmas.Bool.{false≢true, true≢false}
-use Rattle.outside.specs.Unsynced.{Names}
+use Rattle.outside.specs.Unsynced.{UnsyncedNames}
 use Rattle.outside.specs.World.{World}
 use Rattle.disk_in_memory.specs.Calls.{LeftAfter, MayMake, after_call, read_after}
 use Rattle.disk.specs.DiskSeen.{ChangesNothing, Elapses, TakesStep}
 use Rattle.disk_in_memory.specs.Images.{done, left-since}
 use Rattle.disk_in_memory.specs.Told.{told}
-use Rattle.disk_in_memory.specs.declared.call.Call.{Call}
+use Rattle.disk_in_memory.specs.declared.disk_call.DiskCall.{DiskCall}
 
 -- what holds in any case
 pub on_err_any : {A E : Type 0} {P : Type 0} (result : Result A E) → P → OnErr result P
@@ -31,7 +31,7 @@ on_ok_same (Ok value) (Err fault) same on ok = tt
 on_ok_same (Err fault) (Ok other) same on ok = absurd (true≢false same)
 on_ok_same (Err fault) (Err other) same on ok = tt
 
-module _ (first : World) (calls : List Call) (present : World) (names now : Names) (failed later : ℕ) where
+module _ (first : World) (calls : List DiskCall) (present : World) (names now : UnsyncedNames) (failed later : ℕ) where
   -- where no call was made the images of since are those of before
   same_time : (other : World) → Elapses (told first calls present names failed) (told first calls other now later)
   same_time other = record {
@@ -43,7 +43,7 @@ module _ (first : World) (calls : List Call) (present : World) (names now : Name
   }
 
   -- one more call
-  more_time : (call : Call) (other : World) → Elapses (told first calls present names failed) (told first (call ∷ calls) other now later)
+  more_time : (call : DiskCall) (other : World) → Elapses (told first calls present names failed) (told first (call ∷ calls) other now later)
   more_time call other = record {
     later = omega arith;
     known = λ moment image early. (
@@ -55,7 +55,7 @@ module _ (first : World) (calls : List Call) (present : World) (names now : Name
   stays : failed ≤ later → ChangesNothing (told first calls present names failed) (told first calls present now later)
   stays less = record { files = refl; fewer = λ image is. is; elapses = same_time present; counted = less }
 
-  goes_on : (call : Call) → present ≡ read_after first calls → failed ≤ later
+  goes_on : (call : DiskCall) → present ≡ read_after first calls → failed ≤ later
       → TakesStep (MayMake call present) (told first calls present names failed) (told first (call ∷ calls) (after_call call present) now later)
   goes_on call is less = record {
     follows = record {
@@ -67,41 +67,41 @@ module _ (first : World) (calls : List Call) (present : World) (names now : Name
   }
 
 -- a record to which no call was added
-pub told_nothing : (first first' : World) (calls calls' : List Call) (present present' : World) (names now : Names) (failed later : ℕ)
+pub told_nothing : (first first' : World) (calls calls' : List DiskCall) (present present' : World) (names now : UnsyncedNames) (failed later : ℕ)
     → first' ≡ first → calls' ≡ calls → present' ≡ present → failed ≤ later
     → ChangesNothing (told first calls present names failed) (told first' calls' present' now later)
 told_nothing first first' calls calls' present present' names now failed later one two three less =
     subst (λ (f : World). ChangesNothing (told first calls present names failed) (told f calls' present' now later)) (sym one)
-    (subst (λ (l : List Call). ChangesNothing (told first calls present names failed) (told first l present' now later)) (sym two)
+    (subst (λ (l : List DiskCall). ChangesNothing (told first calls present names failed) (told first l present' now later)) (sym two)
     (subst (λ (p : World). ChangesNothing (told first calls present names failed) (told first calls p now later)) (sym three)
     (stays first calls present names now failed later less)))
 
 -- a record to which a call was added
-pub told_step : (first first' : World) (calls calls' : List Call) (call : Call) (present present' : World) (names now : Names) (failed later : ℕ)
+pub told_step : (first first' : World) (calls calls' : List DiskCall) (call : DiskCall) (present present' : World) (names now : UnsyncedNames) (failed later : ℕ)
     → first' ≡ first → calls' ≡ call ∷ calls → present' ≡ after_call call present → present ≡ read_after first calls → failed ≤ later
     → TakesStep (MayMake call present) (told first calls present names failed) (told first' calls' present' now later)
 told_step first first' calls calls' call present present' names now failed later one two three is less =
     subst (λ (f : World). TakesStep (MayMake call present) (told first calls present names failed) (told f calls' present' now later)) (sym one)
-    (subst (λ (l : List Call). TakesStep (MayMake call present) (told first calls present names failed) (told first l present' now later)) (sym two)
+    (subst (λ (l : List DiskCall). TakesStep (MayMake call present) (told first calls present names failed) (told first l present' now later)) (sym two)
     (subst (λ (p : World). TakesStep (MayMake call present) (told first calls present names failed) (told first (call ∷ calls) p now later)) (sym three)
     (goes_on first calls present names now failed later call is less)))
 
 -- what is read after the same calls, and after one more
-pub read_same : (first first' : World) (calls calls' : List Call) (present present' : World) → first' ≡ first → calls' ≡ calls
+pub read_same : (first first' : World) (calls calls' : List DiskCall) (present present' : World) → first' ≡ first → calls' ≡ calls
     → present ≡ read_after first calls → present' ≡ read_after first' calls' → present' ≡ present
 read_same first first' calls calls' present present' one two is is' =
-    is' ∙ ap (λ (f : World). read_after f calls') one ∙ ap (λ (l : List Call). read_after first l) two ∙ sym is
+    is' ∙ ap (λ (f : World). read_after f calls') one ∙ ap (λ (l : List DiskCall). read_after first l) two ∙ sym is
 
-pub read_more : (first first' : World) (calls calls' : List Call) (call : Call) (present present' : World) → first' ≡ first → calls' ≡ call ∷ calls
+pub read_more : (first first' : World) (calls calls' : List DiskCall) (call : DiskCall) (present present' : World) → first' ≡ first → calls' ≡ call ∷ calls
     → present ≡ read_after first calls → present' ≡ read_after first' calls' → present' ≡ after_call call present
 read_more first first' calls calls' call present present' one two is is' =
-    is' ∙ ap (λ (f : World). read_after f calls') one ∙ ap (λ (l : List Call). read_after first l) two ∙ ap (λ (p : World). after_call call p) (sym is)
+    is' ∙ ap (λ (f : World). read_after f calls') one ∙ ap (λ (l : List DiskCall). read_after first l) two ∙ ap (λ (p : World). after_call call p) (sym is)
 
 -- a record to which a call was added leaves whatever a stop may make of the call
-pub told_any : (first first' : World) (calls calls' : List Call) (call : Call) (present : World)
+pub told_any : (first first' : World) (calls calls' : List DiskCall) (call : DiskCall) (present : World)
     → first' ≡ first → calls' ≡ call ∷ calls → present ≡ read_after first calls
     → (before after : World) → LeftAfter first calls before → MayMake call present before after → LeftAfter first' calls' after
 told_any first first' calls calls' call present one two is before after left makes =
     subst (λ (f : World). LeftAfter f calls' after) (sym one)
-    (subst (λ (l : List Call). LeftAfter first l after) (sym two)
+    (subst (λ (l : List DiskCall). LeftAfter first l after) (sym two)
     (before, left, subst (λ (read : World). MayMake call read before after) is makes))

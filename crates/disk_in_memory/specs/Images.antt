@@ -8,9 +8,9 @@ use Rattle.outside.specs.World.{World, overwritten, with_bytes, with_file}
 use Rattle.outside.proofs.WorldLemmas.{KeepsOthers-with_file, with_file-at}
 use Rattle.outside.proofs.OverwriteLemmas.{get_or-overwritten_before, get_or-overwritten_behind, length-overwritten}
 use Rattle.disk_in_memory.specs.Calls.{LeftAfter, LeftSince, MayMake, after_call, read_after}
-use Rattle.disk.specs.Steps.{ChangesFile, CutShort, CutsShort, IsOutside, Shortened, Shortens, TearsRange, Torn}
-use Rattle.disk_in_memory.specs.declared.call.Call.{Call}
-use Rattle.disk_in_memory.specs.declared.call.Call.TheVariants.{Write, Create, Cut, Sync, Rename}
+use Rattle.disk.specs.DiskCalls.{ChangesFile, CutShort, CutsShort, IsOutside, Shortened, Shortens, TearsRange, Torn}
+use Rattle.disk_in_memory.specs.declared.disk_call.DiskCall.{DiskCall}
+use Rattle.disk_in_memory.specs.declared.disk_call.DiskCall.TheVariants.{Write, Create, Cut, Sync, Rename}
 
 -- bytes that are written tear no more than their range
 torn-written : (old : Option (List ℕ)) (at len : ℕ) (bytes : List ℕ) → length bytes ≤ len → Torn (IsOutside at len) old (Some (overwritten (unwrap_or old []) at bytes))
@@ -63,7 +63,7 @@ pub cuts-nothing : (files : World) (name : List ℕ) (len : ℕ) → CutsShort n
 cuts-nothing files name len = (cut_short-stays len (files name), λ other differ. refl)
 
 -- a call that is done makes what a stop may make of it
-pub done : (call : Call) (read : World) → MayMake call read read (after_call call read)
+pub done : (call : DiskCall) (read : World) → MayMake call read read (after_call call read)
 done (Write writing) read = tears-written read (string_bytes writing.name) writing.at (length writing.bytes.items) writing.bytes.items (omega arith)
 done (Create name) read = changes_file-with (CutShort 0) read (string_bytes name) (Some []) (cut_short-empty (read (string_bytes name)))
 done (Cut name len) read = changes_file-with (Shortened len) read (string_bytes name) (option_map (take len) (read (string_bytes name))) (shortened-cut len (read (string_bytes name)))
@@ -71,21 +71,21 @@ done (Sync name) read = (refl, refl)
 done (Rename renaming) read = refl
 
 -- what is read is an image
-pub read-left : (first : World) (calls : List Call) → LeftAfter first calls (read_after first calls)
+pub read-left : (first : World) (calls : List DiskCall) → LeftAfter first calls (read_after first calls)
 read-left first [] = refl
 read-left first (call ∷ earlier) = (read_after first earlier, read-left first earlier, done call (read_after first earlier))
 
 -- a stop after all the calls leaves an image
-now-left : (first : World) (calls : List Call) (image : World) → LeftSince first calls (length calls) image → LeftAfter first calls image
+now-left : (first : World) (calls : List DiskCall) (image : World) → LeftSince first calls (length calls) image → LeftAfter first calls image
 now-left first [] image is = is
 now-left first (call ∷ earlier) image (inl is) = is
 now-left first (call ∷ earlier) image (inr later) = absurd (omega (arith, later.0))
 
 -- each image may be left by a stop after all the calls, as after fewer
-pub left-since : (first : World) (calls : List Call) (moment : ℕ) (image : World) → LeftAfter first calls image → LeftSince first calls moment image
+pub left-since : (first : World) (calls : List DiskCall) (moment : ℕ) (image : World) → LeftAfter first calls image → LeftSince first calls moment image
 left-since first [] moment image is = is
 left-since first (call ∷ earlier) moment image is = inl is
 
 -- what a stop after all the calls may leave are the images
-pub present-left : (first : World) (calls : List Call) (image : World) → LeftSince first calls (length calls) image ↔ LeftAfter first calls image
+pub present-left : (first : World) (calls : List DiskCall) (image : World) → LeftSince first calls (length calls) image ↔ LeftAfter first calls image
 present-left first calls image = (now-left first calls image, left-since first calls (length calls) image)

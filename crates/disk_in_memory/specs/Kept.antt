@@ -5,22 +5,22 @@ use Rattle.std.proofs.lemmas.Bool.{cases_Bool, true≢false}
 use Rattle.std.specs.Option.{option_map, option_map_or}
 use Rattle.std.specs.Str.{bytes_eq}
 use Rattle.std.specs.String.{string_bytes}
-use Rattle.outside.specs.Unsynced.{AddsNone, Names, with_handed, with_name}
+use Rattle.outside.specs.Unsynced.{AddsNone, UnsyncedNames, with_handed, with_name}
 use Rattle.outside.specs.World.{KeepsOthers, World, with_file, with_new_name}
 use Rattle.outside.proofs.UnsyncedLemmas.{with_name-at, with_name-others}
 use Rattle.outside.proofs.WorldLemmas.{KeepsOthers-with_file, bytes_eq-same, bytes_eq-true, with_file-at, with_new_name-others}
 use Rattle.disk_in_memory.specs.Calls.{LeftAfter, MayMake, after_call, read_after}
 use Rattle.disk_in_memory.specs.Images.{done}
 use Rattle.disk_in_memory.specs.Unsynced.{handed_where, unsynced_after, unsynced_by}
-use Rattle.disk_in_memory.specs.declared.call.Call.{Call}
-use Rattle.disk_in_memory.specs.declared.call.Call.TheVariants.{Write, Create, Cut, Sync, Rename}
+use Rattle.disk_in_memory.specs.declared.disk_call.DiskCall.{DiskCall}
+use Rattle.disk_in_memory.specs.declared.disk_call.DiskCall.TheVariants.{Write, Create, Cut, Sync, Rename}
 
 -- where no file is read, none was there
 abbrev NoneBefore : (read old : World) → Type 0
 NoneBefore read old = (name : List ℕ) → read name ≡ None → old name ≡ None
 
 -- the files of names that are not unsynced were there as they are read
-abbrev KeptBefore : Names → (read old : World) → Type 0
+abbrev KeptBefore : UnsyncedNames → (read old : World) → Type 0
 KeptBefore names read old = (name : List ℕ) → names name ≡ false → old name ≡ read name
 
 -- two names are the same or not
@@ -103,7 +103,7 @@ none_renamed from to name read old differ before none =
     ]
 
 -- the same of each call
-none_called : (call : Call) (read old new : World) (name : List ℕ) → NoneBefore read old → MayMake call read old new → after_call call read name ≡ None → new name ≡ None
+none_called : (call : DiskCall) (read old new : World) (name : List ℕ) → NoneBefore read old → MayMake call read old new → after_call call read name ≡ None → new name ≡ None
 none_called (Write writing) read old new name before makes none =
     none_changed (string_bytes writing.name) name read (after_call (Write writing) read) old new before (done (Write writing) read).1 makes.1
     (λ is. absurd (made_not_none read (string_bytes writing.name) _ is)) none
@@ -120,13 +120,13 @@ none_called (Rename renaming) read old new name before makes none =
     ∙ none_renamed (string_bytes renaming.from) (string_bytes renaming.to) name read old renaming.differ before none
 
 -- a name that has no file as it is read has none in any image
-none-left : (first : World) (calls : List Call) (image : World) → LeftAfter first calls image → NoneBefore (read_after first calls) image
+none-left : (first : World) (calls : List DiskCall) (image : World) → LeftAfter first calls image → NoneBefore (read_after first calls) image
 none-left first [] image is name none = ap (λ (f : World). f name) is ∙ none
 none-left first (call ∷ earlier) image left name none =
     none_called call (read_after first earlier) left.0 image name (none-left first earlier left.0 left.1) left.2 none
 
 -- a change of one name's file, which is unsynced then, keeps the files of the others
-kept_changed : (at name : List ℕ) (names : Names) (read after old new : World) → KeptBefore names read old → KeepsOthers at read after → KeepsOthers at old new
+kept_changed : (at name : List ℕ) (names : UnsyncedNames) (read after old new : World) → KeptBefore names read old → KeepsOthers at read after → KeepsOthers at old new
     → with_name names at true name ≡ false → new name ≡ after name
 kept_changed at name names read after old new kept one two off =
     elim (same_or name at) [
@@ -135,7 +135,7 @@ kept_changed at name names read after old new kept one two off =
     ]
 
 -- a rename keeps the files that are not unsynced then
-kept_renamed : (from to name : List ℕ) (names : Names) (read old : World) → from ≢ to → NoneBefore read old → KeptBefore names read old
+kept_renamed : (from to name : List ℕ) (names : UnsyncedNames) (read old : World) → from ≢ to → NoneBefore read old → KeptBefore names read old
     → handed_where (is_some (read from)) names from to name ≡ false → with_new_name old from to name ≡ with_new_name read from to name
 kept_renamed from to name names read old differ before kept off =
     elim (there_or (read from)) [
@@ -168,7 +168,7 @@ kept_renamed from to name names read old differ before kept off =
     ]
 
 -- each call keeps the files that are not unsynced then
-kept_called : (call : Call) (names : Names) (read old new : World) (name : List ℕ) → NoneBefore read old → KeptBefore names read old → MayMake call read old new
+kept_called : (call : DiskCall) (names : UnsyncedNames) (read old new : World) (name : List ℕ) → NoneBefore read old → KeptBefore names read old → MayMake call read old new
     → unsynced_by call read names name ≡ false → new name ≡ after_call call read name
 kept_called (Write writing) names read old new name before kept makes off =
     kept_changed (string_bytes writing.name) name names read (after_call (Write writing) read) old new kept (done (Write writing) read).1 makes.1 off
@@ -186,14 +186,14 @@ kept_called (Rename renaming) names read old new name before kept makes off =
     ∙ kept_renamed (string_bytes renaming.from) (string_bytes renaming.to) name names read old renaming.differ before kept off
 
 -- the file of a name that is not unsynced is in each image as it is read
-kept-left : (first : World) (calls : List Call) (image : World) → LeftAfter first calls image → KeptBefore (unsynced_after first calls) (read_after first calls) image
+kept-left : (first : World) (calls : List DiskCall) (image : World) → LeftAfter first calls image → KeptBefore (unsynced_after first calls) (read_after first calls) image
 kept-left first [] image is name off = ap (λ (f : World). f name) is
 kept-left first (call ∷ earlier) image left name off =
     kept_called call (unsynced_after first earlier) (read_after first earlier) left.0 image name (none-left first earlier left.0 left.1)
     (kept-left first earlier left.0 left.1) left.2 off
 
 -- the same of a name that is not among names that name all that are unsynced
-pub named-left : (first : World) (calls : List Call) (names : Names) (image : World) (name : List ℕ) → AddsNone names (unsynced_after first calls)
+pub named-left : (first : World) (calls : List DiskCall) (names : UnsyncedNames) (image : World) (name : List ℕ) → AddsNone names (unsynced_after first calls)
     → LeftAfter first calls image → names name ≡ false → image name ≡ read_after first calls name
 named-left first calls names image name named left off =
     elim (cases_Bool (unsynced_after first calls name)) [

@@ -4,7 +4,7 @@ use Rattle.outside.specs.Count.{counted}
 use Rattle.std.proofs.Common.{sym, ap, subst, ◌∙◌}
 use Rattle.outside.specs.World.{World}
 use Rattle.disk_in_memory.specs.Calls.{LeftAfter, half_left}
-use Rattle.disk.specs.DiskSeen.{DiskSeen, IsKept}
+use Rattle.disk.specs.DiskSeen.{DiskSeen, IsDurable}
 use Rattle.disk_in_memory.specs.Images.{read-left}
 use Rattle.disk_in_memory.specs.Kept.{named-left}
 use Rattle.disk_in_memory.specs.Told.{calls_of, first_of, names_of, told_of}
@@ -45,7 +45,7 @@ read_is_left disk =
     (read-left (first_of disk.recorded) (calls_of disk.recorded))
 
 -- a stop leaves the file of each name that is not unsynced as it is read
-pub synced_is_left : (disk : MemDisk) (name : List ℕ) → (mem_disk_seen disk).unsynced name ≡ false → IsKept name (mem_disk_seen disk)
+pub synced_is_left : (disk : MemDisk) (name : List ℕ) → (mem_disk_seen disk).unsynced name ≡ false → IsDurable name (mem_disk_seen disk)
 synced_is_left disk name synced image left =
     named-left (first_of disk.recorded) (calls_of disk.recorded) (names_of disk.recorded) image name disk.recorded.named left synced
     ∙ sym (ap (λ (files : World). files name) disk.recorded.replayed)

@@ -4,7 +4,7 @@
 //! The one promise: it does what every disk does and tells it, and whatever a stop may make of a call is told of it.
 #![tactic(auto)]
 
-mod call;
+mod disk_call;
 mod mem_disk;
 mod recorded;
 

@@ -1,9 +1,9 @@
 ghost use Rattle.std.specs.Prelude.{◌≡◌, ◌≢◌, ◌≤◌, ◌^◌, ◌↔◌, [], None, Some, length, take, drop, true, false, IsErr, IsSome, IsTrue, IfOk, OnOk, OnErr, is_ok};
 ghost use Rattle.std.specs.Option.{option_map};
-ghost use Rattle.disk.specs.DiskSeen.{ChangesNothing, Follows, IsKept, TakesStep};
+ghost use Rattle.disk.specs.DiskSeen.{ChangesNothing, DiskFollows, IsDurable, TakesStep};
 ghost use Rattle.disk.specs.DiskLaws.{AllowsStep, IsFresh};
 ghost use Rattle.disk_in_memory.specs.MemDisk.{HasStopped, IsToFail, half_left_of, mem_disk_plan, mem_disk_seen};
-ghost use Rattle.disk.specs.Steps.{CutsShort, IsRenamed, MayBeRenamed, Shortens, TearsRange, with_cut};
+ghost use Rattle.disk.specs.DiskCalls.{CutsShort, IsRenamed, MayBeRenamed, Shortens, TearsRange, with_cut};
 ghost use Rattle.memory_objects.specs.MemStore.{HaveDistinctNames, file_named};
 ghost use Rattle.outside.specs.Count.{Rose, counted};
 ghost use Rattle.outside.specs.Unsynced.{AddsNone, with_handed, with_name};
@@ -249,7 +249,7 @@ impl Disk for MemDisk {
         ensures planned { IsToFail (mem_disk_plan self.old) → IsErr result }
         ensures plan { mem_disk_plan self.new
             ≡ record (mem_disk_plan self.old) { calls = counted (mem_disk_plan self.old).calls } }
-        ensures kept { OnOk result (IsKept name.now (mem_disk_seen self.new)) }
+        ensures kept { OnOk result (IsDurable name.now (mem_disk_seen self.new)) }
         ensures unsynced { OnOk result ((mem_disk_seen self.new).unsynced
             ≡ with_name (mem_disk_seen self.old).unsynced name.now false) }
         ensures none { OnOk result (AddsNone (mem_disk_seen self.old).unsynced (mem_disk_seen self.new).unsynced) }
@@ -272,7 +272,7 @@ impl Disk for MemDisk {
             ≡ record (mem_disk_plan self.old) { calls = counted (mem_disk_plan self.old).calls } }
         ensures ok { OnOk result ((mem_disk_seen self.new).files
             ≡ with_new_name (mem_disk_seen self.old).files from.now to.now) }
-        ensures done { OnOk result (Follows (IsRenamed from.now to.now) (mem_disk_seen self.old) (mem_disk_seen self.new)) }
+        ensures done { OnOk result (DiskFollows (IsRenamed from.now to.now) (mem_disk_seen self.old) (mem_disk_seen self.new)) }
         ensures unsynced { OnOk result (IsSome ((mem_disk_seen self.old).files from.now)
             → (mem_disk_seen self.new).unsynced ≡ with_handed (mem_disk_seen self.old).unsynced from.now to.now) }
         ensures absent { OnOk result ((mem_disk_seen self.old).files from.now ≡ None

@@ -1,17 +1,17 @@
 ghost use Rattle.std.specs.Prelude.{◌≡◌, ◌≢◌, ◌+◌, ◌<◌, ◌≤◌, ◌^◌, ◌∷◌, ℕ, List, [], None, Some, length, reverse, true, false, is_some, IfOk, IsSome, OnOk, OnErr};
 ghost use Rattle.std.specs.Option.{option_copied};
 ghost use Rattle.disk_in_memory.specs.Calls.{MayMake, after_call, half_left, read_after};
-ghost use Rattle.disk.specs.DiskSeen.{ChangesNothing, Follows, IsKept, TakesStep};
+ghost use Rattle.disk.specs.DiskSeen.{ChangesNothing, DiskFollows, IsDurable, TakesStep};
 ghost use Rattle.disk.specs.DiskLaws.{AllowsStep};
 ghost use Rattle.disk_in_memory.specs.Recorded.{first_named};
 ghost use Rattle.disk_in_memory.specs.Unsynced.{handed_where, unsynced_after, unsynced_by};
-ghost use Rattle.disk.specs.Steps.{CutsShort, IsRenamed, MayBeRenamed, Shortens, TearsRange, with_cut};
+ghost use Rattle.disk.specs.DiskCalls.{CutsShort, IsRenamed, MayBeRenamed, Shortens, TearsRange, with_cut};
 ghost use Rattle.memory_objects.specs.MemStore.{file_named};
 ghost use Rattle.memory_objects.specs.NameSet.{names_in};
-ghost use Rattle.outside.specs.Unsynced.{AddsNone, Names, with_handed, with_name};
+ghost use Rattle.outside.specs.Unsynced.{AddsNone, UnsyncedNames, with_handed, with_name};
 ghost use Rattle.outside.specs.World.{World, KeepsOtherTwo, KeepsOthers, with_bytes, with_file, with_new_name};
 
-use crate::call::Call;
+use crate::disk_call::DiskCall;
 use memory_objects::{NameSet, NamedFiles};
 use std::alloc::{AllocError, Global};
 
@@ -21,7 +21,7 @@ pub(crate) struct RecordedFiles {
     /// The files before the first call, once there was one.
     first: Option<NamedFiles>,
     files: NamedFiles,
-    calls: Vec<Call>,
+    calls: Vec<DiskCall>,
     /// The names that are unsynced, and, while a call is made that may fail, further ones.
     unsynced: NameSet,
     ghost replayed: { file_named files.entries.items ≡ read_after (first_named first files.entries.items) (reverse calls.items) },
@@ -71,7 +71,7 @@ impl RecordedFiles {
         ensures leaves { (failed later : ℕ) → failed ≤ later
             → TakesStep (TearsRange name.now at (length bytes.now)) (told_of self.old failed) (told_of self.new later) }
     {
-        let call = Call::write(self.allocator(), name, at, bytes)?;
+        let call = DiskCall::write(self.allocator(), name, at, bytes)?;
         self.change(name, call)?;
         Ok(())
     }
@@ -88,7 +88,7 @@ impl RecordedFiles {
         ensures leaves { (failed later : ℕ) → failed ≤ later
             → TakesStep (CutsShort name.now 0) (told_of self.old failed) (told_of self.new later) }
     {
-        let call = Call::create(self.allocator(), name)?;
+        let call = DiskCall::create(self.allocator(), name)?;
         self.change(name, call)?;
         Ok(())
     }
@@ -105,14 +105,14 @@ impl RecordedFiles {
         ensures leaves { (failed later : ℕ) → failed ≤ later
             → TakesStep (Shortens name.now len) (told_of self.old failed) (told_of self.new later) }
     {
-        let call = Call::cut(self.allocator(), name, len)?;
+        let call = DiskCall::cut(self.allocator(), name, len)?;
         self.change(name, call)?;
         Ok(())
     }
 
     /// Waits for a file.
     pub(crate) fn sync(&mut self, name: &str) -> Result<(), AllocError>
-        ensures kept { OnOk result ((failed : ℕ) → IsKept name.now (told_of self.new failed)) }
+        ensures kept { OnOk result ((failed : ℕ) → IsDurable name.now (told_of self.new failed)) }
         ensures unsynced { OnOk result (names_of self.new ≡ with_name (names_of self.old) name.now false) }
         ensures none { OnOk result (AddsNone (names_of self.old) (names_of self.new)) }
         ensures any { OnOk result ((failed later : ℕ)
@@ -121,7 +121,7 @@ impl RecordedFiles {
         ensures leaves { (failed later : ℕ) → failed ≤ later
             → ChangesNothing (told_of self.old failed) (told_of self.new later) }
     {
-        let call = Call::sync(self.allocator(), name)?;
+        let call = DiskCall::sync(self.allocator(), name)?;
         self.make(call)?;
         self.unsynced.remove(name);
         Ok(())
@@ -132,7 +132,7 @@ impl RecordedFiles {
         requires { from.now ≢ to.now }
         ensures ok { OnOk result (present_of self.new ≡ with_new_name (present_of self.old) from.now to.now) }
         ensures done { OnOk result ((failed later : ℕ) → failed ≤ later
-            → Follows (IsRenamed from.now to.now) (told_of self.old failed) (told_of self.new later)) }
+            → DiskFollows (IsRenamed from.now to.now) (told_of self.old failed) (told_of self.new later)) }
         ensures unsynced { OnOk result (IsSome (present_of self.old from.now)
             → names_of self.new ≡ with_handed (names_of self.old) from.now to.now) }
         ensures absent { OnOk result (present_of self.old from.now ≡ None
@@ -145,16 +145,16 @@ impl RecordedFiles {
         ensures leaves { (failed later : ℕ) → failed ≤ later
             → TakesStep (MayBeRenamed from.now to.now) (told_of self.old failed) (told_of self.new later) }
     {
-        let call = Call::rename(self.allocator(), from, to)?;
+        let call = DiskCall::rename(self.allocator(), from, to)?;
         self.hand_over(call, from, to)?;
         Ok(())
     }
 
     /// Makes a call that gives a file another name, which is unsynced then where the old one was. Until the call is made the
     /// old name stays among the unsynced ones, and the new one stands there too where it may be one of them.
-    fn hand_over(&mut self, call: Call, from: &str, to: &str) -> Result<(), AllocError>
+    fn hand_over(&mut self, call: DiskCall, from: &str, to: &str) -> Result<(), AllocError>
         requires differ { from.now ≢ to.now }
-        requires hands { (read : World) (names : Names) → unsynced_by call read names
+        requires hands { (read : World) (names : UnsyncedNames) → unsynced_by call read names
             ≡ handed_where (is_some (read from.now)) names from.now to.now }
         ensures ok { OnOk result ((failed later : ℕ) → failed ≤ later
             → TakesStep (MayMake call (present_of self.old)) (told_of self.old failed) (told_of self.new later)) }
@@ -179,9 +179,9 @@ impl RecordedFiles {
     }
 
     /// Makes a call that gives another name to a file that is not there.
-    fn hand_none(&mut self, call: Call, from: &str, to: &str) -> Result<(), AllocError>
+    fn hand_none(&mut self, call: DiskCall, from: &str, to: &str) -> Result<(), AllocError>
         requires absent { present_of self.old from.now ≡ None }
-        requires hands { (read : World) (names : Names) → unsynced_by call read names
+        requires hands { (read : World) (names : UnsyncedNames) → unsynced_by call read names
             ≡ handed_where (is_some (read from.now)) names from.now to.now }
         ensures ok { OnOk result ((failed later : ℕ) → failed ≤ later
             → TakesStep (MayMake call (present_of self.old)) (told_of self.old failed) (told_of self.new later)) }
@@ -197,11 +197,11 @@ impl RecordedFiles {
     }
 
     /// Makes a call that gives another name to a file whose name is unsynced.
-    fn hand_unsynced(&mut self, call: Call, from: &str, to: &str) -> Result<(), AllocError>
+    fn hand_unsynced(&mut self, call: DiskCall, from: &str, to: &str) -> Result<(), AllocError>
         requires differ { from.now ≢ to.now }
         requires there { IsSome (present_of self.old from.now) }
         requires is { names_of self.old from.now ≡ true }
-        requires hands { (read : World) (names : Names) → unsynced_by call read names
+        requires hands { (read : World) (names : UnsyncedNames) → unsynced_by call read names
             ≡ handed_where (is_some (read from.now)) names from.now to.now }
         ensures ok { OnOk result ((failed later : ℕ) → failed ≤ later
             → TakesStep (MayMake call (present_of self.old)) (told_of self.old failed) (told_of self.new later)) }
@@ -220,11 +220,11 @@ impl RecordedFiles {
     }
 
     /// Makes a call that gives another name to a file whose name is synced.
-    fn hand_synced(&mut self, call: Call, from: &str, to: &str) -> Result<(), AllocError>
+    fn hand_synced(&mut self, call: DiskCall, from: &str, to: &str) -> Result<(), AllocError>
         requires differ { from.now ≢ to.now }
         requires there { IsSome (present_of self.old from.now) }
         requires is { names_of self.old from.now ≡ false }
-        requires hands { (read : World) (names : Names) → unsynced_by call read names
+        requires hands { (read : World) (names : UnsyncedNames) → unsynced_by call read names
             ≡ handed_where (is_some (read from.now)) names from.now to.now }
         ensures ok { OnOk result ((failed later : ℕ) → failed ≤ later
             → TakesStep (MayMake call (present_of self.old)) (told_of self.old failed) (told_of self.new later)) }
@@ -243,8 +243,8 @@ impl RecordedFiles {
     }
 
     /// Makes a call that changes one file, whose name is unsynced then.
-    fn change(&mut self, name: &str, call: Call) -> Result<(), AllocError>
-        requires { (read : World) (names : Names) → unsynced_by call read names ≡ with_name names name.now true }
+    fn change(&mut self, name: &str, call: DiskCall) -> Result<(), AllocError>
+        requires { (read : World) (names : UnsyncedNames) → unsynced_by call read names ≡ with_name names name.now true }
         ensures ok { OnOk result ((failed later : ℕ) → failed ≤ later
             → TakesStep (MayMake call (present_of self.old)) (told_of self.old failed) (told_of self.new later)) }
         ensures files { OnOk result (present_of self.new ≡ after_call call (present_of self.old)) }
@@ -261,16 +261,16 @@ impl RecordedFiles {
     }
 
     /// Makes a call, and keeps it in the record. The names that it leaves unsynced stand among the unsynced ones already.
-    fn make(&mut self, call: Call) -> Result<(), AllocError>
+    fn make(&mut self, call: DiskCall) -> Result<(), AllocError>
         requires { AddsNone (names_of self.old) (unsynced_by call (present_of self.old) (left_unsynced self.old)) }
         ensures left { OnOk result (left_unsynced self.new ≡ unsynced_by call (present_of self.old) (left_unsynced self.old)) }
         ensures stays { OnErr result (left_unsynced self.new ≡ left_unsynced self.old) }
-        ensures ok { OnOk result ((names now : Names) (failed later : ℕ) → failed ≤ later
+        ensures ok { OnOk result ((names now : UnsyncedNames) (failed later : ℕ) → failed ≤ later
             → TakesStep (MayMake call (present_of self.old)) (told_with self.old names failed) (told_with self.new now later)) }
         ensures files { OnOk result (present_of self.new ≡ after_call call (present_of self.old)) }
         ensures any { OnOk result ((failed later : ℕ)
             → AllowsStep (MayMake call (present_of self.old)) (told_of self.old failed) (told_of self.new later)) }
-        ensures err { OnErr result ((names now : Names) (failed later : ℕ) → failed ≤ later
+        ensures err { OnErr result ((names now : UnsyncedNames) (failed later : ℕ) → failed ≤ later
             → ChangesNothing (told_with self.old names failed) (told_with self.new now later)) }
         ensures unsynced { self.new.unsynced ≡ self.old.unsynced }
     {
@@ -278,7 +278,7 @@ impl RecordedFiles {
     }
 
     /// Makes a call, and adds it to the record.
-    fn add(&mut self, call: Call) -> Result<(), AllocError>
+    fn add(&mut self, call: DiskCall) -> Result<(), AllocError>
         requires { AddsNone (names_of self.old) (unsynced_by call (present_of self.old) (left_unsynced self.old)) }
         ensures first { first_of self.new ≡ first_of self.old }
         ensures ok { OnOk result (calls_of self.new ≡ call ∷ calls_of self.old) }
@@ -322,7 +322,7 @@ impl RecordedFiles {
 fn make_halves(
     read: &mut NamedFiles,
     left: &mut NamedFiles,
-    calls: &[Call],
+    calls: &[DiskCall],
 ) -> Result<(), AllocError>
     requires { file_named left.old.entries.items ≡ file_named read.old.entries.items }
     ensures { OnOk result (file_named left.new.entries.items ≡ half_left (file_named read.old.entries.items) (reverse calls.now)) }

@@ -10,7 +10,7 @@ use Rattle.quota_map.specs.AnyFile.{any_seen}
 use Rattle.quota_map.specs.View.{fresh_seen}
 use Rattle.quota_map.specs.declared.any_file.AnyFile.{AnyFile}
 use Rattle.set_edit.specs.Editing.{Edit}
-use Rattle.set_edit.specs.declared.fault.EditFault.{EditFault}
+use Rattle.set_edit.specs.declared.edit_fault.EditFault.{EditFault}
 use Rattle.run_steps.specs.Carrying.{EditsAlone}
 use Rattle.edit_steps.proofs.EditFileLemmas.{AnyEdits, few_writes}
 use Rattle.edit_steps.proofs.AloneLemmas.{others-read}

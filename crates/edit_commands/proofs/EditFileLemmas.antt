@@ -17,8 +17,8 @@ use Rattle.quota_map.specs.View.{fresh_seen}
 use Rattle.set_edit.specs.Edited.{with_kept}
 use Rattle.set_edit.specs.Editing.{Edit}
 use Rattle.set_edit.specs.Times.{skips_both_of, wanted_times}
-use Rattle.set_edit.specs.declared.fault.EditFault.{EditFault}
-use Rattle.set_edit.specs.declared.fault.EditFault.TheVariants.{File, NoRoom as Unfit}
+use Rattle.set_edit.specs.declared.edit_fault.EditFault.{EditFault}
+use Rattle.set_edit.specs.declared.edit_fault.EditFault.TheVariants.{File, NoRoom as Unfit}
 use Rattle.edit_commands.specs.declared.edit.FileEdit.{FileEdit}
 use Rattle.edit_commands.specs.declared.edit.FileEdit.TheVariants.{Limits, Copy, Grace as Periods, Times}
 use Rattle.set_edit.specs.declared.skipped.Skipped.{Skipped}

@@ -35,8 +35,8 @@ use Rattle.edit_commands.specs.Apply.{ApplySteps, FormSteps, form_outcome, form_
 use Rattle.edit_commands.specs.Edits.{EditSteps, FileEditSteps, said_acts, warnings}
 use Rattle.edit_steps.specs.EditStep.{changed, is_too_large}
 use Rattle.edit_commands.specs.EditWords.{edit_meant, edit_read, names_wanted, skipped_by}
-use Rattle.edit_steps.specs.Room.{IsFullFor}
-use Rattle.edit_commands.specs.Room.{IsFullForForm, IsFullForWords}
+use Rattle.edit_steps.specs.Fits.{IsFullFor}
+use Rattle.edit_commands.specs.FullForEdit.{IsFullForForm, IsFullForWords}
 use Rattle.edit_commands.specs.declared.edit.EditWords.{EditWords}
 use Rattle.edit_commands.specs.declared.edit.FileEdit.{FileEdit}
 use Rattle.edit_commands.specs.declared.edit.FileEdit.TheVariants.{Limits}

@@ -28,7 +28,7 @@ use Rattle.edit_commands.specs.declared.edit.FileEdit.TheVariants.{Limits}
 use Rattle.edit_commands.specs.Apply.{ApplySteps, FormSteps, form_step}
 use Rattle.edit_commands.specs.Edits.{EditSteps, FileEditSteps, said_acts, warnings}
 use Rattle.edit_steps.specs.EditStep.{edit_step}
-use Rattle.edit_steps.specs.Room.{Fits}
+use Rattle.edit_steps.specs.Fits.{Fits}
 use Rattle.edit_commands.specs.EditWords.{edit_meant, edit_read, names_wanted, skipped_by}
 use Rattle.edit_commands.specs.Print.{PrintSteps, form_on}
 use Rattle.edit_commands.proofs.EditLemmas.{Saying}

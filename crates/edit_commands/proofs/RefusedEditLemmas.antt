@@ -3,7 +3,7 @@ use Rattle.std.proofs.Common.{◌≡◌, ℕ, Bool, IsTrue, List, [], ◌++◌, 
 use Rattle.quota_value.specs.QuotaValue.{QuotaValue}
 use Rattle.outside.specs.Seen.{StoreSeen}
 use Rattle.set_edit.specs.Editing.{Edit}
-use Rattle.set_edit.specs.declared.fault.EditFault.{EditFault}
+use Rattle.set_edit.specs.declared.edit_fault.EditFault.{EditFault}
 use Rattle.refusals.specs.declared.cause.Cause.{Cause}
 use Rattle.refusals.specs.Outcome.{Outcome}
 use Rattle.refusals.specs.Refusals.{refusal_of}

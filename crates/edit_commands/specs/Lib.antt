@@ -4,4 +4,4 @@ pub mod Edits
 pub mod EditsInPart
 pub mod Made
 pub mod Print
-pub mod Room
+pub mod FullForEdit

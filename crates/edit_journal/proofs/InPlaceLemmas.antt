@@ -3,13 +3,13 @@ use Rattle.std.proofs.Common.{◌≡◌, ◌↔◌, IsTrue, inl, inr, ℕ, zero,
 use Rattle.std.specs.Prelude.{nat_eq, nat_le}
 use Rattle.std.proofs.lemmas.Bool.{cases_eq, cases_lt, cond-false, false_from_ne_true, false≢true, leb-true}
 use Rattle.outside.specs.World.{World}
-use Rattle.disk.specs.Steps.{IsOutside, Torn}
+use Rattle.disk.specs.DiskCalls.{IsOutside, Torn}
 use Rattle.quota_types.specs.Bytes.{byte_at, number_at}
 use Rattle.quota_types.proofs.BytesLemmas.{number_same}
-use Rattle.edit_journal.specs.Spans.{Span, laid}
-use Rattle.edit_journal.specs.Undo.{bytes_at, is_usable, range_at, recovered, saved_span, saved_spans, spans_fit}
+use Rattle.edit_journal.specs.ByteRanges.{ByteRange, laid}
+use Rattle.edit_journal.specs.Undo.{bytes_at, is_usable, range_at, recovered, saved_range, saved_ranges, ranges_fit}
 use Rattle.edit_journal.specs.UndoSaves.{HoldsItsRanges}
-use Rattle.edit_journal.proofs.RecoveredLemmas.{recovered-closed}
+use Rattle.edit_journal.proofs.RecoveryResultLemmas.{recovered-closed}
 use Rattle.edit_journal.proofs.SavedLemmas.{bytes_at-same}
 
 -- whether an undo file holds its ranges, by its length and whether they end within that
@@ -39,11 +39,11 @@ SameBehind undo new = (p : ℕ) → 1 ≤ p → p < length undo → byte_at new 
 number-behind : (width at : ℕ) (undo new : List ℕ) → SameBehind undo new → 1 ≤ at → at + width ≤ length undo → number_at width new at ≡ number_at width undo at
 number-behind width at undo new same behind within = number_same width at new undo (λ p from to. same p (omega (arith, from, behind)) (omega (arith, to, within)))
 
-abbrev span_by : ℕ → List ℕ → Span
+abbrev span_by : ℕ → List ℕ → ByteRange
 span_by at bytes = record { at = at; bytes = bytes }
 
 -- a saved range that ends within its undo file
-span-behind : (undo new : List ℕ) (k : ℕ) → SameBehind undo new → range_at k + 16 + number_at 2 undo (range_at k + 8) ≤ length undo → saved_span new k ≡ saved_span undo k
+span-behind : (undo new : List ℕ) (k : ℕ) → SameBehind undo new → range_at k + 16 + number_at 2 undo (range_at k + 8) ≤ length undo → saved_range new k ≡ saved_range undo k
 span-behind undo new k same within =
     let many : ℕ = number_at 2 undo (range_at k + 8) in
     let place = number-behind 8 (range_at k) undo new same (omega arith) (omega (arith, within)) in
@@ -54,16 +54,16 @@ span-behind undo new k same within =
     ∙ ap (λ (l : List ℕ). span_by (number_at 8 undo (range_at k)) l) bytes
 
 spans-behind : (undo new : List ℕ) (k count : ℕ) → SameBehind undo new
-    → ((i : ℕ) → k ≤ i → i < k + count → range_at i + 16 + number_at 2 undo (range_at i + 8) ≤ length undo) → saved_spans new k count ≡ saved_spans undo k count
+    → ((i : ℕ) → k ≤ i → i < k + count → range_at i + 16 + number_at 2 undo (range_at i + 8) ≤ length undo) → saved_ranges new k count ≡ saved_ranges undo k count
 spans-behind undo new k zero same within = refl
 spans-behind undo new k (suc count) same within =
-    ap (λ (s : Span). s ∷ saved_spans new (suc k) count) (span-behind undo new k same (within k (omega arith) (omega arith)))
-    ∙ ap (λ (s : List Span). saved_span undo k ∷ s) (spans-behind undo new (suc k) count same (λ i from to. within i (omega (arith, from)) (omega (arith, to))))
+    ap (λ (s : ByteRange). s ∷ saved_ranges new (suc k) count) (span-behind undo new k same (within k (omega arith) (omega arith)))
+    ∙ ap (λ (s : List ByteRange). saved_range undo k ∷ s) (spans-behind undo new (suc k) count same (λ i from to. within i (omega (arith, from)) (omega (arith, to))))
 
 -- what a recovery makes of a file, by what it reads of the undo file
-abbrev recovered_by : List ℕ → (gate old_length count : ℕ) → List Span → Option (List ℕ)
+abbrev recovered_by : List ℕ → (gate old_length count : ℕ) → List ByteRange → Option (List ℕ)
 recovered_by file gate old_length count spans =
-    Some (if nat_eq gate 1 && nat_le old_length (length file) && nat_le count 12 && spans_fit old_length spans then take old_length (laid spans file) else file)
+    Some (if nat_eq gate 1 && nat_le old_length (length file) && nat_le count 12 && ranges_fit old_length spans then take old_length (laid spans file) else file)
 
 no_third : (a b d : Bool) → (a && b && false && d) ≡ false
 no_third true true d = refl
@@ -74,7 +74,7 @@ no_third false b d = refl
 unusable-many : (file undo : List ℕ) → 12 < number_at 4 undo 16 → is_usable file undo ≡ false
 unusable-many file undo many =
     let c : nat_le (number_at 4 undo 16) 12 ≡ false = false_from_ne_true _ (λ is. absurd (omega (arith, many, leb-true _ _ is))) in
-    ap (λ (b : Bool). nat_eq (byte_at undo 0) 1 && nat_le (number_at 8 undo 8) (length file) && b && spans_fit (number_at 8 undo 8) (saved_spans undo 0 (number_at 4 undo 16))) c
+    ap (λ (b : Bool). nat_eq (byte_at undo 0) 1 && nat_le (number_at 8 undo 8) (length file) && b && ranges_fit (number_at 8 undo 8) (saved_ranges undo 0 (number_at 4 undo 16))) c
     ∙ no_third (nat_eq (byte_at undo 0) 1) (nat_le (number_at 8 undo 8) (length file)) _
 
 -- where the gate is open, and open still
@@ -86,10 +86,10 @@ recovered-open file undo new was opened holds same itself =
       | inl more ↦ ap (λ (f : List ℕ). Some f) (cond-false _ _ _ (unusable-many file new (omega (arith, more, many))))
       | inr most ↦
           let spans = spans-behind undo new 0 (number_at 4 undo 16) same (λ i from to. holds.within (omega (arith, most)) i (omega (arith, to))) in
-          ap (λ (n : ℕ). recovered_by file n (number_at 8 new 8) (number_at 4 new 16) (saved_spans new 0 (number_at 4 new 16))) (opened ∙ sym was)
-          ∙ ap (λ (n : ℕ). recovered_by file (byte_at undo 0) n (number_at 4 new 16) (saved_spans new 0 (number_at 4 new 16))) long
-          ∙ ap (λ (n : ℕ). recovered_by file (byte_at undo 0) (number_at 8 undo 8) n (saved_spans new 0 n)) many
-          ∙ ap (λ (s : List Span). recovered_by file (byte_at undo 0) (number_at 8 undo 8) (number_at 4 undo 16) s) spans
+          ap (λ (n : ℕ). recovered_by file n (number_at 8 new 8) (number_at 4 new 16) (saved_ranges new 0 (number_at 4 new 16))) (opened ∙ sym was)
+          ∙ ap (λ (n : ℕ). recovered_by file (byte_at undo 0) n (number_at 4 new 16) (saved_ranges new 0 (number_at 4 new 16))) long
+          ∙ ap (λ (n : ℕ). recovered_by file (byte_at undo 0) (number_at 8 undo 8) n (saved_ranges new 0 n)) many
+          ∙ ap (λ (s : List ByteRange). recovered_by file (byte_at undo 0) (number_at 8 undo 8) (number_at 4 undo 16) s) spans
           ∙ itself
     ]
 

@@ -5,8 +5,8 @@ use Rattle.std.proofs.lemmas.List.{drop_all}
 use Rattle.outside.specs.World.{World, overwritten, with_bytes, with_file, with_new_name}
 use Rattle.outside.proofs.FrameLemmas.{keeps_other_two-then}
 use Rattle.outside.proofs.WorldLemmas.{with_file-at, with_new_name-others}
-use Rattle.disk.specs.DiskSeen.{ChangesNothing, DiskSeen, Follows, IsKept, Passes, TakesStep}
-use Rattle.disk.specs.Steps.{ChangesFile, IsRenamed, MayBeRenamed}
+use Rattle.disk.specs.DiskSeen.{ChangesNothing, DiskSeen, DiskFollows, IsDurable, Passes, TakesStep}
+use Rattle.disk.specs.DiskCalls.{ChangesFile, IsRenamed, MayBeRenamed}
 use Rattle.disk.proofs.StopLemmas.{passes-nothing, passes-step, passes-then, passes-wider}
 use Rattle.edit_journal.specs.Recovery.{ClosesGate, IsSame}
 use Rattle.edit_journal.specs.Settled.{MakesUndo}
@@ -64,7 +64,7 @@ module _ (und undo : List ℕ) (apart : und ≢ undo) where
   makes-more a b c first second = passes-then (MakesUndo und undo) a b c makes-then first second
 
   -- the new file takes its name
-  pub makes-name : (a b : DiskSeen) → IsKept und a → a.files und ≡ Some (replicate 1024 0) → TakesStep (MayBeRenamed und undo) a b → Passes (MakesUndo und undo) a b
+  pub makes-name : (a b : DiskSeen) → IsDurable und a → a.files und ≡ Some (replicate 1024 0) → TakesStep (MayBeRenamed und undo) a b → Passes (MakesUndo und undo) a b
   makes-name a b kept is takes = record {
     follows = record { left = by; read = makes-renamed a.files b.files is takes.follows.read };
     later = takes.elapses.later;
@@ -81,7 +81,7 @@ module _ (und undo : List ℕ) (apart : und ≢ undo) where
   named-made a b is named = ap (λ (f : World). f undo) named ∙ new_name-to a.files und undo (replicate 1024 0) is
 
   -- and it is kept
-  pub named-kept : (a b : DiskSeen) → IsKept und a → a.files und ≡ Some (replicate 1024 0) → Follows (IsRenamed und undo) a b → b.files undo ≡ Some (replicate 1024 0) → IsKept undo b
+  pub named-kept : (a b : DiskSeen) → IsDurable und a → a.files und ≡ Some (replicate 1024 0) → DiskFollows (IsRenamed und undo) a b → b.files undo ≡ Some (replicate 1024 0) → IsDurable undo b
   named-kept a b kept is done made image left =
       let from = done.left image left in
       ap (λ (f : World). f undo) from.2 ∙ new_name-to from.0 und undo (replicate 1024 0) (kept from.0 from.1 ∙ is) ∙ sym made

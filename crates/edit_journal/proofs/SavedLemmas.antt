@@ -2,10 +2,10 @@
 use Rattle.std.proofs.Common.{◌≡◌, ℕ, zero, suc, ◌+◌, ◌<◌, ◌≤◌, get_or, refl, List, [], ◌∷◌, ◌++◌, length, ap, ◌∙◌, subst, arith}
 use Rattle.quota_types.specs.Bytes.{byte_at}
 use Rattle.quota_types.proofs.BytesLemmas.{number_same}
-use Rattle.edit_journal.specs.Spans.{Span, laid, with_laid}
+use Rattle.edit_journal.specs.ByteRanges.{ByteRange, laid, with_laid}
 use Rattle.edit_journal.specs.UndoSaves.{IsOutsideAll, saved_bytes, Saves, SavesFrom, SavesOne}
-use Rattle.edit_journal.specs.Undo.{bytes_at, range_at, saved_span, saved_spans}
-use Rattle.edit_journal.proofs.LaidLemmas.{laid_saved, length-saved_most}
+use Rattle.edit_journal.specs.Undo.{bytes_at, range_at, saved_range, saved_ranges}
+use Rattle.edit_journal.proofs.LaidBytesLemmas.{laid_saved, length-saved_most}
 
 pub length-bytes_at : (file : List ℕ) (at count : ℕ) → length (bytes_at file at count) ≡ count
 length-bytes_at file at zero = refl
@@ -32,7 +32,7 @@ saves_one-same old k at len undo new saves longer same = record {
 }
 
 -- saved ranges stay where the bytes up to their end stay
-pub saves_from-same : (old : List ℕ) (k : ℕ) (ranges : List Span) (undo new : List ℕ) → SavesFrom old k ranges undo → length undo ≤ length new
+pub saves_from-same : (old : List ℕ) (k : ℕ) (ranges : List ByteRange) (undo new : List ℕ) → SavesFrom old k ranges undo → length undo ≤ length new
     → ((p : ℕ) → 1024 ≤ p → p < length undo → p < range_at (k + length ranges) → get_or new p 0 ≡ get_or undo p 0) → SavesFrom old k ranges new
 saves_from-same old k [] undo new saves longer same = tt
 saves_from-same old k (range ∷ rest) undo new saves longer same = (
@@ -41,14 +41,14 @@ saves_from-same old k (range ∷ rest) undo new saves longer same = (
 )
 
 -- one saved range more
-pub saves_from-more : (old : List ℕ) (k : ℕ) (ranges : List Span) (range : Span) (undo : List ℕ) → SavesFrom old k ranges undo → SavesOne old (k + length ranges) range.at (length range.bytes) undo → SavesFrom old k (ranges ++ range ∷ []) undo
+pub saves_from-more : (old : List ℕ) (k : ℕ) (ranges : List ByteRange) (range : ByteRange) (undo : List ℕ) → SavesFrom old k ranges undo → SavesOne old (k + length ranges) range.at (length range.bytes) undo → SavesFrom old k (ranges ++ range ∷ []) undo
 saves_from-more old k [] range undo saves one = (let here : k + 0 ≡ k = omega arith in subst (λ (n : ℕ). SavesOne old n range.at (length range.bytes) undo) here one, tt)
 saves_from-more old k (first ∷ rest) range undo saves one =
     let there : k + suc (length rest) ≡ suc k + length rest = omega arith in
     (saves.0, saves_from-more old (suc k) rest range undo saves.1 (subst (λ (n : ℕ). SavesOne old n range.at (length range.bytes) undo) there one))
 
 -- what is saved stays where all from byte 8 on stays
-pub saves-same : (old : List ℕ) (ranges : List Span) (undo new : List ℕ) → Saves old ranges undo → length undo ≤ length new
+pub saves-same : (old : List ℕ) (ranges : List ByteRange) (undo new : List ℕ) → Saves old ranges undo → length undo ≤ length new
     → ((p : ℕ) → 8 ≤ p → p < length undo → get_or new p 0 ≡ get_or undo p 0) → Saves old ranges new
 saves-same old ranges undo new saves longer same = record {
   long = omega (arith, saves.long, longer);
@@ -59,18 +59,18 @@ saves-same old ranges undo new saves longer same = record {
 }
 
 -- the bytes of a saved range are those of the old file
-pub saved_span-bytes : (old : List ℕ) (k : ℕ) (range : Span) (undo : List ℕ) → SavesOne old k range.at (length range.bytes) undo → (saved_span undo k).bytes ≡ saved_bytes old range.at (length range.bytes)
-saved_span-bytes old k range undo saves = ap (λ (n : ℕ). bytes_at undo (range_at k + 16) n) saves.number ∙ saves.bytes
+pub saved_range-bytes : (old : List ℕ) (k : ℕ) (range : ByteRange) (undo : List ℕ) → SavesOne old k range.at (length range.bytes) undo → (saved_range undo k).bytes ≡ saved_bytes old range.at (length range.bytes)
+saved_range-bytes old k range undo saves = ap (λ (n : ℕ). bytes_at undo (range_at k + 16) n) saves.number ∙ saves.bytes
 
 -- saved ranges that are laid back make the file what it was, within the old length
-pub laid_back : (old undo : List ℕ) (k : ℕ) (ranges : List Span) (file : List ℕ) (place : ℕ) → SavesFrom old k ranges undo → place < length old
+pub laid_back : (old undo : List ℕ) (k : ℕ) (ranges : List ByteRange) (file : List ℕ) (place : ℕ) → SavesFrom old k ranges undo → place < length old
     → (IsOutsideAll ranges place → get_or file place 0 ≡ get_or old place 0)
-    → get_or (laid (saved_spans undo k (length ranges)) file) place 0 ≡ get_or old place 0
+    → get_or (laid (saved_ranges undo k (length ranges)) file) place 0 ≡ get_or old place 0
 laid_back old undo k [] file place saves below same = same tt
 laid_back old undo k (range ∷ rest) file place saves below same =
-    let span : Span = saved_span undo k in
+    let span : ByteRange = saved_range undo k in
     laid_back old undo (suc k) rest (with_laid file span.at span.bytes) place saves.1 below
     (λ outside.
     ap (λ (at : ℕ). get_or (with_laid file at span.bytes) place 0) saves.0.place
-    ∙ ap (λ (bytes : List ℕ). get_or (with_laid file range.at bytes) place 0) (saved_span-bytes old k range undo saves.0)
+    ∙ ap (λ (bytes : List ℕ). get_or (with_laid file range.at bytes) place 0) (saved_range-bytes old k range undo saves.0)
     ∙ laid_saved old range file place below (λ here. same (here, outside)))

@@ -1,10 +1,10 @@
 -- Files that are torn within ranges.
 use Rattle.std.proofs.Common.{◌≡◌, ℕ, zero, suc, ◌<◌, get_or, List, [], ◌∷◌, length, sym, subst, arith}
 use Rattle.disk.specs.DiskSeen.{DiskSeen, Passes}
-use Rattle.disk.specs.Steps.{ChangesFile, IsOutside, Torn}
+use Rattle.disk.specs.DiskCalls.{ChangesFile, IsOutside, Torn}
 use Rattle.disk.proofs.StepLemmas.{changes_file-then, torn-less, torn-then}
 use Rattle.disk.proofs.StopLemmas.{passes-then, passes-wider}
-use Rattle.edit_journal.specs.Spans.{spans_of}
+use Rattle.edit_journal.specs.ByteRanges.{ranges_of}
 use Rattle.edit_journal.specs.UndoSaves.{IsOutsideAll}
 use Rattle.edit_journal.specs.declared.kept.KeptRange.{KeptRange}
 
@@ -19,12 +19,12 @@ tears-less more fewer name a b sub passes =
     passes-wider (ChangesFile (Torn more) name) (ChangesFile (Torn fewer) name) a b (λ x y step. (torn-less more fewer (x name) (y name) sub step.0, step.1)) passes
 
 -- a place outside of all ranges is outside of each
-pub outside-each : (ranges : List KeptRange) (i : ℕ) (d : KeptRange) (place : ℕ) → i < length ranges → IsOutsideAll (spans_of ranges) place → IsOutside (get_or ranges i d).at (length (get_or ranges i d).bytes.items) place
+pub outside-each : (ranges : List KeptRange) (i : ℕ) (d : KeptRange) (place : ℕ) → i < length ranges → IsOutsideAll (ranges_of ranges) place → IsOutside (get_or ranges i d).at (length (get_or ranges i d).bytes.items) place
 outside-each [] i d place below outside = absurd (omega (arith, below))
 outside-each (range ∷ rest) zero d place below outside = outside.0
 outside-each (range ∷ rest) (suc i) d place below outside = outside-each rest i d place (omega (arith, below)) outside.1
 
 -- the same of a range that stands among the ranges
-pub outside-item : (ranges : List KeptRange) (i : ℕ) (range : KeptRange) → range ≡ get_or ranges i range → i < length ranges → (place : ℕ) → IsOutsideAll (spans_of ranges) place → IsOutside range.at (length range.bytes.items) place
+pub outside-item : (ranges : List KeptRange) (i : ℕ) (range : KeptRange) → range ≡ get_or ranges i range → i < length ranges → (place : ℕ) → IsOutsideAll (ranges_of ranges) place → IsOutside range.at (length range.bytes.items) place
 outside-item ranges i range is below place outside =
     subst (λ (r : KeptRange). IsOutside r.at (length r.bytes.items) place) (sym is) (outside-each ranges i range place below outside)

@@ -7,10 +7,10 @@ use Rattle.outside.proofs.WorldLemmas.{with_file-at}
 use Rattle.outside.proofs.OverwriteLemmas.{get_or-overwritten_behind, length-overwritten}
 use Rattle.quota_types.specs.Bytes.{byte_at, number_at}
 use Rattle.quota_types.proofs.BytesLemmas.{number_at-drop, number_same}
-use Rattle.edit_journal.specs.Spans.{Span, with_laid}
+use Rattle.edit_journal.specs.ByteRanges.{ByteRange, with_laid}
 use Rattle.edit_journal.specs.UndoSaves.{saved_bytes, Saves, SavesFrom, SavesOne}
 use Rattle.edit_journal.specs.Undo.{bytes_at, range_at}
-use Rattle.edit_journal.proofs.LaidLemmas.{get_or-overwritten_inside, get_or-with_laid_before, get_or-with_laid_inside, length-overwritten_end}
+use Rattle.edit_journal.proofs.LaidBytesLemmas.{get_or-overwritten_inside, get_or-with_laid_before, get_or-with_laid_inside, length-overwritten_end}
 use Rattle.edit_journal.proofs.SavedLemmas.{length-bytes_at, saves_from-same}
 
 get_or-bytes_at : (file : List ℕ) (at count j : ℕ) → j < count → get_or (bytes_at file at count) j 0 ≡ byte_at file (at + j)
@@ -61,7 +61,7 @@ saves_one-written old undo head mid new k at len count low few place number rest
     }
 
 -- what is saved is whole once the head of the undo file was written
-pub saves-written : (old : List ℕ) (ranges : List Span) (undo head new : List ℕ) → 1024 ≤ length undo → length ranges ≤ 12
+pub saves-written : (old : List ℕ) (ranges : List ByteRange) (undo head new : List ℕ) → 1024 ≤ length undo → length ranges ≤ 12
     → number_at 8 head 0 ≡ length old → number_at 4 head 8 ≡ length ranges → length head ≡ 12
     → SavesFrom old 0 ranges undo → new ≡ overwritten undo 8 head → Saves old ranges new
 saves-written old ranges undo head new long most old_length count whole saved written =

@@ -1,7 +1,7 @@
 pub mod Recovered
 pub mod Recovery
 pub mod Settled
-pub mod Spans
+pub mod ByteRanges
 pub mod Undo
 pub mod UndoName
 pub mod UndoSaves

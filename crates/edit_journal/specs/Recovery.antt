@@ -1,12 +1,12 @@
 -- What a recovery makes of a file, call by call.
 use Rattle.std.specs.Prelude.{◌≡◌, ◌<◌, ◌≤◌, ◌⊎◌, ℕ, Bool, true, false, min, List, [], length, Option, None, Some, IsSome, slice_index, unwrap_or}
 use Rattle.outside.specs.World.{KeepsOtherTwo, KeepsOthers, World}
-use Rattle.disk.specs.Steps.{ChangesFile, IsOutside, TearsRange, Torn}
+use Rattle.disk.specs.DiskCalls.{ChangesFile, IsOutside, TearsRange, Torn}
 use Rattle.quota_types.specs.Bytes.{byte_at, number_at}
 use Rattle.edit_journal.specs.Settled.{MakesUndo}
-use Rattle.edit_journal.specs.Spans.{Span}
+use Rattle.edit_journal.specs.ByteRanges.{ByteRange}
 use Rattle.edit_journal.specs.UndoSaves.{IsOutsideAll, HoldsItsRanges}
-use Rattle.edit_journal.specs.Undo.{is_usable, recovered, saved_spans, spans_fit}
+use Rattle.edit_journal.specs.Undo.{is_usable, recovered, saved_ranges, ranges_fit}
 
 -- no file changes
 abbrev pub IsSame : World → World → Type 0
@@ -20,14 +20,14 @@ is_mended (Some file) (Some undo) = is_usable file undo
 
 -- A file is mended within ranges, and cut to a length: it is there if it was, it has at least the lesser of both lengths,
 -- and below the length it is the same outside of the ranges.
-pub record Mends (len : ℕ) (ranges : List Span) (old new : Option (List ℕ)) : Type 0 where
+pub record Mends (len : ℕ) (ranges : List ByteRange) (old new : Option (List ℕ)) : Type 0 where
   pub there : IsSome old → IsSome new
   pub no_shorter : min len (length (unwrap_or old [])) ≤ length (unwrap_or new [])
   pub same : (place : ℕ) → place < len → place < length (unwrap_or old []) → IsOutsideAll ranges place → slice_index (unwrap_or new []) place ≡ slice_index (unwrap_or old []) place
 
 -- one name's file is mended by what an undo file saves
 abbrev pub MendsFile : List ℕ → List ℕ → World → World → Type 0
-MendsFile name undo = ChangesFile (Mends (number_at 8 undo 8) (saved_spans undo 0 (number_at 4 undo 16))) name
+MendsFile name undo = ChangesFile (Mends (number_at 8 undo 8) (saved_ranges undo 0 (number_at 4 undo 16))) name
 
 -- A recovery of the new files makes of one what a recovery of the old files makes of it, and all other files stay.
 abbrev pub Restores : (name undo : List ℕ) → World → World → Type 0
@@ -52,7 +52,7 @@ pub record BeginsSo (gate old_length count : ℕ) (undo : List ℕ) : Type 0 whe
   pub many : count ≡ number_at 4 undo 16
 
 -- an undo file says that the old file had this length, and saves this many ranges, each of which fits
-pub record Heads (old_length count : ℕ) (undo : List ℕ) : Type 0 where
+pub record StatesSaved (old_length count : ℕ) (undo : List ℕ) : Type 0 where
   pub long : number_at 8 undo 8 ≡ old_length
   pub many : number_at 4 undo 16 ≡ count
-  pub fit : spans_fit old_length (saved_spans undo 0 count) ≡ true
+  pub fit : ranges_fit old_length (saved_ranges undo 0 count) ≡ true

@@ -2,8 +2,8 @@
 use Rattle.std.specs.Prelude.{◌≡◌, ◌<◌, ◌⊎◌, ℕ, List, Some, replicate}
 use Rattle.outside.specs.World.{KeepsOtherTwo, World}
 use Rattle.disk.specs.DiskSeen.{DiskSeen, EachImage}
-use Rattle.disk.specs.Steps.{ChangesFile, Torn}
-use Rattle.edit_journal.specs.Spans.{Span}
+use Rattle.disk.specs.DiskCalls.{ChangesFile, Torn}
+use Rattle.edit_journal.specs.ByteRanges.{ByteRange}
 use Rattle.edit_journal.specs.UndoSaves.{IsOutsideAll, IsClosed}
 use Rattle.edit_journal.specs.Undo.{recovered}
 use Rattle.edit_journal.specs.Recovered.{IsRecovered}
@@ -26,7 +26,7 @@ abbrev pub RecoversToEither : (name undo : List ℕ) → (old new : List ℕ) �
 RecoversToEither name undo old new image = RecoversTo name undo old image ⊎ RecoversTo name undo new image
 
 -- one name's file is torn within these ranges, and past its end
-abbrev pub TearsRanges : List ℕ → List Span → World → World → Type 0
+abbrev pub TearsRanges : List ℕ → List ByteRange → World → World → Type 0
 TearsRanges name ranges = ChangesFile (Torn (IsOutsideAll ranges)) name
 
 -- one name's file is torn but for its first bytes, up to this place

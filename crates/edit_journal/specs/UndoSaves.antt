@@ -1,8 +1,8 @@
 -- What an undo file saves of a file.
 use Rattle.std.specs.Prelude.{◌≡◌, ◌≢◌, ℕ, suc, ◌+◌, ◌^◌, ◌<◌, ◌≤◌, List, [], ◌∷◌, length, Option, unwrap_or, take, drop}
 use Rattle.quota_types.specs.Bytes.{byte_at, number_at}
-use Rattle.disk.specs.Steps.{IsOutside}
-use Rattle.edit_journal.specs.Spans.{Span}
+use Rattle.disk.specs.DiskCalls.{IsOutside}
+use Rattle.edit_journal.specs.ByteRanges.{ByteRange}
 use Rattle.edit_journal.specs.Undo.{bytes_at, range_at}
 
 -- An undo file holds its ranges: it has room for its head, and each saved range that the head names ends within it. Where
@@ -30,13 +30,13 @@ pub record SavesOne (old : List ℕ) (k at len : ℕ) (undo : List ℕ) : Type 0
   pub whole : range_at k + 16 + length (saved_bytes old at len) ≤ length undo
 
 -- the ranges of an undo file from range k on save what the old file has in these ranges
-abbrev pub SavesFrom : List ℕ → ℕ → List Span → List ℕ → Type 0
+abbrev pub SavesFrom : List ℕ → ℕ → List ByteRange → List ℕ → Type 0
 SavesFrom old k [] undo = Unit {0}
 SavesFrom old k (range ∷ rest) undo = SavesOne old k range.at (length range.bytes) undo × SavesFrom old (suc k) rest undo
 
 -- An undo file saves what the old file has in these ranges, and its length; where the ranges go past the end of the old
 -- file nothing is saved, since a recovery cuts the file.
-pub record Saves (old : List ℕ) (ranges : List Span) (undo : List ℕ) : Type 0 where
+pub record Saves (old : List ℕ) (ranges : List ByteRange) (undo : List ℕ) : Type 0 where
   pub long : 1024 ≤ length undo
   pub old_length : number_at 8 undo 8 ≡ length old
   pub count : number_at 4 undo 16 ≡ length ranges
@@ -44,6 +44,6 @@ pub record Saves (old : List ℕ) (ranges : List Span) (undo : List ℕ) : Type 
   pub saved : SavesFrom old 0 ranges undo
 
 -- a place that is in none of these ranges
-abbrev pub IsOutsideAll : List Span → ℕ → Type 0
+abbrev pub IsOutsideAll : List ByteRange → ℕ → Type 0
 IsOutsideAll [] place = Unit {0}
 IsOutsideAll (span ∷ rest) place = IsOutside span.at (length span.bytes) place × IsOutsideAll rest place

@@ -1,10 +1,10 @@
 //! The ranges that are written into the file itself.
 
 ghost use Rattle.std.specs.Prelude.{◌≡◌, ◌≤◌, [], List, ℕ, Some, length, unwrap_or, IsTrue, OnOk, OnErr, false};
-ghost use Rattle.disk.specs.DiskSeen.{IsKept, Passes};
-ghost use Rattle.disk.specs.Steps.{TearsRange};
+ghost use Rattle.disk.specs.DiskSeen.{IsDurable, Passes};
+ghost use Rattle.disk.specs.DiskCalls.{TearsRange};
 ghost use Rattle.edit_journal.specs.Settled.{TearsRanges};
-ghost use Rattle.edit_journal.specs.Spans.{laid, spans_of, with_laid};
+ghost use Rattle.edit_journal.specs.ByteRanges.{laid, ranges_of, with_laid};
 ghost use Rattle.outside.specs.Count.{Rose};
 ghost use Rattle.outside.specs.World.{KeepsOthers};
 
@@ -38,9 +38,9 @@ pub fn write_ranges<D: Disk>(
     ranges: &[KeptRange],
 ) -> Result<(), DiskFault>
     ensures written { OnOk result (IsTrue D.tells → (old : List ℕ) → (D.seen disk.old).files name.now ≡ Some old
-        → (D.seen disk.new).files name.now ≡ Some (laid (spans_of ranges.now) old)) }
-    ensures kept { OnOk result (IsTrue D.tells → IsKept name.now (D.seen disk.new)) }
-    ensures passes { Passes (TearsRanges name.now (spans_of ranges.now)) (D.seen disk.old) (D.seen disk.new) }
+        → (D.seen disk.new).files name.now ≡ Some (laid (ranges_of ranges.now) old)) }
+    ensures kept { OnOk result (IsTrue D.tells → IsDurable name.now (D.seen disk.new)) }
+    ensures passes { Passes (TearsRanges name.now (ranges_of ranges.now)) (D.seen disk.old) (D.seen disk.new) }
     ensures names { KeepsOthers name.now (D.seen disk.old).unsynced (D.seen disk.new).unsynced }
     ensures synced { OnOk result (IsTrue D.tells → (D.seen disk.new).unsynced name.now ≡ false) }
     ensures cause { OnErr result (Rose (D.seen disk.old).faults (D.seen disk.new).faults) }

@@ -4,7 +4,7 @@ ghost use Rattle.std.specs.Prelude.{◌≡◌, ◌≢◌, ◌≤◌, List, ℕ, 
 ghost use Rattle.disk.specs.DiskSeen.{OnlyLeaves, Passes};
 ghost use Rattle.edit_journal.specs.Settled.{CanCommit, IsSettled, RecoversToEither};
 ghost use Rattle.edit_journal.specs.Recovered.{KeepsOtherThree};
-ghost use Rattle.edit_journal.specs.Spans.{laid, spans_of};
+ghost use Rattle.edit_journal.specs.ByteRanges.{laid, ranges_of};
 ghost use Rattle.outside.specs.Count.{Rose};
 ghost use Rattle.outside.specs.World.{KeepsOtherTwo};
 
@@ -27,9 +27,9 @@ pub fn commit_ranges<D: Disk>(
     requires apart { name.now ≢ undo.now }
     requires most { length ranges.now ≤ 12 }
     ensures leaves { IsTrue D.tells → (old : List ℕ) → IsSettled name.now undo.now old (D.seen disk.old)
-        → OnlyLeaves (RecoversToEither name.now undo.now old (laid (spans_of ranges.now) old)) (D.seen disk.old) (D.seen disk.new) }
+        → OnlyLeaves (RecoversToEither name.now undo.now old (laid (ranges_of ranges.now) old)) (D.seen disk.old) (D.seen disk.new) }
     ensures settled { OnOk result (IsTrue D.tells → (old : List ℕ) → IsSettled name.now undo.now old (D.seen disk.old)
-        → IsSettled name.now undo.now (laid (spans_of ranges.now) old) (D.seen disk.new)) }
+        → IsSettled name.now undo.now (laid (ranges_of ranges.now) old) (D.seen disk.new)) }
     ensures others { Passes (KeepsOtherTwo name.now undo.now) (D.seen disk.old) (D.seen disk.new) }
     ensures names { KeepsOtherTwo name.now undo.now (D.seen disk.old).unsynced (D.seen disk.new).unsynced }
     ensures synced { OnOk result (IsTrue D.tells → (D.seen disk.new).unsynced name.now ≡ false) }
@@ -62,9 +62,9 @@ pub fn commit_file<D: Disk>(
     requires first { und.now ≢ undo.now }
     requires most { length ranges.now ≤ 12 }
     ensures leaves { IsTrue D.tells → (old : List ℕ) → CanCommit name.now undo.now old (D.seen disk.old)
-        → OnlyLeaves (RecoversToEither name.now undo.now old (laid (spans_of ranges.now) old)) (D.seen disk.old) (D.seen disk.new) }
+        → OnlyLeaves (RecoversToEither name.now undo.now old (laid (ranges_of ranges.now) old)) (D.seen disk.old) (D.seen disk.new) }
     ensures settled { OnOk result (IsTrue D.tells → (old : List ℕ) → CanCommit name.now undo.now old (D.seen disk.old)
-        → IsSettled name.now undo.now (laid (spans_of ranges.now) old) (D.seen disk.new)) }
+        → IsSettled name.now undo.now (laid (ranges_of ranges.now) old) (D.seen disk.new)) }
     ensures others { IsTrue D.tells → Passes (KeepsOtherThree name.now undo.now und.now) (D.seen disk.old) (D.seen disk.new) }
     ensures names { KeepsOtherThree name.now undo.now und.now (D.seen disk.old).unsynced (D.seen disk.new).unsynced }
     ensures synced { OnOk result (IsTrue D.tells → (D.seen disk.new).unsynced name.now ≡ false) }

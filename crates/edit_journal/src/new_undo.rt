@@ -1,7 +1,7 @@
 //! The making of a new undo file.
 
 ghost use Rattle.std.specs.Prelude.{◌≡◌, ◌≢◌, ◌↔◌, ◌≤◌, [], List, ℕ, Some, length, replicate, unwrap_or, IfOk, IsTrue, OnOk, OnErr};
-ghost use Rattle.disk.specs.DiskSeen.{ChangesNothing, IsKept, OnlyLeaves, Passes};
+ghost use Rattle.disk.specs.DiskSeen.{ChangesNothing, IsDurable, OnlyLeaves, Passes};
 ghost use Rattle.edit_journal.specs.Settled.{CanCommit, IsSettled, MakesUndo, RecoversTo};
 ghost use Rattle.outside.specs.Count.{Rose};
 ghost use Rattle.outside.specs.World.{KeepsOtherTwo};
@@ -17,7 +17,7 @@ use disk::{Disk, DiskFault};
 pub fn make_undo<D: Disk>(disk: &mut D, undo: &str, und: &str) -> Result<(), DiskFault>
     requires apart { und.now ≢ undo.now }
     ensures made { OnOk result (IsTrue D.tells → (D.seen disk.new).files undo.now ≡ Some (replicate 1024 0)) }
-    ensures kept { OnOk result (IsTrue D.tells → IsKept undo.now (D.seen disk.new)) }
+    ensures kept { OnOk result (IsTrue D.tells → IsDurable undo.now (D.seen disk.new)) }
     ensures passes { IsTrue D.tells → Passes (MakesUndo und.now undo.now) (D.seen disk.old) (D.seen disk.new) }
     ensures names { KeepsOtherTwo und.now undo.now (D.seen disk.old).unsynced (D.seen disk.new).unsynced }
     ensures cause { OnErr result (Rose (D.seen disk.old).faults (D.seen disk.new).faults) }

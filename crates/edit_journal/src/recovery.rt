@@ -1,12 +1,12 @@
 //! The recovery of a file.
 
 ghost use Rattle.std.specs.Prelude.{◌≡◌, ◌≢◌, ◌<◌, ◌≤◌, ◌^◌, ◌+◌, [], List, ℕ, Some, drop, length, true, unwrap_or, IfOk, IsTrue, OnOk, OnErr, false};
-ghost use Rattle.disk.specs.DiskSeen.{IsKept, OnlyLeaves, Passes};
-ghost use Rattle.disk.specs.Steps.{TearsRange};
-ghost use Rattle.edit_journal.specs.Recovery.{BeginsSo, ClosesGate, Heads, IsSame, MendsFile, RecoversInPlace, Restores, is_mended};
+ghost use Rattle.disk.specs.DiskSeen.{IsDurable, OnlyLeaves, Passes};
+ghost use Rattle.disk.specs.DiskCalls.{TearsRange};
+ghost use Rattle.edit_journal.specs.Recovery.{BeginsSo, ClosesGate, StatesSaved, IsSame, MendsFile, RecoversInPlace, Restores, is_mended};
 ghost use Rattle.edit_journal.specs.Recovered.{RecoversAsBefore, RecoversSame, IsRecovered, KeepsOtherThree};
-ghost use Rattle.edit_journal.specs.Spans.{laid, with_laid};
-ghost use Rattle.edit_journal.specs.Undo.{bytes_at, recovered, saved_span, saved_spans, span_fits, spans_fit, undone};
+ghost use Rattle.edit_journal.specs.ByteRanges.{laid, with_laid};
+ghost use Rattle.edit_journal.specs.Undo.{bytes_at, recovered, saved_range, saved_ranges, range_fits, ranges_fit, undone};
 ghost use Rattle.edit_journal.specs.UndoSaves.{HoldsItsRanges};
 ghost use Rattle.outside.specs.Count.{Rose};
 ghost use Rattle.quota_types.specs.Bytes.{byte_at, number_at};
@@ -60,16 +60,16 @@ fn clamped(span: SpanHead) -> SpanHead
 fn lay_span<D: Disk>(disk: &mut D, name: &str, undo: &str, k: u32) -> Result<(), DiskFault>
     requires number { k < 12 }
     ensures laid { OnOk result (IsTrue D.tells → (old_length : ℕ)
-        → span_fits old_length (saved_span (unwrap_or ((D.seen disk.old).files undo.now) []) k) ≡ true
+        → range_fits old_length (saved_range (unwrap_or ((D.seen disk.old).files undo.now) []) k) ≡ true
         → unwrap_or ((D.seen disk.new).files name.now) []
         ≡ with_laid (unwrap_or ((D.seen disk.old).files name.now) [])
-        (saved_span (unwrap_or ((D.seen disk.old).files undo.now) []) k).at
-        (saved_span (unwrap_or ((D.seen disk.old).files undo.now) []) k).bytes) }
+        (saved_range (unwrap_or ((D.seen disk.old).files undo.now) []) k).at
+        (saved_range (unwrap_or ((D.seen disk.old).files undo.now) []) k).bytes) }
     ensures passes { IsTrue D.tells → (old_length : ℕ)
-        → span_fits old_length (saved_span (unwrap_or ((D.seen disk.old).files undo.now) []) k) ≡ true
+        → range_fits old_length (saved_range (unwrap_or ((D.seen disk.old).files undo.now) []) k) ≡ true
         → Passes (TearsRange name.now
-        (saved_span (unwrap_or ((D.seen disk.old).files undo.now) []) k).at
-        (length (saved_span (unwrap_or ((D.seen disk.old).files undo.now) []) k).bytes)) (D.seen disk.old) (D.seen disk.new) }
+        (saved_range (unwrap_or ((D.seen disk.old).files undo.now) []) k).at
+        (length (saved_range (unwrap_or ((D.seen disk.old).files undo.now) []) k).bytes)) (D.seen disk.old) (D.seen disk.new) }
     ensures names { KeepsOthers name.now (D.seen disk.old).unsynced (D.seen disk.new).unsynced }
     ensures cause { OnErr result (Rose (D.seen disk.old).faults (D.seen disk.new).faults) }
     ensures counted { (D.seen disk.old).faults ≤ (D.seen disk.new).faults }
@@ -94,11 +94,11 @@ fn lay_spans<D: Disk>(disk: &mut D, name: &str, undo: &str, count: u32) -> Resul
     requires apart { name.now ≢ undo.now }
     requires most { count ≤ 12 }
     ensures laid { OnOk result (IsTrue D.tells → (old_length : ℕ)
-        → spans_fit old_length (saved_spans (unwrap_or ((D.seen disk.old).files undo.now) []) 0 count) ≡ true
+        → ranges_fit old_length (saved_ranges (unwrap_or ((D.seen disk.old).files undo.now) []) 0 count) ≡ true
         → unwrap_or ((D.seen disk.new).files name.now) []
-        ≡ laid (saved_spans (unwrap_or ((D.seen disk.old).files undo.now) []) 0 count) (unwrap_or ((D.seen disk.old).files name.now) [])) }
+        ≡ laid (saved_ranges (unwrap_or ((D.seen disk.old).files undo.now) []) 0 count) (unwrap_or ((D.seen disk.old).files name.now) [])) }
     ensures passes { IsTrue D.tells → (old_length : ℕ)
-        → spans_fit old_length (saved_spans (unwrap_or ((D.seen disk.old).files undo.now) []) 0 count) ≡ true
+        → ranges_fit old_length (saved_ranges (unwrap_or ((D.seen disk.old).files undo.now) []) 0 count) ≡ true
         → number_at 4 (unwrap_or ((D.seen disk.old).files undo.now) []) 16 ≡ count
         → Passes (MendsFile name.now (unwrap_or ((D.seen disk.old).files undo.now) [])) (D.seen disk.old) (D.seen disk.new) }
     ensures names { KeepsOthers name.now (D.seen disk.old).unsynced (D.seen disk.new).unsynced }
@@ -120,12 +120,12 @@ fn mend<D: Disk>(disk: &mut D, name: &str, undo: &str, head: UndoHead) -> Result
     requires apart { name.now ≢ undo.now }
     requires most { head.count ≤ 12 }
     ensures mended { OnOk result (IsTrue D.tells → (file : List ℕ)
-        → Heads head.old_length head.count (unwrap_or ((D.seen disk.old).files undo.now) [])
+        → StatesSaved head.old_length head.count (unwrap_or ((D.seen disk.old).files undo.now) [])
         → (D.seen disk.old).files name.now ≡ Some file
         → (D.seen disk.new).files name.now ≡ Some (undone file (unwrap_or ((D.seen disk.old).files undo.now) []))) }
-    ensures kept { OnOk result (IsTrue D.tells → IsKept name.now (D.seen disk.new)) }
+    ensures kept { OnOk result (IsTrue D.tells → IsDurable name.now (D.seen disk.new)) }
     ensures passes { IsTrue D.tells
-        → Heads head.old_length head.count (unwrap_or ((D.seen disk.old).files undo.now) [])
+        → StatesSaved head.old_length head.count (unwrap_or ((D.seen disk.old).files undo.now) [])
         → Passes (MendsFile name.now (unwrap_or ((D.seen disk.old).files undo.now) [])) (D.seen disk.old) (D.seen disk.new) }
     ensures names { KeepsOthers name.now (D.seen disk.old).unsynced (D.seen disk.new).unsynced }
     ensures synced { OnOk result (IsTrue D.tells → (D.seen disk.new).unsynced name.now ≡ false) }
@@ -140,8 +140,8 @@ fn mend<D: Disk>(disk: &mut D, name: &str, undo: &str, head: UndoHead) -> Result
 
 /// Waits until a file and its undo file are kept.
 fn keep_both<D: Disk>(disk: &mut D, name: &str, undo: &str) -> Result<(), DiskFault>
-    ensures file { OnOk result (IsTrue D.tells → IsKept name.now (D.seen disk.new)) }
-    ensures saved { OnOk result (IsTrue D.tells → IsKept undo.now (D.seen disk.new)) }
+    ensures file { OnOk result (IsTrue D.tells → IsDurable name.now (D.seen disk.new)) }
+    ensures saved { OnOk result (IsTrue D.tells → IsDurable undo.now (D.seen disk.new)) }
     ensures names { KeepsOtherTwo name.now undo.now (D.seen disk.old).unsynced (D.seen disk.new).unsynced }
     ensures synced { OnOk result (IsTrue D.tells → (D.seen disk.new).unsynced name.now ≡ false) }
     ensures cause { OnErr result (Rose (D.seen disk.old).faults (D.seen disk.new).faults) }
@@ -193,10 +193,10 @@ fn restore<D: Disk>(disk: &mut D, name: &str, undo: &str, head: UndoHead) -> Res
     ensures restored { OnOk result (IsTrue D.tells
         → BeginsSo head.gate head.old_length head.count (unwrap_or ((D.seen disk.old).files undo.now) [])
         → (D.seen disk.new).files name.now ≡ recovered ((D.seen disk.old).files name.now) ((D.seen disk.old).files undo.now)) }
-    ensures kept { OnOk result (IsTrue D.tells → IsKept name.now (D.seen disk.old) → IsKept name.now (D.seen disk.new)) }
+    ensures kept { OnOk result (IsTrue D.tells → IsDurable name.now (D.seen disk.old) → IsDurable name.now (D.seen disk.new)) }
     ensures passes { IsTrue D.tells
         → BeginsSo head.gate head.old_length head.count (unwrap_or ((D.seen disk.old).files undo.now) [])
-        → IsKept name.now (D.seen disk.old) → IsKept undo.now (D.seen disk.old)
+        → IsDurable name.now (D.seen disk.old) → IsDurable undo.now (D.seen disk.old)
         → Passes (Restores name.now undo.now) (D.seen disk.old) (D.seen disk.new) }
     ensures names { KeepsOthers name.now (D.seen disk.old).unsynced (D.seen disk.new).unsynced }
     ensures synced { OnOk result (IsTrue D.tells → (D.seen disk.old).unsynced name.now ≡ false → (D.seen disk.new).unsynced name.now ≡ false) }
@@ -222,9 +222,9 @@ fn restore<D: Disk>(disk: &mut D, name: &str, undo: &str, head: UndoHead) -> Res
 fn close_gate<D: Disk>(disk: &mut D, undo: &str, und: &str, count: u32) -> Result<(), DiskFault>
     requires apart { und.now ≢ undo.now }
     ensures closed { OnOk result (IsTrue D.tells → byte_at (unwrap_or ((D.seen disk.new).files undo.now) []) 0 ≢ 1) }
-    ensures kept { OnOk result (IsTrue D.tells → IsKept undo.now (D.seen disk.new)) }
+    ensures kept { OnOk result (IsTrue D.tells → IsDurable undo.now (D.seen disk.new)) }
     ensures passes { IsTrue D.tells → count ≡ number_at 4 (unwrap_or ((D.seen disk.old).files undo.now) []) 16
-        → IsKept undo.now (D.seen disk.old) → Passes (ClosesGate und.now undo.now) (D.seen disk.old) (D.seen disk.new) }
+        → IsDurable undo.now (D.seen disk.old) → Passes (ClosesGate und.now undo.now) (D.seen disk.old) (D.seen disk.new) }
     ensures in_place { IsTrue D.tells → count ≡ number_at 4 (unwrap_or ((D.seen disk.old).files undo.now) []) 16
         → HoldsItsRanges (unwrap_or ((D.seen disk.old).files undo.now) [])
         → Passes (TearsRange undo.now 0 1) (D.seen disk.old) (D.seen disk.new) }
@@ -265,25 +265,25 @@ fn recover_kept<D: Disk>(
     requires open { head.gate ≡ 1 }
     ensures done { OnOk result (IsTrue D.tells
         → BeginsSo head.gate head.old_length head.count (unwrap_or ((D.seen disk.old).files undo.now) [])
-        → IsKept name.now (D.seen disk.old) → IsKept undo.now (D.seen disk.old)
+        → IsDurable name.now (D.seen disk.old) → IsDurable undo.now (D.seen disk.old)
         → IsRecovered name.now undo.now (recovered ((D.seen disk.old).files name.now) ((D.seen disk.old).files undo.now)) (D.seen disk.new)) }
     ensures passes { IsTrue D.tells
         → BeginsSo head.gate head.old_length head.count (unwrap_or ((D.seen disk.old).files undo.now) [])
-        → IsKept name.now (D.seen disk.old) → IsKept undo.now (D.seen disk.old)
+        → IsDurable name.now (D.seen disk.old) → IsDurable undo.now (D.seen disk.old)
         → Passes (RecoversSame name.now undo.now und.now) (D.seen disk.old) (D.seen disk.new) }
     ensures in_place { IsTrue D.tells
         → BeginsSo head.gate head.old_length head.count (unwrap_or ((D.seen disk.old).files undo.now) [])
-        → IsKept name.now (D.seen disk.old) → IsKept undo.now (D.seen disk.old)
+        → IsDurable name.now (D.seen disk.old) → IsDurable undo.now (D.seen disk.old)
         → HoldsItsRanges (unwrap_or ((D.seen disk.old).files undo.now) [])
         → Passes (RecoversInPlace name.now undo.now) (D.seen disk.old) (D.seen disk.new) }
     ensures in_place_names { IsTrue D.tells
         → BeginsSo head.gate head.old_length head.count (unwrap_or ((D.seen disk.old).files undo.now) [])
-        → IsKept name.now (D.seen disk.old) → IsKept undo.now (D.seen disk.old)
+        → IsDurable name.now (D.seen disk.old) → IsDurable undo.now (D.seen disk.old)
         → HoldsItsRanges (unwrap_or ((D.seen disk.old).files undo.now) [])
         → KeepsOtherTwo name.now undo.now (D.seen disk.old).unsynced (D.seen disk.new).unsynced }
     ensures in_place_rest { OnOk result (IsTrue D.tells
         → BeginsSo head.gate head.old_length head.count (unwrap_or ((D.seen disk.old).files undo.now) [])
-        → IsKept name.now (D.seen disk.old) → IsKept undo.now (D.seen disk.old)
+        → IsDurable name.now (D.seen disk.old) → IsDurable undo.now (D.seen disk.old)
         → HoldsItsRanges (unwrap_or ((D.seen disk.old).files undo.now) [])
         → drop 1 (unwrap_or ((D.seen disk.new).files undo.now) []) ≡ drop 1 (unwrap_or ((D.seen disk.old).files undo.now) [])) }
     ensures names { KeepsOtherThree name.now undo.now und.now (D.seen disk.old).unsynced (D.seen disk.new).unsynced }

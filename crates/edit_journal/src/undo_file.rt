@@ -1,10 +1,10 @@
 //! The parts of an undo file.
 
 ghost use Rattle.std.specs.Prelude.{◌≡◌, ◌≢◌, ◌+◌, ◌<◌, ◌≤◌, ◌^◌, [], ◌∷◌, length, unwrap_or, IsTrue, OnOk, OnErr};
-ghost use Rattle.disk.specs.DiskSeen.{IsKept, Passes};
-ghost use Rattle.disk.specs.Steps.{TearsRange};
+ghost use Rattle.disk.specs.DiskSeen.{IsDurable, Passes};
+ghost use Rattle.disk.specs.DiskCalls.{TearsRange};
 ghost use Rattle.edit_journal.specs.Settled.{TearsFrom};
-ghost use Rattle.edit_journal.specs.Spans.{spans_of, with_laid};
+ghost use Rattle.edit_journal.specs.ByteRanges.{ranges_of, with_laid};
 ghost use Rattle.edit_journal.specs.Undo.{range_at};
 ghost use Rattle.edit_journal.specs.UndoSaves.{Saves, SavesOne};
 ghost use Rattle.outside.specs.Count.{Rose};
@@ -29,7 +29,7 @@ pub const CLOSED: u8 = 0;
 pub fn set_gate<D: Disk>(disk: &mut D, undo: &str, gate: u8) -> Result<(), DiskFault>
     ensures set { OnOk result (IsTrue D.tells
         → (D.seen disk.new).files ≡ with_bytes (D.seen disk.old).files undo.now 0 (gate ∷ [])) }
-    ensures kept { OnOk result (IsTrue D.tells → IsKept undo.now (D.seen disk.new)) }
+    ensures kept { OnOk result (IsTrue D.tells → IsDurable undo.now (D.seen disk.new)) }
     ensures passes { Passes (TearsRange undo.now 0 1) (D.seen disk.old) (D.seen disk.new) }
     ensures names { KeepsOthers undo.now (D.seen disk.old).unsynced (D.seen disk.new).unsynced }
     ensures cause { OnErr result (Rose (D.seen disk.old).faults (D.seen disk.new).faults) }
@@ -160,9 +160,9 @@ pub fn save_ranges<D: Disk>(
     requires apart { name.now ≢ undo.now }
     requires most { length ranges.now ≤ 12 }
     ensures saved { OnOk result (IsTrue D.tells → 1024 ≤ length (unwrap_or ((D.seen disk.old).files undo.now) [])
-        → Saves (unwrap_or ((D.seen disk.old).files name.now) []) (spans_of ranges.now)
+        → Saves (unwrap_or ((D.seen disk.old).files name.now) []) (ranges_of ranges.now)
         (unwrap_or ((D.seen disk.new).files undo.now) [])) }
-    ensures kept { OnOk result (IsTrue D.tells → IsKept undo.now (D.seen disk.new)) }
+    ensures kept { OnOk result (IsTrue D.tells → IsDurable undo.now (D.seen disk.new)) }
     ensures passes { Passes (TearsFrom undo.now 8) (D.seen disk.old) (D.seen disk.new) }
     ensures names { KeepsOthers undo.now (D.seen disk.old).unsynced (D.seen disk.new).unsynced }
     ensures cause { OnErr result (Rose (D.seen disk.old).faults (D.seen disk.new).faults) }

@@ -3,7 +3,7 @@
 ghost use Rattle.std.specs.Prelude.{◌≡◌, ◌↔◌, ◌<◌, ◌≤◌, ◌+◌, ◌^◌, ◌&&◌, ◌||◌, [], ℕ, length, nat_eq, nat_le, slice_index, unwrap_or, IfOk, IsTrue, OnOk, OnErr};
 ghost use Rattle.disk.specs.DiskSeen.{Passes};
 ghost use Rattle.edit_journal.specs.Recovery.{IsSame};
-ghost use Rattle.edit_journal.specs.Undo.{range_at, saved_spans, spans_fit};
+ghost use Rattle.edit_journal.specs.Undo.{range_at, saved_ranges, ranges_fit};
 ghost use Rattle.edit_journal.specs.UndoSaves.{HoldsItsRanges};
 ghost use Rattle.outside.specs.Count.{Rose};
 ghost use Rattle.quota_types.specs.Bytes.{byte_at, number_at};
@@ -113,7 +113,7 @@ pub(crate) fn all_fit<D: Disk>(
 ) -> Result<bool, DiskFault>
     requires { count ≤ 12 }
     ensures fit { IfOk result (λ fit. IsTrue D.tells → fit
-        ≡ spans_fit old_length (saved_spans (unwrap_or ((D.seen disk.old).files undo.now) []) 0 count)) }
+        ≡ ranges_fit old_length (saved_ranges (unwrap_or ((D.seen disk.old).files undo.now) []) 0 count)) }
     ensures names { (D.seen disk.new).unsynced ≡ (D.seen disk.old).unsynced }
     ensures cause { OnErr result (Rose (D.seen disk.old).faults (D.seen disk.new).faults) }
     ensures counted { (D.seen disk.old).faults ≤ (D.seen disk.new).faults }

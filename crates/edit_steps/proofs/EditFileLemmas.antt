@@ -27,8 +27,8 @@ use Rattle.quota_map.proofs.LeftLemmas.{held_format, left_seen}
 use Rattle.quota_map.proofs.SeenLemmas.{any_held_seen}
 use Rattle.set_edit.specs.Editing.{Edit}
 use Rattle.set_edit.specs.EditCalls.{Edits}
-use Rattle.set_edit.specs.declared.fault.EditFault.{EditFault}
-use Rattle.set_edit.specs.declared.fault.EditFault.TheVariants.{File, NoRoom as Unfit}
+use Rattle.set_edit.specs.declared.edit_fault.EditFault.{EditFault}
+use Rattle.set_edit.specs.declared.edit_fault.EditFault.TheVariants.{File, NoRoom as Unfit}
 use Rattle.refusals.specs.Status.{status_of}
 use Rattle.run_steps.specs.Act.{MayBeLeft}
 use Rattle.run_steps.specs.Opening.{MayRefuseOpening}

@@ -15,7 +15,7 @@ use Rattle.quota_map.specs.Size.{blocks_after}
 use Rattle.edit_steps.specs.EditStep.{value_left, changed, edit_step, is_too_large}
 use Rattle.run_steps.proofs.DoingLemmas.{AreWritten, written_none}
 use Rattle.run_steps.proofs.WritesLemmas.{writes_for-edit, writes_for-same}
-use Rattle.edit_steps.specs.Room.{Fits}
+use Rattle.edit_steps.specs.Fits.{Fits}
 
 -- the acts of an edit: the change, unless nothing is to be done
 abbrev pub change_acts : Way → List ℕ → QuotaValue → Bool → List Act

@@ -25,7 +25,7 @@ use Rattle.run_steps.specs.Opening.{opening_cause}
 use Rattle.run_steps.specs.Steps.{Steps, Then}
 use Rattle.run_steps.specs.Taking.{Taking, file_said, input_said}
 use Rattle.edit_steps.specs.EditStep.{is_too_large}
-use Rattle.edit_steps.specs.Room.{IsFullFor}
+use Rattle.edit_steps.specs.Fits.{IsFullFor}
 use Rattle.edit_steps.proofs.EditFileLemmas.{both_of, less_of}
 
 -- the cause is that a file is full

@@ -17,8 +17,8 @@ use Rattle.opened_file.proofs.EditsOneLemmas.{edits_one-read}
 use Rattle.quota_map.specs.View.{most_blocks}
 use Rattle.set_edit.specs.EditFault.{IfNoRoom, file_fault}
 use Rattle.set_edit.specs.Editing.{Edit}
-use Rattle.set_edit.specs.declared.fault.EditFault.{EditFault}
-use Rattle.set_edit.specs.declared.fault.EditFault.TheVariants.{File, NoRoom as Unfit}
+use Rattle.set_edit.specs.declared.edit_fault.EditFault.{EditFault}
+use Rattle.set_edit.specs.declared.edit_fault.EditFault.TheVariants.{File, NoRoom as Unfit}
 use Rattle.refusals.specs.declared.cause.Cause.{Cause}
 use Rattle.refusals.specs.declared.cause.Cause.TheVariants.{Full as FileFull, NoRoom as NoRoomFor, SinkFault}
 use Rattle.refusals.specs.Outcome.{Refused}

@@ -1,2 +1,2 @@
 pub mod EditStep
-pub mod Room
+pub mod Fits

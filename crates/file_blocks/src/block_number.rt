@@ -1,6 +1,6 @@
 ghost use Rattle.std.specs.Prelude.{◌≡◌, ◌+◌, ◌≤◌};
 ghost use Rattle.quota_types.specs.Bytes.{number_at};
-ghost use Rattle.quota_types.specs.Span.{KeepsOutside};
+ghost use Rattle.quota_types.specs.KeptBytes.{KeepsOutside};
 
 use quota_types::{le16_at, le32_at, le64_at, set_le16_at, set_le32_at, set_le64_at};
 

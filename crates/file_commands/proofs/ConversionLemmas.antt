@@ -24,11 +24,11 @@ use Rattle.quota_map.specs.Replacing.{UnlessStore}
 use Rattle.quota_map.specs.View.{IsView, most_blocks}
 use Rattle.quota_map.proofs.SeenLemmas.{fault_seen, store_rose}
 use Rattle.convert.specs.Conversion.{all_without_room, converted, converted_value, unless}
-use Rattle.convert.specs.Convert.{Asked, HasNoTarget, IsConvertFault, IsConverted, IsMade, IsNotMade, IsNotOpened, IsUnfit, UnlessMaking, asked_for}
+use Rattle.convert.specs.Convert.{AskedConversion, HasNoTarget, IsConvertFault, IsConverted, IsMade, IsNotMade, IsNotOpened, IsUnfit, UnlessMaking, asked_for}
 use Rattle.convert.specs.Leaves.{LeavesOthers, OnlyLooks}
 use Rattle.convert.specs.Source.{HasRead, IsReadingFault}
-use Rattle.convert.specs.declared.fault.ConvertFault.{ConvertFault}
-use Rattle.convert.specs.declared.fault.ConvertFault.TheVariants.{SameName as NamesAreSame, TargetExists as TargetIsThere, Open, File, NoRoom as Unfit, Replace}
+use Rattle.convert.specs.declared.convert_fault.ConvertFault.{ConvertFault}
+use Rattle.convert.specs.declared.convert_fault.ConvertFault.TheVariants.{SameName as NamesAreSame, TargetExists as TargetIsThere, Open, File, NoRoom as Unfit, Replace}
 use Rattle.refusals.specs.declared.cause.Cause.{Cause}
 use Rattle.refusals.specs.declared.cause.Cause.TheVariants.{StoreFault, Memory, Damaged, Full, NoRoom, TargetExists, SameName, SinkFault}
 use Rattle.refusals.specs.declared.reason.Refusal.{Refusal}
@@ -188,7 +188,7 @@ nowhere_placed : (cause : Cause) (name : List ℕ) → IsPlacedBy (edit_uses fal
 nowhere_placed cause name = record { line = λ no. refl; input_line = λ no. refl }
 
 module _ (kind : Kind) (before after : Format) (source target : List ℕ) (invocation : Invocation) (tells : RunTells) (old : RunSeen) (store : StoreSeen) where
-  abbrev asked : Asked
+  abbrev asked : AskedConversion
   asked = asked_for source target before after kind most_blocks
 
   abbrev Says : Cause → List ℕ → Type 0

@@ -10,10 +10,10 @@ use Rattle.inode_scan.specs.Generated.{generated}
 use Rattle.inode_scan.specs.Scan.{scanned}
 use Rattle.inode_scan.specs.ListingFaults.{IsScanFault}
 use Rattle.inode_scan.specs.Usage.{UsageMap}
-use Rattle.inode_scan.specs.declared.fault.ApplyFault.{ApplyFault}
-use Rattle.inode_scan.specs.declared.fault.ApplyFault.TheVariants.{NoRoom as Unfit, Memory as ApplyWantsMemory}
-use Rattle.inode_scan.specs.declared.fault.ScanFault.{ScanFault}
-use Rattle.inode_scan.specs.declared.fault.ScanFault.TheVariants.{Source, Memory as ScanWantsMemory}
+use Rattle.inode_scan.specs.declared.scan_fault.ApplyFault.{ApplyFault}
+use Rattle.inode_scan.specs.declared.scan_fault.ApplyFault.TheVariants.{NoRoom as Unfit, Memory as ApplyWantsMemory}
+use Rattle.inode_scan.specs.declared.scan_fault.ScanFault.{ScanFault}
+use Rattle.inode_scan.specs.declared.scan_fault.ScanFault.TheVariants.{Source, Memory as ScanWantsMemory}
 use Rattle.inode_scan.proofs.MadeListingLemmas.{generated_usage, scanned-generated}
 use Rattle.refusals.specs.declared.cause.Cause.{Cause}
 use Rattle.refusals.specs.declared.cause.Cause.TheVariants.{Memory}

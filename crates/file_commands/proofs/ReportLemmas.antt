@@ -9,8 +9,8 @@ use Rattle.outside.specs.Seen.{SinkSeen, StoreSeen}
 use Rattle.quota_map.specs.AnyFile.{MayRefuse}
 use Rattle.quota_map.specs.View.{IsOpenedAs}
 use Rattle.report_text.specs.Fault.{OnSink, file_fault}
-use Rattle.report_text.specs.declared.fault.ReportFault.{ReportFault}
-use Rattle.report_text.specs.declared.fault.ReportFault.TheVariants.{Sink, File}
+use Rattle.report_text.specs.declared.report_fault.ReportFault.{ReportFault}
+use Rattle.report_text.specs.declared.report_fault.ReportFault.TheVariants.{Sink, File}
 use Rattle.run_steps.specs.Done.{RunSeen, RunTells}
 use Rattle.run_steps.specs.Showing.{showing_uses}
 use Rattle.file_commands.specs.Report.{report_cause}

@@ -14,9 +14,9 @@ use Rattle.quota_map.specs.View.{IsOpenedAs, IsView, most_blocks}
 use Rattle.inode_scan.specs.Apply.{applied, wanted_record}
 use Rattle.inode_scan.specs.Scan.{scanned}
 use Rattle.inode_scan.specs.Usage.{UsageMap}
-use Rattle.inode_scan.specs.declared.fault.ScanFault.{ScanFault}
+use Rattle.inode_scan.specs.declared.scan_fault.ScanFault.{ScanFault}
 use Rattle.inode_scan.specs.declared.used.Used.{Used}
-use Rattle.inode_scan.specs.declared.fault.ScanFault.TheVariants.{Source, TooLarge as PastTotal, BadLine as WrongLine, LongLine as TooLong, Conflict as Conflicting, Memory as ScanWantsMemory}
+use Rattle.inode_scan.specs.declared.scan_fault.ScanFault.TheVariants.{Source, TooLarge as PastTotal, BadLine as WrongLine, LongLine as TooLong, Conflict as Conflicting, Memory as ScanWantsMemory}
 use Rattle.refusals.specs.declared.cause.Cause.{Cause}
 use Rattle.refusals.specs.declared.cause.Cause.TheVariants.{SourceFault, Memory, TooLarge, BadLine, LongLine, Conflict, NoRoom}
 use Rattle.command_words.specs.declared.command.Common.{Common}

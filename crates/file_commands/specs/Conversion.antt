@@ -12,7 +12,7 @@ use Rattle.quota_value.specs.QuotaValue.{QuotaValue}
 use Rattle.outside.specs.World.{World}
 use Rattle.quota_map.specs.View.{most_blocks}
 use Rattle.convert.specs.Conversion.{converted}
-use Rattle.convert.specs.declared.fault.ConvertFault.TheVariants.{Replace}
+use Rattle.convert.specs.declared.convert_fault.ConvertFault.TheVariants.{Replace}
 use Rattle.refusals.specs.declared.cause.Cause.{Cause}
 use Rattle.refusals.specs.declared.cause.Cause.TheVariants.{StoreFault, Memory, Full, NoRoom, TargetExists, SameName}
 use Rattle.refusals.specs.Outcome.{Outcome, Passed, Refused, and_then}

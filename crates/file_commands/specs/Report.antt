@@ -3,8 +3,8 @@ use Rattle.std.specs.Prelude.{◌⊎◌, ℕ, List}
 use Rattle.id_names.specs.FirstMatch.{first_name}
 use Rattle.id_names.specs.NamesFile.{NameLine}
 use Rattle.quota_value.specs.QuotaValue.{QuotaValue}
-use Rattle.report_text.specs.declared.fault.ReportFault.{ReportFault}
-use Rattle.report_text.specs.declared.fault.ReportFault.TheVariants.{Sink, File}
+use Rattle.report_text.specs.declared.report_fault.ReportFault.{ReportFault}
+use Rattle.report_text.specs.declared.report_fault.ReportFault.TheVariants.{Sink, File}
 use Rattle.report_options.specs.declared.options.Options.{Options}
 use Rattle.report_text.specs.Report.{report_of}
 use Rattle.refusals.specs.declared.cause.Cause.{Cause}

@@ -1,2 +1,2 @@
 pub mod OneFile
-pub mod Room
+pub mod Capacity

@@ -3,7 +3,7 @@ use Rattle.std.specs.Prelude.{ℕ, Bool, false, List, None, Some, vec_capacity}
 use Rattle.std.specs.String.{string_bytes}
 use Rattle.file_in_memory.specs.declared.one_file.OneFile.{OneFile}
 use Rattle.outside.specs.Seen.{StoreSeen}
-use Rattle.outside.specs.Unsynced.{Names, with_name}
+use Rattle.outside.specs.Unsynced.{UnsyncedNames, with_name}
 use Rattle.outside.specs.World.{World, with_file}
 
 -- a file of this name and these bytes, and no other one
@@ -11,7 +11,7 @@ abbrev pub only_file : (name bytes : List ℕ) → World
 only_file name bytes = with_file (λ _. None) name (Some bytes)
 
 -- this name may be unsynced, and no other one is
-abbrev pub only_name : (name : List ℕ) → Bool → Names
+abbrev pub only_name : (name : List ℕ) → Bool → UnsyncedNames
 only_name name is = with_name (λ _. false) name is
 
 -- the name of its file

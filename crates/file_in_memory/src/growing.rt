@@ -1,5 +1,5 @@
 ghost use Rattle.std.specs.Prelude.{◌≡◌, ◌+◌, ◌-◌, ◌<◌, ◌≤◌, ◌^◌, ◌++◌, length, take, drop, replicate, vec_capacity, OnOk, OnErr};
-ghost use Rattle.file_in_memory.specs.Room.{IsRoomAfter};
+ghost use Rattle.file_in_memory.specs.Capacity.{IsCapacityAfter};
 ghost use Rattle.outside.specs.World.{overwritten};
 
 use std::alloc::AllocError;
@@ -14,7 +14,7 @@ pub fn overwrite(file: &mut Vec<u8>, at: usize, bytes: &[u8]) -> Result<(), Allo
     ensures ok { OnOk result (file.new.items ≡ overwritten file.old.items at bytes.now) }
     ensures err { OnErr result (file.new.items ≡ file.old.items) }
     ensures longer { OnErr result (length file.old.items < at + length bytes.now) }
-    ensures room { IsRoomAfter (vec_capacity file.old) (vec_capacity file.new) (at + length bytes.now) }
+    ensures room { IsCapacityAfter (vec_capacity file.old) (vec_capacity file.new) (at + length bytes.now) }
 {
     let end = at + bytes.len();
     make_room(file, end)?;
@@ -29,7 +29,7 @@ fn make_room(file: &mut Vec<u8>, len: usize) -> Result<(), AllocError>
     ensures same { file.new.items ≡ file.old.items }
     ensures ok { OnOk result (len ≤ vec_capacity file.new) }
     ensures err { OnErr result (vec_capacity file.old < len) }
-    ensures room { IsRoomAfter (vec_capacity file.old) (vec_capacity file.new) len }
+    ensures room { IsCapacityAfter (vec_capacity file.old) (vec_capacity file.new) len }
 {
     let room = file.capacity();
     if len <= room {

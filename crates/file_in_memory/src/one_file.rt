@@ -3,7 +3,7 @@ ghost use Rattle.std.specs.Option.{option_copied, option_map};
 ghost use Rattle.std.specs.Str.{bytes_eq};
 ghost use Rattle.std.specs.String.{string_bytes};
 ghost use Rattle.file_in_memory.specs.OneFile.{one_file_name, one_file_room, one_file_seen, only_file};
-ghost use Rattle.file_in_memory.specs.Room.{IsRoomAfter};
+ghost use Rattle.file_in_memory.specs.Capacity.{IsCapacityAfter};
 ghost use Rattle.outside.specs.Count.{Rose, counted};
 ghost use Rattle.outside.specs.Frame.{ChangesOne, ChangesTwo, OnlyReads};
 ghost use Rattle.outside.specs.Unsynced.{AddsNone, with_handed, with_name};
@@ -154,7 +154,7 @@ impl Store for OneFile {
         ensures writes { (one_file_seen self.new).writes ≡ counted (one_file_seen self.old).writes }
         ensures own { (one_file_seen self.new).faults
             ≡ (if is_ok result then (one_file_seen self.old).faults else counted (one_file_seen self.old).faults) }
-        ensures room { IsRoomAfter (one_file_room self.old) (one_file_room self.new) (at + length bytes.now) }
+        ensures room { IsCapacityAfter (one_file_room self.old) (one_file_room self.new) (at + length bytes.now) }
     {
         self.writes = self.writes.saturating_add(1);
         if !self.has(name) {

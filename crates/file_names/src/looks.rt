@@ -10,15 +10,15 @@ struct Look {
 
 /// What each name stood for when it was looked at first.
 #[derive(Drop)]
-pub struct Looks {
+pub struct FirstLooks {
     alloc: Global,
     looks: Vec<Look>,
 }
 
-impl Looks {
+impl FirstLooks {
     /// No name was looked at yet.
-    pub fn new(alloc: Global) -> Looks {
-        Looks {
+    pub fn new(alloc: Global) -> FirstLooks {
+        FirstLooks {
             alloc,
             looks: Vec::new(alloc),
         }

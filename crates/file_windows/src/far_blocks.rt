@@ -1,6 +1,6 @@
 ghost use Rattle.std.specs.Prelude.{◌≡◌, ◌≤◌, length, IfOk};
 
-use crate::span::{Span, read_from};
+use crate::window::{FileWindow, read_from};
 use std::alloc::Global;
 use std::fs::File;
 use std::io;
@@ -14,7 +14,7 @@ const MOST: usize = 8;
 /// A block, and the number of its last use.
 #[derive(Drop)]
 struct FarBlock {
-    span: Span,
+    window: FileWindow,
     used: u64,
 }
 
@@ -48,7 +48,7 @@ impl FarBlocks {
         ensures len { length buf.new ≡ length buf.old }
     {
         for block in &mut self.blocks {
-            if block.span.give(at, buf) {
+            if block.window.give(at, buf) {
                 self.uses = self.uses.saturating_add(1);
                 block.used = self.uses;
                 return true;
@@ -70,7 +70,7 @@ impl FarBlocks {
         match self.blocks.get_mut(place) {
             Some(block) => {
                 block.used = self.uses;
-                block.span.read(file, at - start, at, buf)
+                block.window.read(file, at - start, at, buf)
             }
             None => read_from(file, at, buf),
         }
@@ -80,7 +80,7 @@ impl FarBlocks {
     /// or the one that was used least recently. Where there is memory for none it is no block's place.
     fn place_for(&mut self, at: u64) -> usize {
         self.uses = self.uses.saturating_add(1);
-        if let Some(place) = self.blocks.iter().position(|block| block.span.at() == at) {
+        if let Some(place) = self.blocks.iter().position(|block| block.window.at() == at) {
             return place;
         }
         let behind = self.blocks.len();
@@ -92,8 +92,8 @@ impl FarBlocks {
 
     /// Whether there is memory for one more block, which then stands behind the others.
     fn add_block(&mut self) -> bool {
-        let mut span = Span::new(self.alloc);
-        span.has_room(BLOCK) && self.blocks.push(FarBlock { span, used: 0 }).is_ok()
+        let mut window = FileWindow::new(self.alloc);
+        window.has_room(BLOCK) && self.blocks.push(FarBlock { window, used: 0 }).is_ok()
     }
 
     /// The place of the block that was used least recently, or 0.

@@ -5,12 +5,11 @@
 #![tactic(auto)]
 
 mod far_blocks;
-mod gathered;
 mod opened;
 mod read_ahead;
-mod span;
 mod whole;
 mod window;
+mod write_behind;
 
 pub use opened::{Access, Opened, Waiting, no_regular_file};
 pub use whole::WholeFiles;

@@ -1,7 +1,7 @@
 ghost use Rattle.std.specs.Prelude.{◌≤◌, length, IfOk};
 
-use crate::gathered::Gathered;
 use crate::read_ahead::ReadAhead;
+use crate::write_behind::WriteBehind;
 use std::alloc::Global;
 use std::fs::{File, Metadata};
 use std::io;
@@ -65,7 +65,7 @@ pub struct Opened {
     file: File,
     access: Access,
     ahead: ReadAhead,
-    gathered: Gathered,
+    gathered: WriteBehind,
 }
 
 /// Why what is no regular file, such as a folder or a pipe, is refused. A link is, where it is not followed.
@@ -87,7 +87,7 @@ impl Opened {
             file,
             access,
             ahead: ReadAhead::new(alloc),
-            gathered: Gathered::new(alloc),
+            gathered: WriteBehind::new(alloc),
         }
     }
 

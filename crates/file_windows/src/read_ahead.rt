@@ -1,8 +1,7 @@
 ghost use Rattle.std.specs.Prelude.{◌≤◌, length, IfOk};
 
 use crate::far_blocks::FarBlocks;
-use crate::span::Span;
-use crate::window::WINDOW;
+use crate::window::{FileWindow, WINDOW};
 use std::alloc::Global;
 use std::fs::File;
 use std::io;
@@ -17,7 +16,7 @@ use std::io;
 /// read to its new end.
 #[derive(Drop)]
 pub(crate) struct ReadAhead {
-    window: Span,
+    window: FileWindow,
     far: FarBlocks,
     far_end: Option<u64>,
 }
@@ -34,7 +33,7 @@ impl ReadAhead {
     /// Nothing was read yet, and a read from the beginning of the file goes on.
     pub fn new(alloc: Global) -> ReadAhead {
         ReadAhead {
-            window: Span::new(alloc),
+            window: FileWindow::new(alloc),
             far: FarBlocks::new(alloc),
             far_end: None,
         }

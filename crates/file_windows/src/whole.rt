@@ -1,6 +1,6 @@
 ghost use Rattle.std.specs.Prelude.{◌≤◌, length};
 
-use crate::span::read_from;
+use crate::window::read_from;
 use std::alloc::Global;
 use std::fs::File;
 use std::io;

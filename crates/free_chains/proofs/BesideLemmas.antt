@@ -4,7 +4,7 @@ use Rattle.std.proofs.lemmas.Bool.Decides.{eqb_tells}
 use Rattle.quota_types.specs.Bytes.{byte_at}
 use Rattle.quota_types.specs.Times.{times}
 use Rattle.file_blocks.specs.Block.{block_of}
-use Rattle.quota_types.specs.Span.{KeepsOutside}
+use Rattle.quota_types.specs.KeptBytes.{KeepsOutside}
 use Rattle.quota_pages.specs.Used.{HasWord}
 use Rattle.quota_pages.specs.KeptBlocks.{KeepsBlocksBut}
 use Rattle.free_chains.specs.Links.{ChangesLinksAlone, HasLinks, led_to}

@@ -6,7 +6,7 @@ use Rattle.quota_types.specs.Bytes.{number_at}
 use Rattle.quota_types.specs.Times.{times}
 use Rattle.quota_types.proofs.TimesLemmas.{stands_right, times-cons-other, times-cons-same}
 use Rattle.file_blocks.specs.Block.{block_of, leads, next_of, previous_of}
-use Rattle.quota_types.specs.Span.{KeepsOutside}
+use Rattle.quota_types.specs.KeptBytes.{KeepsOutside}
 use Rattle.file_blocks.proofs.LeadsLemmas.{leads_within}
 use Rattle.quota_types.proofs.BytesLemmas.{number_same}
 use Rattle.quota_pages.specs.Used.{HasWord}

@@ -4,7 +4,7 @@ pub mod WalkLemmas
 pub mod SpliceLemmas
 pub mod FreeListLemmas
 pub mod EntryListLemmas
-pub mod LeaveLemmas
-pub mod CountLemmas
+pub mod LeaveEntryListLemmas
+pub mod FreeCountLemmas
 pub mod RoomLemmas
 pub mod LinkLemmas

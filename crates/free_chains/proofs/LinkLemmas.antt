@@ -6,7 +6,7 @@ use Rattle.std.proofs.lemmas.Bool.Decides.{eqb_tells}
 use Rattle.quota_types.proofs.TimesLemmas.{stands_either, stands_left, stands_right, times-append}
 use Rattle.file_blocks.specs.Block.{block_of}
 use Rattle.outside.specs.Seen.{StoreSeen}
-use Rattle.quota_types.specs.Span.{KeepsOutside}
+use Rattle.quota_types.specs.KeptBytes.{KeepsOutside}
 use Rattle.quota_types.proofs.BytesLemmas.{number_same}
 use Rattle.quota_pages.specs.Page.{Page, is_buffered}
 use Rattle.quota_pages.specs.Pages.{pages_of}

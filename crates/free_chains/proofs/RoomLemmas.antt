@@ -13,7 +13,7 @@ use Rattle.free_chains.specs.FreeList.{CountsWithin}
 use Rattle.free_chains.specs.Links.{led_to, missing_at}
 use Rattle.free_chains.specs.declared.heads.Heads.{Heads}
 use Rattle.free_chains.proofs.ChainLemmas.{chain_goes_on}
-use Rattle.free_chains.proofs.CountLemmas.{IsBegun, begun_more}
+use Rattle.free_chains.proofs.FreeCountLemmas.{IsBegun, begun_more}
 
 -- a link that is not 0 leads to one block
 led_some : (number : ℕ) → number ≢ 0 → led_to number ≡ number ∷ []

@@ -2,7 +2,7 @@
 -- `fs/quota/quota_tree.h`: a link that is 0 leads to no block.
 use Rattle.std.specs.Prelude.{◌≡◌, ℕ, ◌==◌, List, [], ◌∷◌, if◌then◌else◌}
 use Rattle.file_blocks.specs.Block.{block_of, next_of, previous_of}
-use Rattle.quota_types.specs.Span.{KeepsOutside}
+use Rattle.quota_types.specs.KeptBytes.{KeepsOutside}
 use Rattle.quota_pages.specs.Page.{Page}
 use Rattle.quota_pages.specs.Used.{missing}
 

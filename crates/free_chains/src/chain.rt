@@ -4,7 +4,7 @@ ghost use Rattle.file_blocks.specs.CheckFault.{IsCheckFault};
 ghost use Rattle.file_blocks.specs.Block.{file_of};
 ghost use Rattle.free_chains.specs.Walk.{AreLinksTo, IsWalk, IsWalkDefect};
 
-use crate::link::Link;
+use crate::chain_link::ChainLink;
 use file_blocks::{BlockSet, CheckFault, le32, read_block};
 use outside::Store;
 use quota_types::{DamageKind, damage_at};
@@ -14,7 +14,7 @@ use std::alloc::{AllocError, Global};
 #[derive(Drop)]
 pub struct Walk {
     /// The blocks, with their previous fields.
-    pub links: Vec<Link>,
+    pub links: Vec<ChainLink>,
     /// The same blocks, as a set.
     pub met: BlockSet,
 }
@@ -66,7 +66,7 @@ impl Walk {
         let mut block = [0; 1024];
         read_block(store, name, at, &mut block)?;
         let previous = le32(&block, 4);
-        self.links.push(Link {
+        self.links.push(ChainLink {
             block: at,
             previous,
         })?;

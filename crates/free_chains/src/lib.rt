@@ -12,17 +12,17 @@
 mod block_links;
 mod chain;
 mod chain_fault;
-mod counting;
+mod chain_link;
 mod entry_list;
+mod free_count;
 mod free_list;
 mod heads;
 pub mod laws;
-mod link;
 
 pub use chain::{Walk, walk_chain};
 pub use chain_fault::ChainFault;
-pub use counting::count_free;
+pub use chain_link::ChainLink;
 pub use entry_list::{enter_entry_list, leave_entry_list};
+pub use free_count::count_free;
 pub use free_list::{give_block, take_block};
 pub use heads::Heads;
-pub use link::Link;

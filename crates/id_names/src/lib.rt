@@ -5,11 +5,11 @@
 //! matches.
 #![tactic(auto)]
 
-mod fault;
 mod index;
 mod line;
+mod names_fault;
 mod names_file;
 mod parts;
 
-pub use fault::NamesFault;
+pub use names_fault::NamesFault;
 pub use names_file::Names;

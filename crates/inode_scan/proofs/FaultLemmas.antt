@@ -5,9 +5,9 @@ use Rattle.std.specs.List.{AllByRecursion, cons_option, enumerate_from, filter_m
 use Rattle.std.specs.Option.{option_and_then, option_to_list}
 use Rattle.std.proofs.lemmas.List.Elements.{filter_map-append}
 use Rattle.quota_types.proofs.ListLemmas.{AllByRecursion-weaker}
-use Rattle.inode_scan.specs.declared.fault.ScanFault.{ScanFault}
+use Rattle.inode_scan.specs.declared.scan_fault.ScanFault.{ScanFault}
 use Rattle.inode_scan.specs.Line.{is_bad}
-use Rattle.inode_scan.specs.declared.fault.ScanFault.TheVariants.{BadLine, Conflict}
+use Rattle.inode_scan.specs.declared.scan_fault.ScanFault.TheVariants.{BadLine, Conflict}
 use Rattle.inode_scan.specs.Listing.{Counted, conflict_of, counted_line, counted_lines, fault_of, faults_of, first_of, is_agreed}
 use Rattle.inode_scan.proofs.ListLemmas.{each_given, enumerate_from-append, filter_map_same}
 use Rattle.inode_scan.proofs.FirstLemmas.{all_found, counted_lines-append, first_of-kept}

@@ -7,7 +7,7 @@ use Rattle.std.proofs.lemmas.Bool.Decides.{nat_tests}
 use Rattle.std.proofs.lemmas.List.Elements.{filter-append, filter_map-append}
 use Rattle.std.proofs.lemmas.List.Folds.{find-append}
 use Rattle.quota_types.proofs.ListLemmas.{AllByRecursion-weaker}
-use Rattle.inode_scan.specs.declared.fault.ScanFault.TheVariants.{Conflict}
+use Rattle.inode_scan.specs.declared.scan_fault.ScanFault.TheVariants.{Conflict}
 use Rattle.inode_scan.specs.declared.row.Row.{Row}
 use Rattle.inode_scan.specs.Listing.{Counted, conflict_of, counted_line, counted_lines, counted_row, first_lines, first_of, has_number, is_agreed, is_first, is_same_inode}
 use Rattle.inode_scan.specs.Tally.{AreBefore}

@@ -5,8 +5,8 @@ use Rattle.std.specs.List.{AllByRecursion, cons_option, enumerate_from, filter_m
 use Rattle.std.specs.Option.{option_and_then, option_map, option_to_list}
 use Rattle.std.proofs.lemmas.Bool.Decides.{nat_tests}
 use Rattle.quota_types.specs.declared.file_kind.Kind.TheVariants.{User}
-use Rattle.inode_scan.specs.declared.fault.ScanFault.{ScanFault}
-use Rattle.inode_scan.specs.declared.fault.ScanFault.TheVariants.{BadLine, Conflict}
+use Rattle.inode_scan.specs.declared.scan_fault.ScanFault.{ScanFault}
+use Rattle.inode_scan.specs.declared.scan_fault.ScanFault.TheVariants.{BadLine, Conflict}
 use Rattle.inode_scan.specs.declared.row.Row.{Row}
 use Rattle.inode_scan.specs.Faults.{unless}
 use Rattle.inode_scan.specs.Generated.{first_alike, generated, generated_lines, lines_text, next_number, number_of_line, repeats, row_made, row_text}

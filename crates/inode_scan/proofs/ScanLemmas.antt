@@ -9,8 +9,8 @@ use Rattle.input_text.specs.Lines.{next_line_of}
 use Rattle.input_text.specs.declared.line_reader.LineFault.{LineFault}
 use Rattle.input_text.specs.declared.line_reader.LineFault.TheVariants.{Source, Long, TooLarge}
 use Rattle.input_text.proofs.InputLinesLemmas.{input_lines-long, input_lines-past, lines_left-next}
-use Rattle.inode_scan.specs.declared.fault.ScanFault.{ScanFault}
-use Rattle.inode_scan.specs.declared.fault.ScanFault.TheVariants as scan
+use Rattle.inode_scan.specs.declared.scan_fault.ScanFault.{ScanFault}
+use Rattle.inode_scan.specs.declared.scan_fault.ScanFault.TheVariants as scan
 use Rattle.inode_scan.specs.declared.tally.Tally.{Tally}
 use Rattle.inode_scan.specs.Faults.{unless}
 use Rattle.inode_scan.specs.Listing.{counted_lines, fault_of, faults_of, usage_of}

@@ -8,8 +8,8 @@ use Rattle.std.specs.Ordering.{nat_cmp}
 use Rattle.std.specs.Option.{option_and_then, option_map, option_or, option_to_list}
 use Rattle.std.proofs.lemmas.Bool.Decides.{nat_tests}
 use Rattle.input_text.specs.Words.{words_eq, words_of}
-use Rattle.inode_scan.specs.declared.fault.ScanFault.{ScanFault}
-use Rattle.inode_scan.specs.declared.fault.ScanFault.TheVariants.{Source, TooLarge, BadLine, LongLine, Conflict, Memory}
+use Rattle.inode_scan.specs.declared.scan_fault.ScanFault.{ScanFault}
+use Rattle.inode_scan.specs.declared.scan_fault.ScanFault.TheVariants.{Source, TooLarge, BadLine, LongLine, Conflict, Memory}
 use Rattle.inode_scan.specs.declared.inode.Inode.{Inode}
 use Rattle.inode_scan.specs.declared.inode.FirstLine.{FirstLine}
 use Rattle.inode_scan.specs.declared.row.Row.{Row}
@@ -19,7 +19,7 @@ use Rattle.quota_types.proofs.ListLemmas.{option_or-none}
 use Rattle.inode_scan.specs.Firsts.{inode_eq, kept_in, kept_or}
 use Rattle.inode_scan.specs.Line.{is_bad, row_in, row_of}
 use Rattle.inode_scan.specs.Listing.{Counted, conflict_of, counted_line, counted_lines, counted_row, fault_of, faults_of, first_lines, first_of, is_asked, is_same_inode, owned, owner_of, usage_of, used_in}
-use Rattle.inode_scan.specs.Tally.{AreBefore, ConflictsAs, IsOf, IsRefusedLine, IsRefusedRow, Keeps, TakesRow, agrees, counted_at, first_kept, row_at}
+use Rattle.inode_scan.specs.Tally.{AreBefore, ConflictsAs, IsOf, IsRefusedLine, IsRefusedRow, KeepsLines, TakesRow, agrees, counted_at, first_kept, row_at}
 use Rattle.inode_scan.specs.Usage.{UsageMap}
 use Rattle.inode_scan.specs.UsageSums.{with_inode}
 use Rattle.inode_scan.proofs.FaultLemmas.{faults_of-push}
@@ -41,7 +41,7 @@ none_mapped f None e = refl
 none_mapped f (Some x) e = absurd (cc)
 
 -- what is kept says whether the row's inode has a first line
-kept_at : (tally : Tally) (lines : List Counted) (row : Row) → Keeps tally lines → kept_in tally.firsts (inode_of row) ≡ option_map first_kept (first_of lines row)
+kept_at : (tally : Tally) (lines : List Counted) (row : Row) → KeepsLines tally lines → kept_in tally.firsts (inode_of row) ≡ option_map first_kept (first_of lines row)
 kept_at tally lines row keeps = keeps.firsts (inode_of row) ∙ ap (option_map first_kept) (at_inode lines row)
 
 -- A later line of an inode.
@@ -54,7 +54,7 @@ checked lines row number kept (Some first) found is =
     conflict_of-later lines (counted_at number row) first found
     ∙ ap (λ (k : FirstLine). if agrees k row then None else Some (Conflict number k.number)) same
 
-pub conflict_by : (tally : Tally) (lines : List Counted) (row : Row) (number : ℕ) (kept : FirstLine) → Keeps tally lines → kept_in tally.firsts (inode_of row) ≡ Some kept
+pub conflict_by : (tally : Tally) (lines : List Counted) (row : Row) (number : ℕ) (kept : FirstLine) → KeepsLines tally lines → kept_in tally.firsts (inode_of row) ≡ Some kept
     → conflict_of (lines ++ counted_at number row ∷ []) (counted_at number row) ≡ (if agrees kept row then None else Some (Conflict number kept.number))
 conflict_by tally lines row number kept keeps is = checked lines row number kept (first_of lines row) refl (sym (kept_at tally lines row keeps) ∙ is)
 
@@ -97,8 +97,8 @@ usage_same kind lines line first before found =
     ap (λ (ls : List Counted). from_entries {R = nat_cmp} (map (λ (first : Counted). (owner_of kind first.row, used_in (owned kind ls (owner_of kind first.row)))) ls)) (sym firsts)
 
 -- what is kept is that of a later line, too
-later_kept : (tally : Tally) (lines : List Counted) (row : Row) (number : ℕ) (kept : FirstLine) (first : Option Counted) → AreBefore number lines → Keeps tally lines
-    → first_of lines row ≡ first → option_map first_kept first ≡ Some kept → Keeps tally (lines ++ counted_at number row ∷ [])
+later_kept : (tally : Tally) (lines : List Counted) (row : Row) (number : ℕ) (kept : FirstLine) (first : Option Counted) → AreBefore number lines → KeepsLines tally lines
+    → first_of lines row ≡ first → option_map first_kept first ≡ Some kept → KeepsLines tally (lines ++ counted_at number row ∷ [])
 later_kept tally lines row number kept None before keeps found is = absurd (cc)
 later_kept tally lines row number kept (Some first) before keeps found is = record {
   firsts = λ inode. keeps.firsts inode ∙ ap (option_map first_kept) (sym (first_of-later lines row number first inode found));
@@ -146,7 +146,7 @@ pub record KeepsSame (old new : Tally) : Type 0 where
   pub sums : new.sums ≡ old.sums
   pub kind : new.kind ≡ old.kind
 
-keeps_same : (old new : Tally) (lines : List Counted) → KeepsSame old new → Keeps old lines → Keeps new lines
+keeps_same : (old new : Tally) (lines : List Counted) → KeepsSame old new → KeepsLines old lines → KeepsLines new lines
 keeps_same old new lines same keeps = record {
   firsts = λ inode. same.firsts inode ∙ keeps.firsts inode;
   sums = same.sums ∙ keeps.sums ∙ ap (λ (kind : Kind). usage_of kind lines) (sym same.kind);
@@ -251,7 +251,7 @@ of_uncounted tally lines line number is good none of =
     counted_push tally.device lines line number None is none ∙ append-nil (counted_lines tally.device lines) in
     let right : fault_of tally.device (counted_lines tally.device (lines ++ line ∷ [])) (number, line) ≡ None = rw (good, none) refl in
     record {
-      kept = subst (Keeps tally) (sym same) of.kept;
+      kept = subst (KeepsLines tally) (sym same) of.kept;
       clean = faults_of-push tally.device lines line number is ∙ ap (λ faults. faults ++ option_to_list (fault_of tally.device (counted_lines tally.device (lines ++ line ∷ [])) (number, line))) of.clean ∙ ap option_to_list right;
     }
 
@@ -266,7 +266,7 @@ of_counted old new lines line number row is device good counts takes of =
     let clean : faults_of old.device (lines ++ line ∷ []) ≡ [] =
     faults_of-push old.device lines line number is ∙ ap (λ faults. faults ++ option_to_list (fault_of old.device (counted_lines old.device (lines ++ line ∷ [])) (number, line))) of.clean ∙ ap option_to_list right in
     record {
-      kept = subst (Keeps new) (sym (ap (λ d. counted_lines d (lines ++ line ∷ [])) device ∙ more)) taken.0;
+      kept = subst (KeepsLines new) (sym (ap (λ d. counted_lines d (lines ++ line ∷ [])) device ∙ more)) taken.0;
       clean = ap (λ d. faults_of d (lines ++ line ∷ [])) device ∙ clean;
     }
 

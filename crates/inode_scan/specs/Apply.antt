@@ -14,8 +14,8 @@ use Rattle.quota_types.specs.Range.{unfit}
 use Rattle.quota_types.specs.Rec.{is_null_of, zero_record}
 use Rattle.quota_types.specs.Timers.{timers_of}
 use Rattle.quota_value.specs.QuotaValue.{Records}
-use Rattle.inode_scan.specs.declared.fault.ApplyFault.{ApplyFault}
-use Rattle.inode_scan.specs.declared.fault.ApplyFault.TheVariants.{NoRoom as Unfit, Memory}
+use Rattle.inode_scan.specs.declared.scan_fault.ApplyFault.{ApplyFault}
+use Rattle.inode_scan.specs.declared.scan_fault.ApplyFault.TheVariants.{NoRoom as Unfit, Memory}
 use Rattle.inode_scan.specs.declared.used.Used.{Used}
 use Rattle.inode_scan.specs.Faults.{unless}
 use Rattle.inode_scan.specs.Usage.{UsageMap}

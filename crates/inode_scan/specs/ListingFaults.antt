@@ -5,8 +5,8 @@ use Rattle.input_text.specs.InputLines.{InputLines, LongNext, PastNext}
 use Rattle.input_text.specs.LineReading.{lines_left, LinesSeen}
 use Rattle.input_text.specs.declared.line_reader.LineFault.{LineFault}
 use Rattle.input_text.specs.declared.line_reader.LineFault.TheVariants.{Source as SourceFailed, Long, TooLarge as PastTotal}
-use Rattle.inode_scan.specs.declared.fault.ScanFault.{ScanFault}
-use Rattle.inode_scan.specs.declared.fault.ScanFault.TheVariants.{Source, TooLarge, BadLine, LongLine, Conflict, Memory}
+use Rattle.inode_scan.specs.declared.scan_fault.ScanFault.{ScanFault}
+use Rattle.inode_scan.specs.declared.scan_fault.ScanFault.TheVariants.{Source, TooLarge, BadLine, LongLine, Conflict, Memory}
 use Rattle.inode_scan.specs.Usage.{UsageMap}
 
 -- The source's count of faults rose; or memory ran out, which is left open; or, of a source that tells what is left in it,

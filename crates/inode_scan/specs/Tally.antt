@@ -3,8 +3,8 @@ use Rattle.std.specs.Prelude.{◌≡◌, ℕ, ◌+◌, ◌*◌, ◌^◌, ◌<◌
 use Rattle.std.specs.FinMap as map
 use Rattle.std.specs.List.{AllByRecursion}
 use Rattle.std.specs.Option.{option_map}
-use Rattle.inode_scan.specs.declared.fault.ScanFault.{ScanFault}
-use Rattle.inode_scan.specs.declared.fault.ScanFault.TheVariants.{Source, TooLarge, BadLine, LongLine, Conflict, Memory}
+use Rattle.inode_scan.specs.declared.scan_fault.ScanFault.{ScanFault}
+use Rattle.inode_scan.specs.declared.scan_fault.ScanFault.TheVariants.{Source, TooLarge, BadLine, LongLine, Conflict, Memory}
 use Rattle.inode_scan.specs.declared.inode.Inode.{Inode}
 use Rattle.inode_scan.specs.declared.inode.FirstLine.{FirstLine}
 use Rattle.inode_scan.specs.declared.row.Row.{Row}
@@ -34,7 +34,7 @@ abbrev pub counted_at : ℕ → Row → Counted
 counted_at number row = record { number = number; row = row }
 
 -- what is kept is that of these lines
-pub record Keeps (tally : Tally) (lines : List Counted) : Type 0 where
+pub record KeepsLines (tally : Tally) (lines : List Counted) : Type 0 where
   pub firsts : (inode : Inode) → kept_in tally.firsts inode ≡ option_map first_kept (first_of lines (row_at inode))
   pub sums : tally.sums ≡ usage_of tally.kind lines
 
@@ -44,12 +44,12 @@ AreBefore number lines = AllByRecursion (λ line. line.number < number) lines
 
 -- a row is taken behind the lines before it, and conflicts with none
 abbrev pub TakesRow : (old new : Tally) → Row → ℕ → Type 0
-TakesRow old new row number = (lines : List Counted) → AreBefore number lines → Keeps old lines
-    → Keeps new (lines ++ counted_at number row ∷ []) × (conflict_of (lines ++ counted_at number row ∷ []) (counted_at number row) ≡ None)
+TakesRow old new row number = (lines : List Counted) → AreBefore number lines → KeepsLines old lines
+    → KeepsLines new (lines ++ counted_at number row ∷ []) × (conflict_of (lines ++ counted_at number row ∷ []) (counted_at number row) ≡ None)
 
 -- this is what is wrong with a row that stands behind other lines
 abbrev pub ConflictsAs : Tally → Row → ℕ → ScanFault → Type 0
-ConflictsAs tally row number fault = (lines : List Counted) → Keeps tally lines
+ConflictsAs tally row number fault = (lines : List Counted) → KeepsLines tally lines
     → conflict_of (lines ++ counted_at number row ∷ []) (counted_at number row) ≡ Some fault
 
 -- a row is refused for a conflict, or for lack of memory
@@ -63,7 +63,7 @@ IsRefusedRow tally row number Memory = ⊤
 
 -- what is kept is that of the lines that count among these, with none of which anything is wrong
 pub record IsOf (tally : Tally) (lines : List (List ℕ)) : Type 0 where
-  pub kept : Keeps tally (counted_lines tally.device lines)
+  pub kept : KeepsLines tally (counted_lines tally.device lines)
   pub clean : faults_of tally.device lines ≡ []
 
 -- this is what is wrong with a line that stands behind other lines, with which nothing is

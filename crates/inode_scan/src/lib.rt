@@ -7,12 +7,12 @@
 #![tactic(auto)]
 
 mod applying;
-mod fault;
 mod firsts;
 mod generated;
 mod inode;
 mod narrow;
 mod row;
+mod scan_fault;
 mod scanning;
 mod sums;
 mod tally;
@@ -21,8 +21,8 @@ mod used;
 mod wanted;
 
 pub use applying::apply;
-pub use fault::{ApplyFault, ScanFault};
 pub use generated::Generated;
+pub use scan_fault::{ApplyFault, ScanFault};
 pub use scanning::scan;
 pub use usage::Usage;
 pub use used::Used;

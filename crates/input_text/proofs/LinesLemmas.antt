@@ -60,15 +60,15 @@ module _ {X : Type 0} (q : X → Bool) where
 both_more : (a b : ℕ) → nat_lt a b ≡ nat_lt (1 + a) (suc b)
 both_more a b = grind (arith, nat_tests)
 
-both : (any past : Bool) → any ≡ false → past ≡ true → (not any && past) ≡ true
-both any past none more = ap (λ (b : Bool). not b && past) none ∙ more
+none_before_and_past : (any past : Bool) → any ≡ false → past ≡ true → (not any && past) ≡ true
+none_before_and_past any past none more = ap (λ (b : Bool). not b && past) none ∙ more
 
 neither : (any past : Bool) → past ≡ false → (not any && past) ≡ false
 neither true past less = refl
 neither false past less = less
 
-there : (any past : Bool) → any ≡ true → (not any && past) ≡ false
-there any past some = ap (λ (b : Bool). not b && past) some
+some_before : (any past : Bool) → any ≡ true → (not any && past) ≡ false
+some_before any past some = ap (λ (b : Bool). not b && past) some
 
 -- a newline stands among the bytes that may be read, or all may be read
 ended : (newline room len : ℕ) → newline ≤ len → (newline < room) ⊎ (len ≤ room) → (not (nat_lt (min room newline) (min room len)) && nat_lt room len) ≡ false
@@ -76,7 +76,7 @@ ended newline room len within (inl inside) =
     elim (cases_Bool (nat_lt room len)) [
       | inl more ↦
           let less : room < len = ltb-true _ _ more in
-          there _ _ (lt-ltb (min room newline) (min room len) (omega arith))
+          some_before _ _ (lt-ltb (min room newline) (min room len) (omega arith))
       | inr less ↦ neither _ _ less
     ]
 ended newline room len within (inr all) = neither _ _ (le-ltb _ _ all)
@@ -107,7 +107,7 @@ newline_within bytes = newline_at-le bytes
 pub position_none : (bytes : List ℕ) → None ≡ position is_newline bytes → length bytes ≡ position_or_len is_newline bytes
 position_none bytes none =
     elim (cases_Bool (nat_lt (newline_at bytes) (length bytes))) [
-      | inl there ↦ absurd (none-some (newline_at bytes) (none ∙ cond-true _ _ _ there))
+      | inl some_before ↦ absurd (none-some (newline_at bytes) (none ∙ cond-true _ _ _ some_before))
       | inr past ↦ omega (arith, ltb-false _ _ past, newline_at-le bytes)
     ]
 
@@ -150,7 +150,7 @@ pub next-past : (most room : ℕ) (rest : List ℕ) → min room (newline_at res
 next-past most room rest within none more =
     next_picked most room rest
     ∙ cond-false _ _ _ (le-ltb _ _ within)
-    ∙ cond-true _ _ _ (both _ _ (le-ltb (min room (newline_at rest)) (min room (length rest)) (omega arith)) (lt-ltb _ _ more))
+    ∙ cond-true _ _ _ (none_before_and_past _ _ (le-ltb (min room (newline_at rest)) (min room (length rest)) (omega arith)) (lt-ltb _ _ more))
 
 -- the line ends with its newline, or with the input
 pub next-line : (most room : ℕ) (rest : List ℕ) → newline_at rest ≤ most → newline_at rest ≤ room → (newline_at rest < room) ⊎ (length rest ≤ room) → 0 < length rest
@@ -198,9 +198,9 @@ module _ (line held left : List ℕ) (open_line : list_any is_newline line ≡ f
       → room < length line + newline_at held + (cond (nat_lt (newline_at held) (length held)) 1 0) → next_line_of most room (line ++ (held ++ left)) ≡ PastTotal
   past_with most room within over =
       elim (cases_Bool (nat_lt (newline_at held) (length held))) [
-        | inl there ↦
-            let inside : newline_at held < length held = ltb-true _ _ there in
-            let over' : room < length line + newline_at held + 1 = subst (λ (b : Bool). room < length line + newline_at held + (cond b 1 0)) there over in
+        | inl some_before ↦
+            let inside : newline_at held < length held = ltb-true _ _ some_before in
+            let over' : room < length line + newline_at held + 1 = subst (λ (b : Bool). room < length line + newline_at held + (cond b 1 0)) some_before over in
             let same : newline_at (line ++ (held ++ left)) ≡ length line + newline_at held = newline_at-line ∙ ap (λ (n : ℕ). length line + n) (newline_at-front inside) in
             next-past most room _ (omega (arith, same)) (omega (arith, same)) (omega (arith, length-whole))
         | inr past ↦
@@ -224,8 +224,8 @@ module _ (line held left : List ℕ) (open_line : list_any is_newline line ≡ f
   -- a line that ended with a held newline
   pub ended_line : (most room front : ℕ) (line_now held_now : List ℕ) → front ≡ newline_at held → nat_lt front (length held) ≡ true → length line + front ≤ most → length line + front + 1 ≤ room
       → line_now ≡ line ++ take front held → held_now ≡ drop 1 (drop front held) → next_line_of most room (line ++ (held ++ left)) ≡ Line line_now (held_now ++ left)
-  ended_line most room front line_now held_now is there within fits line_is held_is =
-      let inside : front < length held = ltb-true _ _ there in
+  ended_line most room front line_now held_now is some_before within fits line_is held_is =
+      let inside : front < length held = ltb-true _ _ some_before in
       let place : newline_at (line ++ (held ++ left)) ≡ length line + front =
       newline_at-line ∙ ap (λ (n : ℕ). length line + n) (newline_at-front (let less : newline_at held < length held = omega arith in less) ∙ sym is) in
       let bytes : line_front (line ++ (held ++ left)) ≡ line_now =

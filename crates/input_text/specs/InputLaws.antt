@@ -10,11 +10,11 @@ use Rattle.outside.specs.Count.{Rose}
 use Rattle.outside.specs.Frame.{IsUnfailed, OnlyReads}
 use Rattle.outside.specs.Seen.{StoreSeen}
 use Rattle.input_text.specs.StoreInput.{KeepsInput}
-use Rattle.outside.specs.Unsynced.{AddsNone, Names}
+use Rattle.outside.specs.Unsynced.{AddsNone, UnsyncedNames}
 use Rattle.input_text.specs.declared.store_input.StoreInput.{StoreInput}
 
 -- no name is unsynced that was not, unless the count of faults rose: so along two calls in a row where it is so along each
-unsynced_on : (faults faults_between faults_last : ℕ) (names names_between names_last : Names) → faults ≤ faults_between → faults_between ≤ faults_last
+unsynced_on : (faults faults_between faults_last : ℕ) (names names_between names_last : UnsyncedNames) → faults ≤ faults_between → faults_between ≤ faults_last
     → (Rose faults faults_between ⊎ AddsNone names names_between) → (Rose faults_between faults_last ⊎ AddsNone names_between names_last)
     → Rose faults faults_last ⊎ AddsNone names names_last
 unsynced_on faults faults_between faults_last names names_between names_last later later_last one two =

@@ -2,27 +2,27 @@
 use Rattle.std.proofs.Common.{◌≡◌, ◌≢◌, inl, inr, ⊎_elim, ℕ, Bool, false, refl, List, Option, sym, ap, ◌∙◌}
 use Rattle.std.specs.Str.{bytes_eq}
 use Rattle.std.proofs.lemmas.Bool.{cases_Bool, cond-false, cond-true}
-use Rattle.outside.specs.Unsynced.{Names, with_handed, with_name}
+use Rattle.outside.specs.Unsynced.{UnsyncedNames, with_handed, with_name}
 use Rattle.outside.specs.World.{KeepsOthers, World}
 use Rattle.disk.specs.DiskSeen.{DiskSeen, OnlyLeaves, Passes}
 use Rattle.disk.proofs.StopLemmas.{only_leaves-wider, passes-then, passes-wider}
 use Rattle.edit_journal.specs.Recovery.{IsSame}
 use Rattle.edit_journal.specs.Recovered.{RecoversSame, KeepsOtherThree}
-use Rattle.edit_journal.proofs.CommitLemmas.{only-then}
+use Rattle.edit_journal.proofs.CommitStopLemmas.{only-then}
 use Rattle.edit_journal.proofs.ReadLemmas.{looks-wider}
-use Rattle.edit_journal.proofs.RecoverLemmas.{as_before}
+use Rattle.edit_journal.proofs.RecoveryCallLemmas.{as_before}
 use Rattle.journal_store.specs.JournalStore.{RecoversAsBeforeOr}
 use Rattle.journal_store.proofs.NamesLemmas.{names-with, with_name-at, with_name-other}
 
 -- one name is made so, whatever it was
-pub with_name-keeps : (one other : Names) (name : List ℕ) (is : Bool) → KeepsOthers name one other → with_name other name is ≡ with_name one name is
+pub with_name-keeps : (one other : UnsyncedNames) (name : List ℕ) (is : Bool) → KeepsOthers name one other → with_name other name is ≡ with_name one name is
 with_name-keeps one other name is keeps =
     names-with one (with_name other name is) name is
     (λ n differ. with_name-other other name is n differ ∙ keeps n differ)
     (with_name-at other name is)
 
 -- a name is handed over, whatever the one that gets it was
-pub with_handed-keeps : (one other : Names) (from to : List ℕ) → from ≢ to → KeepsOthers to one other → with_handed other from to ≡ with_handed one from to
+pub with_handed-keeps : (one other : UnsyncedNames) (from to : List ℕ) → from ≢ to → KeepsOthers to one other → with_handed other from to ≡ with_handed one from to
 with_handed-keeps one other from to differ keeps =
     ap (λ (b : Bool). with_name (with_name other from false) to b) (keeps from differ)
     ∙ with_name-keeps (with_name one from false) (with_name other from false) to (one from)
@@ -66,5 +66,5 @@ module _ (name undo und : List ℕ) where
       (others-entered a b first) second
 
 -- all other names stay where one is made so
-pub names-made : (one other : Names) (name : List ℕ) (is : Bool) → other ≡ with_name one name is → KeepsOthers name one other
-names-made one other name is made n differ = ap (λ (names : Names). names n) made ∙ with_name-other one name is n differ
+pub names-made : (one other : UnsyncedNames) (name : List ℕ) (is : Bool) → other ≡ with_name one name is → KeepsOthers name one other
+names-made one other name is made n differ = ap (λ (names : UnsyncedNames). names n) made ∙ with_name-other one name is n differ

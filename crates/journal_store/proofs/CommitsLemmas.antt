@@ -5,8 +5,8 @@ use Rattle.std.specs.Option.{option_map_or}
 use Rattle.std.proofs.lemmas.Bool.{cases_Bool}
 use Rattle.outside.specs.World.{World, with_file, with_new_name}
 use Rattle.outside.proofs.WorldLemmas.{bytes_eq-true, with_file-at, with_new_name-absent, with_new_name-others}
-use Rattle.disk.specs.DiskSeen.{ChangesNothing, DiskSeen, EachImage, IsKept, OnlyLeaves, Passes, TakesStep}
-use Rattle.disk.specs.Steps.{ChangesFile, MayBeRenamed}
+use Rattle.disk.specs.DiskSeen.{ChangesNothing, DiskSeen, EachImage, IsDurable, OnlyLeaves, Passes, TakesStep}
+use Rattle.disk.specs.DiskCalls.{ChangesFile, MayBeRenamed}
 use Rattle.disk.proofs.StopLemmas.{passes-nothing, passes-step}
 use Rattle.quota_types.specs.Bytes.{byte_at}
 use Rattle.edit_journal.specs.Recovery.{IsSame}
@@ -14,7 +14,7 @@ use Rattle.edit_journal.specs.Recovered.{RecoversSame, KeepsOtherThree}
 use Rattle.edit_journal.specs.Undo.{recovered}
 use Rattle.edit_journal.specs.UndoName.{und_name, undo_name}
 use Rattle.edit_journal.proofs.NameLemmas.{und-undo, undo-injective}
-use Rattle.edit_journal.proofs.RecoveredLemmas.{recovered-closed}
+use Rattle.edit_journal.proofs.RecoveryResultLemmas.{recovered-closed}
 use Rattle.journal_store.specs.Commits.{Commits, RecoversOr, commits_then, nothing_commits}
 use Rattle.journal_store.specs.JournalStore.{RecoversAsBeforeOr}
 use Rattle.journal_store.specs.Kinds.{kind_of}
@@ -146,7 +146,7 @@ module _ (from to : List ℕ) (new : IsNew from) (plain : IsPlain to) where
       ]
 
   -- a rename from a file that is kept puts the files of the new name there
-  pub commits_renamed : (world : World) (a b : DiskSeen) → world from ≡ a.files from → IsKept from a
+  pub commits_renamed : (world : World) (a b : DiskSeen) → world from ≡ a.files from → IsDurable from a
       → EachImage (λ image. byte_at (unwrap_or (image (undo_name to)) []) 0 ≢ 1) a
       → TakesStep (MayBeRenamed from to) a b → Commits (with_new_name world from to ∷ []) a b
   commits_renamed world a b told kept closed takes = record {

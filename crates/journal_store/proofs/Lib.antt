@@ -1,7 +1,7 @@
 pub mod BesideLemmas
 pub mod CallLemmas
-pub mod ChangeLemmas
-pub mod CommitLemmas
+pub mod ToldAfterChangeLemmas
+pub mod ToldAfterCommitLemmas
 pub mod CommitsLemmas
 pub mod HeldCommitLemmas
 pub mod HeldLemmas

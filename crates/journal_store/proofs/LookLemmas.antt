@@ -2,29 +2,29 @@
 use Rattle.std.proofs.Common.{◌≡◌, ◌≤◌, inl, inr, ℕ, Bool, ◌||◌, true, false, IsTrue, refl, List, length, Option, option_map, sym, ap, ◌∙◌, subst}
 use Rattle.std.specs.Str.{bytes_eq}
 use Rattle.std.proofs.lemmas.Bool.{cases_Bool, cond-false, false≢true}
-use Rattle.outside.specs.Unsynced.{Names}
+use Rattle.outside.specs.Unsynced.{UnsyncedNames}
 use Rattle.outside.proofs.WorldLemmas.{bytes_eq-true}
 use Rattle.outside.proofs.FrameLemmas.{adds_none-then, keeps_others-then}
 use Rattle.disk.specs.DiskSeen.{DiskSeen}
 use Rattle.edit_journal.specs.Recovered.{RecoversSame, IsRecovered, KeepsOtherThree}
-use Rattle.edit_journal.specs.Spans.{Span, laid}
+use Rattle.edit_journal.specs.ByteRanges.{ByteRange, laid}
 use Rattle.edit_journal.specs.Undo.{recovered}
 use Rattle.edit_journal.specs.UndoName.{und_name, undo_name}
-use Rattle.edit_journal.proofs.RecoverLemmas.{recovered-unopened}
-use Rattle.journal_store.specs.Told.{LooksAt, Told, are_kept, spans_for, told, told_files, told_names}
+use Rattle.edit_journal.proofs.RecoveryCallLemmas.{recovered-unopened}
+use Rattle.journal_store.specs.Told.{LooksAtName, Told, are_kept, ranges_for, told, told_files, told_names}
 use Rattle.journal_store.specs.Kinds.{is_undo}
 use Rattle.journal_store.proofs.KindLemmas.{IsPlain}
-use Rattle.journal_store.proofs.ToldLemmas.{are_kept-moved, differs, names-others, spans_for-held, told-plain, told-recovers}
+use Rattle.journal_store.proofs.ToldLemmas.{are_kept-moved, differs, names-others, ranges_for-held, told-plain, told-recovers}
 
 -- a call that changed nothing only looked
-pub looks-nothing : {done : Bool} (name : List ℕ) (a b : Told) → b ≡ a → LooksAt done name a b
+pub looks-nothing : {done : Bool} (name : List ℕ) (a b : Told) → b ≡ a → LooksAtName done name a b
 looks-nothing {done} name a b same = record {
   files = ap (λ (t : Told). t.files) same;
   unsynced = λ other differ. ap (λ (t : Told). t.unsynced other) same;
   synced = λ is other unsynced. subst (λ (t : Told). IsTrue (t.unsynced other)) same unsynced;
 }
 
-pub looks-then : {done : Bool} (name : List ℕ) (a b c : Told) → LooksAt true name a b → LooksAt done name b c → LooksAt done name a c
+pub looks-then : {done : Bool} (name : List ℕ) (a b c : Told) → LooksAtName true name a b → LooksAtName done name b c → LooksAtName done name a c
 looks-then name a b c first second = record {
   files = second.files ∙ first.files;
   unsynced = keeps_others-then name _ _ _ first.unsynced second.unsynced;
@@ -32,12 +32,12 @@ looks-then name a b c first second = record {
 }
 
 -- what is told of the held file, where it is recovered
-pub told-ready : (disk : DiskSeen) (held : List ℕ) (spans : List Span) (name : List ℕ) → held ≡ name → IsPlain name → disk.images disk.files → IsRecovered name (undo_name name) (disk.files name) disk
+pub told-ready : (disk : DiskSeen) (held : List ℕ) (spans : List ByteRange) (name : List ℕ) → held ≡ name → IsPlain name → disk.images disk.files → IsRecovered name (undo_name name) (disk.files name) disk
     → told_files disk.files held spans name ≡ option_map (laid spans) (disk.files name)
 told-ready disk held spans name is plain now recovers =
     told-plain disk.files held spans name plain.undo plain.new
-    ∙ ap (λ (h : List ℕ). option_map (laid (spans_for h spans name)) (recovered (disk.files name) (disk.files (undo_name name)))) is
-    ∙ ap (λ (l : List Span). option_map (laid l) (recovered (disk.files name) (disk.files (undo_name name)))) (spans_for-held name spans)
+    ∙ ap (λ (h : List ℕ). option_map (laid (ranges_for h spans name)) (recovered (disk.files name) (disk.files (undo_name name)))) is
+    ∙ ap (λ (l : List ByteRange). option_map (laid l) (recovered (disk.files name) (disk.files (undo_name name)))) (ranges_for-held name spans)
     ∙ ap (λ (f : Option (List ℕ)). option_map (laid spans) f) (recovered-unopened (disk.files name) (disk.files (undo_name name)) (recovers.closed disk.files now))
 
 -- a name that is synced is told unsynced only where ranges are kept for it
@@ -45,7 +45,7 @@ or-kept : (kept : Bool) (is : Bool) → is ≡ false → IsTrue (kept || is) →
 or-kept true is synced unsynced = refl
 or-kept false is synced unsynced = absurd (false≢true (sym synced ∙ unsynced))
 
-kept-still : (one other : Names) (held new_held : List ℕ) (spans : List Span) (name : List ℕ) → is_undo name ≡ false → (1 ≤ length spans → held ≡ new_held) → other name ≡ false
+kept-still : (one other : UnsyncedNames) (held new_held : List ℕ) (spans : List ByteRange) (name : List ℕ) → is_undo name ≡ false → (1 ≤ length spans → held ≡ new_held) → other name ≡ false
     → IsTrue (told_names other new_held spans name) → IsTrue (told_names one held spans name)
 kept-still one other held new_held spans name undo moved synced unsynced =
     let kept : IsTrue (are_kept new_held spans name) = or-kept (are_kept new_held spans name) (other name) synced (sym (cond-false _ _ _ undo) ∙ unsynced) in
@@ -53,9 +53,9 @@ kept-still one other held new_held spans name undo moved synced unsynced =
     cond-false _ _ _ undo ∙ ap (λ (b : Bool). b || one name) was
 
 -- a recovery, after which another name may be held
-pub looks-recovers : (done : Bool) (a b : DiskSeen) (held new_held : List ℕ) (spans : List Span) (name : List ℕ) → IsPlain name → (1 ≤ length spans → held ≡ new_held)
+pub looks-recovers : (done : Bool) (a b : DiskSeen) (held new_held : List ℕ) (spans : List ByteRange) (name : List ℕ) → IsPlain name → (1 ≤ length spans → held ≡ new_held)
     → RecoversSame name (undo_name name) (und_name name) a.files b.files → KeepsOtherThree name (undo_name name) (und_name name) a.unsynced b.unsynced → (IsTrue done → b.unsynced name ≡ false)
-    → LooksAt done name (told a held spans) (told b new_held spans)
+    → LooksAtName done name (told a held spans) (told b new_held spans)
 looks-recovers done a b held new_held spans name plain moved step names synced =
     let others = names-others a.unsynced b.unsynced held new_held spans spans name names (λ n differ. are_kept-moved held new_held spans n moved) in
     record {
@@ -70,9 +70,9 @@ looks-recovers done a b held new_held spans name plain moved step names synced =
     }
 
 -- the same, where the names of the undo file were made
-pub looks-taken : (done : Bool) (a b : DiskSeen) (held new_held : List ℕ) (spans : List Span) (name undo und : List ℕ) → undo ≡ undo_name name → und ≡ und_name name → IsPlain name → (1 ≤ length spans → held ≡ new_held)
+pub looks-taken : (done : Bool) (a b : DiskSeen) (held new_held : List ℕ) (spans : List ByteRange) (name undo und : List ℕ) → undo ≡ undo_name name → und ≡ und_name name → IsPlain name → (1 ≤ length spans → held ≡ new_held)
     → RecoversSame name undo und a.files b.files → KeepsOtherThree name undo und a.unsynced b.unsynced → (IsTrue done → b.unsynced name ≡ false)
-    → LooksAt done name (told a held spans) (told b new_held spans)
+    → LooksAtName done name (told a held spans) (told b new_held spans)
 looks-taken done a b held new_held spans name undo und is_undo_name is_und_name plain moved step names synced =
     looks-recovers done a b held new_held spans name plain moved
     (subst (λ (u : List ℕ). RecoversSame name u (und_name name) a.files b.files) is_undo_name (subst (λ (u : List ℕ). RecoversSame name undo u a.files b.files) is_und_name step))
@@ -80,5 +80,5 @@ looks-taken done a b held new_held spans name undo und is_undo_name is_und_name 
     synced
 
 -- a call that was not done
-pub looks-less : {done : Bool} (is : Bool) (name : List ℕ) (a b : Told) → is ≡ false → LooksAt done name a b → LooksAt is name a b
+pub looks-less : {done : Bool} (is : Bool) (name : List ℕ) (a b : Told) → is ≡ false → LooksAtName done name a b → LooksAtName is name a b
 looks-less is name a b undone looks = record { files = looks.files; unsynced = looks.unsynced; synced = λ yes. absurd (false≢true (sym undone ∙ yes)) }

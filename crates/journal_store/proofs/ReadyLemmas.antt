@@ -1,13 +1,13 @@
 -- A recovered file stays so, and a file that is there stays there.
 use Rattle.std.proofs.Common.{◌≡◌, ℕ, List, [], length, Option, Some, None, IsSome, unwrap_or, refl, sym, ap, ◌∙◌, arith}
 use Rattle.outside.specs.World.{World}
-use Rattle.disk.specs.DiskSeen.{DiskSeen, Follows}
+use Rattle.disk.specs.DiskSeen.{DiskSeen, DiskFollows}
 use Rattle.quota_types.specs.Bytes.{byte_at}
 use Rattle.edit_journal.specs.Recovered.{IsRecovered}
 use Rattle.edit_journal.specs.Undo.{recovered}
 
 -- a step that keeps a file and its undo file keeps it recovered
-pub recovered-on : (name undo : List ℕ) (step : World → World → Type 0) (a b : DiskSeen) → ((x y : World) → step x y → (y name ≡ x name) × (y undo ≡ x undo)) → Follows step a b
+pub recovered-on : (name undo : List ℕ) (step : World → World → Type 0) (a b : DiskSeen) → ((x y : World) → step x y → (y name ≡ x name) × (y undo ≡ x undo)) → DiskFollows step a b
     → IsRecovered name undo (a.files name) a → IsRecovered name undo (b.files name) b
 recovered-on name undo step a b keeps follows is = record {
   whole = λ image left.

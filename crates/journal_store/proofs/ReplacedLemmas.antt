@@ -2,8 +2,8 @@
 use Rattle.std.proofs.Common.{◌≢◌, inl, inr, ⊎_elim, ℕ, List, [], Option, unwrap_or, refl, sym, ap, ◌∙◌, subst, arith}
 use Rattle.outside.specs.World.{World}
 use Rattle.outside.proofs.WorldLemmas.{with_new_name-others}
-use Rattle.disk.specs.DiskSeen.{DiskSeen, Follows, Passes}
-use Rattle.disk.specs.Steps.{ChangesFile, IsRenamed, MayBeRenamed}
+use Rattle.disk.specs.DiskSeen.{DiskSeen, DiskFollows, Passes}
+use Rattle.disk.specs.DiskCalls.{ChangesFile, IsRenamed, MayBeRenamed}
 use Rattle.disk.proofs.StopLemmas.{passes-none, passes-wider}
 use Rattle.quota_types.specs.Bytes.{byte_at}
 use Rattle.edit_journal.specs.Recovered.{RecoversSame}
@@ -43,7 +43,7 @@ module _ (from to : List ℕ) where
   }
 
   -- where it was done
-  pub replaced-then : (a b c : DiskSeen) → Passes (RecoversSame to (undo_name to) (und_name to)) a b → Follows (IsRenamed from to) b c → Follows (ReplacesRecovered from to) a c
+  pub replaced-then : (a b c : DiskSeen) → Passes (RecoversSame to (undo_name to) (und_name to)) a b → DiskFollows (IsRenamed from to) b c → DiskFollows (ReplacesRecovered from to) a c
   replaced-then a b c first second = record {
     left = λ image is.
         let last = second.left image is in
@@ -53,7 +53,7 @@ module _ (from to : List ℕ) where
   }
 
   -- the gate of the undo file stays closed
-  pub closed-renamed : IsNew from → IsPlain to → (a b : DiskSeen) → HasClosedGate to a → Follows (IsRenamed from to) a b → HasClosedGate to b
+  pub closed-renamed : IsNew from → IsPlain to → (a b : DiskSeen) → HasClosedGate to a → DiskFollows (IsRenamed from to) a b → HasClosedGate to b
   closed-renamed new plain a b closed follows image is =
       let by = follows.left image is in
       subst (λ (undo : Option (List ℕ)). byte_at (unwrap_or undo []) 0 ≢ 1)
@@ -62,7 +62,7 @@ module _ (from to : List ℕ) where
       (closed by.0 by.1)
 
 -- and so it does where the file itself changes
-pub closed-made : (Changes : Option (List ℕ) → Option (List ℕ) → Type 0) (name : List ℕ) (a b : DiskSeen) → HasClosedGate name a → Follows (ChangesFile Changes name) a b → HasClosedGate name b
+pub closed-made : (Changes : Option (List ℕ) → Option (List ℕ) → Type 0) (name : List ℕ) (a b : DiskSeen) → HasClosedGate name a → DiskFollows (ChangesFile Changes name) a b → HasClosedGate name b
 closed-made Changes name a b closed follows image is =
     let by = follows.left image is in
     subst (λ (undo : Option (List ℕ)). byte_at (unwrap_or undo []) 0 ≢ 1) (sym (by.2.1 (undo_name name) (λ same. undo-own name (sym same)))) (closed by.0 by.1)

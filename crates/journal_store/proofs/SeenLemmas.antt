@@ -6,14 +6,14 @@ use Rattle.outside.specs.Unsynced.{AddsNone}
 use Rattle.outside.specs.World.{KeepsOtherTwo, KeepsOthers, World}
 use Rattle.outside.proofs.FrameLemmas.{unfailed-done}
 use Rattle.journal_store.specs.JournalStore.{seen_as}
-use Rattle.journal_store.specs.Told.{LooksAt, Told}
+use Rattle.journal_store.specs.Told.{LooksAtName, Told}
 
 -- a count that rose by one where a call was refused rose there
 pub counted-rose : {T E : Type 0} (result : Result T E) (before now : ℕ) → OnErr result (now ≡ counted before) → OnErr result (Rose before now)
 counted-rose (Ok value) before now is = tt
 counted-rose (Err fault) before now is = omega (arith, is)
 
-pub only_reads-seen : {T E : Type 0} (tells : Bool) (result : Result T E) (name : List ℕ) (a b : Told) (fa ra wa fb rb wb : ℕ) → (IsTrue tells → LooksAt (is_ok result) name a b) → fa ≤ fb → wb ≡ wa → OnErr result (Rose fa fb)
+pub only_reads-seen : {T E : Type 0} (tells : Bool) (result : Result T E) (name : List ℕ) (a b : Told) (fa ra wa fb rb wb : ℕ) → (IsTrue tells → LooksAtName (is_ok result) name a b) → fa ≤ fb → wb ≡ wa → OnErr result (Rose fa fb)
     → OnlyReads (is_ok result) name (seen_as tells a fa ra wa) (seen_as tells b fb rb wb)
 only_reads-seen true result name a b fa ra wa fb rb wb looks later writes cause = record {
   files = (looks refl).files;

@@ -5,10 +5,10 @@ use Rattle.outside.specs.World.{World}
 use Rattle.disk.specs.DiskSeen.{DiskSeen}
 use Rattle.disk.specs.declared.disk.Disk.{Ghosts}
 use Rattle.edit_journal.specs.Recovered.{RecoversAsBefore}
-use Rattle.edit_journal.specs.Spans.{Span, spans_of}
+use Rattle.edit_journal.specs.ByteRanges.{ByteRange, ranges_of}
 use Rattle.edit_journal.specs.Undo.{recovered}
 use Rattle.journal_store.specs.Kinds.{kind_of}
-use Rattle.journal_store.specs.Overlay.{meets_any}
+use Rattle.journal_store.specs.Overlap.{overlaps_any}
 use Rattle.journal_store.specs.Told.{Told, told}
 use Rattle.journal_store.specs.declared.journal.Journal.{Journal}
 use Rattle.journal_store.specs.declared.journal_store.JournalStore.{JournalStore}
@@ -43,8 +43,8 @@ module _ {D : Type 0} {g : Ghosts D} where
   disk_of journal = g.seen journal.disk
 
   -- the ranges that a journal keeps
-  abbrev pub kept_of : Journal D g → List Span
-  kept_of journal = spans_of journal.ranges.items
+  abbrev pub kept_of : Journal D g → List ByteRange
+  kept_of journal = ranges_of journal.ranges.items
 
   -- what a journal tells
   abbrev pub told_of : Journal D g → Told
@@ -68,7 +68,7 @@ module _ {D : Type 0} {g : Ghosts D} where
 
   -- A range cannot be kept: there are twelve already, or it has a byte in common with one of them.
   abbrev pub HasNoRoom : Journal D g → (at count : ℕ) → Type 0
-  HasNoRoom journal at count = (12 ≤ length journal.ranges.items) ⊎ IsTrue (meets_any at count journal.ranges.items)
+  HasNoRoom journal at count = (12 ≤ length journal.ranges.items) ⊎ IsTrue (overlaps_any at count journal.ranges.items)
 
   -- A write is refused: its name is, or is plain, and the range cannot be kept.
   abbrev pub IsWriteRefused : Journal D g → List ℕ → (at count : ℕ) → Type 0

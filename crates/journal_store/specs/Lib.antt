@@ -1,6 +1,6 @@
 pub mod Commits
 pub mod JournalStore
 pub mod Kinds
-pub mod Overlay
+pub mod Overlap
 pub mod Replaced
 pub mod Told

@@ -2,7 +2,7 @@
 use Rattle.std.specs.Prelude.{◌≢◌, ℕ, List, [], unwrap_or}
 use Rattle.outside.specs.World.{World}
 use Rattle.disk.specs.DiskSeen.{DiskSeen, EachImage}
-use Rattle.disk.specs.Steps.{IsRenamed, MayBeRenamed}
+use Rattle.disk.specs.DiskCalls.{IsRenamed, MayBeRenamed}
 use Rattle.quota_types.specs.Bytes.{byte_at}
 use Rattle.edit_journal.specs.Recovered.{RecoversSame}
 use Rattle.edit_journal.specs.UndoName.{und_name, undo_name}

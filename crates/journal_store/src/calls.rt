@@ -7,7 +7,7 @@ use outside::StoreFault;
 
 impl<D: Disk> Journal<D> {
     ghost use Rattle.std.specs.Prelude.{◌≡◌, ◌≢◌, ◌⊎◌, ◌↔◌, ◌^◌, ◌≤◌, ◌∷◌, [], None, Some, length, option_map, take, false, true, IfOk, IsErr, IsSome, IsTrue, OnErr, OnOk, is_ok};
-    ghost use Rattle.disk.specs.DiskSeen.{Follows, OnlyLeaves, Passes};
+    ghost use Rattle.disk.specs.DiskSeen.{DiskFollows, OnlyLeaves, Passes};
     ghost use Rattle.edit_journal.specs.Recovered.{RecoversSame, IsRecovered, KeepsOtherThree};
     ghost use Rattle.edit_journal.specs.Undo.{recovered};
     ghost use Rattle.edit_journal.specs.UndoName.{und_name, undo_name};
@@ -15,7 +15,7 @@ impl<D: Disk> Journal<D> {
     ghost use Rattle.journal_store.specs.JournalStore.{IsAbsent, IsPending, IsRefused, IsRenameRefused, IsReplaceRefused, IsWriteRefused, RecoversAsBeforeOr, disk_of, told_of};
     ghost use Rattle.journal_store.specs.Kinds.{is_new, kind_of};
     ghost use Rattle.journal_store.specs.Replaced.{HasClosedGate, MayReplaceRecovered, ReplacesRecovered};
-    ghost use Rattle.journal_store.specs.Told.{LooksAt};
+    ghost use Rattle.journal_store.specs.Told.{LooksAtName};
     ghost use Rattle.outside.specs.Count.{Rose};
     ghost use Rattle.outside.specs.Unsynced.{AddsNone, with_handed, with_name};
     ghost use Rattle.outside.specs.World.{KeepsOtherTwo, KeepsOthers, bytes_from, with_bytes, with_file, with_new_name};
@@ -27,7 +27,7 @@ impl<D: Disk> Journal<D> {
         ensures ready { IfOk result (λ plain. IsTrue plain → IsTrue self.new.ready) }
         ensures new { IfOk result (λ plain. plain ≡ false → kind_of name.now ≡ NameKind.New) }
         ensures ranges { self.new.ranges.items ≡ self.old.ranges.items }
-        ensures leaves { IsTrue D.tells → LooksAt (is_ok result) name.now (told_of self.old) (told_of self.new) }
+        ensures leaves { IsTrue D.tells → LooksAtName (is_ok result) name.now (told_of self.old) (told_of self.new) }
         ensures stops { IsTrue D.tells → kind_of name.now ≡ NameKind.Plain
             → Passes (RecoversSame name.now (undo_name name.now) (und_name name.now)) (disk_of self.old) (disk_of self.new) }
         ensures refused { IsRefused self.old name.now → IsErr result }
@@ -50,7 +50,7 @@ impl<D: Disk> Journal<D> {
     /// The length of a file, or `None` where there is none of this name.
     pub(crate) fn size(&mut self, name: &str) -> Result<Option<u64>, StoreFault>
         ensures found { IfOk result (λ found. IsTrue D.tells → found ≡ option_map length ((told_of self.old).files name.now)) }
-        ensures leaves { IsTrue D.tells → LooksAt (is_ok result) name.now (told_of self.old) (told_of self.new) }
+        ensures leaves { IsTrue D.tells → LooksAtName (is_ok result) name.now (told_of self.old) (told_of self.new) }
         ensures stops { IsTrue D.tells → kind_of name.now ≡ NameKind.Plain
             → Passes (RecoversSame name.now (undo_name name.now) (und_name name.now)) (disk_of self.old) (disk_of self.new) }
         ensures refused { IsRefused self.old name.now → IsErr result }
@@ -80,7 +80,7 @@ impl<D: Disk> Journal<D> {
             → count ≡ length (bytes_from ((told_of self.old).files name.now) at (length buf.old))) }
         ensures bytes { IfOk result (λ count. IsTrue D.tells
             → take count buf.new ≡ bytes_from ((told_of self.old).files name.now) at (length buf.old)) }
-        ensures leaves { IsTrue D.tells → LooksAt (is_ok result) name.now (told_of self.old) (told_of self.new) }
+        ensures leaves { IsTrue D.tells → LooksAtName (is_ok result) name.now (told_of self.old) (told_of self.new) }
         ensures stops { IsTrue D.tells → kind_of name.now ≡ NameKind.Plain
             → Passes (RecoversSame name.now (undo_name name.now) (und_name name.now)) (disk_of self.old) (disk_of self.new) }
         ensures refused { IsRefused self.old name.now → IsErr result }
@@ -177,7 +177,7 @@ impl<D: Disk> Journal<D> {
     pub(crate) fn sync(&mut self, name: &str) -> Result<(), StoreFault>
         ensures unsynced { OnOk result (IsTrue D.tells
             → (told_of self.new).unsynced ≡ with_name (told_of self.old).unsynced name.now false) }
-        ensures leaves { IsTrue D.tells → LooksAt (is_ok result) name.now (told_of self.old) (told_of self.new) }
+        ensures leaves { IsTrue D.tells → LooksAtName (is_ok result) name.now (told_of self.old) (told_of self.new) }
         ensures stops { IsTrue D.tells → kind_of name.now ≡ NameKind.Plain
             → OnlyLeaves (RecoversAsBeforeOr name.now (undo_name name.now) (disk_of self.old) ((told_of self.old).files name.now))
             (disk_of self.old) (disk_of self.new) }
@@ -230,7 +230,7 @@ impl<D: Disk> Journal<D> {
         ensures still { IsRenameRefused self.old from.now to.now → self.new.disk ≡ self.old.disk }
         ensures stops { IsTrue D.tells → Passes (MayReplaceRecovered from.now to.now) (disk_of self.old) (disk_of self.new) }
         ensures done { OnOk result (IsTrue D.tells
-            → Follows (ReplacesRecovered from.now to.now) (disk_of self.old) (disk_of self.new)) }
+            → DiskFollows (ReplacesRecovered from.now to.now) (disk_of self.old) (disk_of self.new)) }
         ensures closed { OnOk result (IsTrue D.tells → HasClosedGate to.now (disk_of self.new)) }
     {
         if kind_of(from) != NameKind::New || kind_of(to) != NameKind::Plain {
@@ -256,7 +256,7 @@ impl<D: Disk> Journal<D> {
         requires { IsPending self.old name.now }
         ensures unsynced { OnOk result (IsTrue D.tells
             → (told_of self.new).unsynced ≡ with_name (told_of self.old).unsynced name.now false) }
-        ensures leaves { IsTrue D.tells → LooksAt (is_ok result) name.now (told_of self.old) (told_of self.new) }
+        ensures leaves { IsTrue D.tells → LooksAtName (is_ok result) name.now (told_of self.old) (told_of self.new) }
         ensures stops { IsTrue D.tells
             → OnlyLeaves (RecoversAsBeforeOr name.now (undo_name name.now) (disk_of self.old)
             ((told_of self.old).files name.now)) (disk_of self.old) (disk_of self.new) }
@@ -278,7 +278,7 @@ impl<D: Disk> Journal<D> {
     /// Recovers a file, and holds its name. What is kept stays kept.
     pub(crate) fn recover(&mut self, name: &str) -> Result<(), StoreFault>
         requires { is_new name.now ≡ false }
-        ensures leaves { IsTrue D.tells → LooksAt (is_ok result) name.now (told_of self.old) (told_of self.new) }
+        ensures leaves { IsTrue D.tells → LooksAtName (is_ok result) name.now (told_of self.old) (told_of self.new) }
         ensures stops { IsTrue D.tells
             → Passes (RecoversSame name.now (undo_name name.now) (und_name name.now)) (disk_of self.old) (disk_of self.new) }
         ensures done { OnOk result (IsTrue D.tells → IsRecovered name.now (undo_name name.now)

@@ -8,7 +8,7 @@ ghost use Rattle.journal_store.specs.Kinds.{kind_of};
 ghost use Rattle.journal_store.specs.declared.kinds.NameKind.TheVariants.{Plain};
 
 use crate::kinds::NameKind;
-use crate::overlay::{laid_read, laid_size, meets_any};
+use crate::overlay::{laid_read, laid_size, overlaps_any};
 use arrayvec::{ArrayString, ArrayVec};
 use disk::Disk;
 use edit_journal::names::{und_name, undo_name};
@@ -35,8 +35,8 @@ pub(crate) struct Journal<D: Disk> {
 impl<D: Disk> Journal<D> {
     ghost use Rattle.std.specs.Prelude.{◌≢◌, ◌⊎◌, ◌^◌, ◌∷◌, [], None, Some, option_map, take, false, true, IfOk, IsErr, OnErr, OnOk, is_ok};
     ghost use Rattle.std.specs.Str.{bytes_eq};
-    ghost use Rattle.disk.specs.DiskSeen.{Follows, OnlyLeaves, Passes};
-    ghost use Rattle.disk.specs.Steps.{IsRenamed, MayBeRenamed};
+    ghost use Rattle.disk.specs.DiskSeen.{DiskFollows, OnlyLeaves, Passes};
+    ghost use Rattle.disk.specs.DiskCalls.{IsRenamed, MayBeRenamed};
     ghost use Rattle.edit_journal.specs.Recovery.{IsSame};
     ghost use Rattle.edit_journal.specs.Recovered.{RecoversSame, KeepsOtherThree};
     ghost use Rattle.edit_journal.specs.Undo.{recovered};
@@ -44,7 +44,7 @@ impl<D: Disk> Journal<D> {
     ghost use Rattle.journal_store.specs.Commits.{Commits};
     ghost use Rattle.journal_store.specs.JournalStore.{HasNoRoom, IsSecond, KeepsAny, RecoversAsBeforeOr, disk_of, told_of};
     ghost use Rattle.journal_store.specs.Replaced.{HasClosedGate};
-    ghost use Rattle.journal_store.specs.Told.{LooksAt};
+    ghost use Rattle.journal_store.specs.Told.{LooksAtName};
     ghost use Rattle.outside.specs.Count.{Rose};
     ghost use Rattle.outside.specs.Unsynced.{AddsNone, with_handed, with_name};
     ghost use Rattle.outside.specs.World.{KeepsOtherTwo, KeepsOthers, bytes_from, with_bytes, with_file, with_new_name};
@@ -84,7 +84,7 @@ impl<D: Disk> Journal<D> {
         ensures held { OnOk result (self.new.name.bytes ≡ name.now) }
         ensures ready { OnOk result (IsTrue self.new.ready) }
         ensures ranges { self.new.ranges.items ≡ self.old.ranges.items }
-        ensures leaves { IsTrue D.tells → LooksAt (is_ok result) name.now (told_of self.old) (told_of self.new) }
+        ensures leaves { IsTrue D.tells → LooksAtName (is_ok result) name.now (told_of self.old) (told_of self.new) }
         ensures stops { IsTrue D.tells
             → Passes (RecoversSame name.now (undo_name name.now) (und_name name.now)) (disk_of self.old) (disk_of self.new) }
         ensures second { IsSecond self.old name.now → IsErr result }
@@ -110,7 +110,7 @@ impl<D: Disk> Journal<D> {
         ensures held { OnOk result (self.new.name.bytes ≡ name.now) }
         ensures ready { OnOk result (IsTrue self.new.ready) }
         ensures ranges { self.new.ranges.items ≡ self.old.ranges.items }
-        ensures leaves { IsTrue D.tells → LooksAt (is_ok result) name.now (told_of self.old) (told_of self.new) }
+        ensures leaves { IsTrue D.tells → LooksAtName (is_ok result) name.now (told_of self.old) (told_of self.new) }
         ensures stops { IsTrue D.tells
             → Passes (RecoversSame name.now (undo_name name.now) (und_name name.now)) (disk_of self.old) (disk_of self.new) }
         ensures done { OnOk result (IsTrue D.tells → IsRecovered name.now (undo_name name.now)
@@ -192,7 +192,7 @@ impl<D: Disk> Journal<D> {
             ⊎ Rose (disk_of self.old).faults (disk_of self.new).faults) }
         ensures counted { (disk_of self.old).faults ≤ (disk_of self.new).faults }
     {
-        if self.ranges.is_full() || meets_any(self.ranges.as_slice(), at, bytes.len() as u64) {
+        if self.ranges.is_full() || overlaps_any(self.ranges.as_slice(), at, bytes.len() as u64) {
             return Err(StoreFault);
         }
         let Ok(found) = self.disk.size(name) else {
@@ -239,7 +239,7 @@ impl<D: Disk> Journal<D> {
         requires none { self.old.ranges.items ≡ [] }
         ensures unsynced { OnOk result (IsTrue D.tells
             → (told_of self.new).unsynced ≡ with_name (told_of self.old).unsynced name.now false) }
-        ensures leaves { IsTrue D.tells → LooksAt (is_ok result) name.now (told_of self.old) (told_of self.new) }
+        ensures leaves { IsTrue D.tells → LooksAtName (is_ok result) name.now (told_of self.old) (told_of self.new) }
         ensures stops { Passes IsSame (disk_of self.old) (disk_of self.new) }
         ensures done { OnOk result (IsTrue D.tells
             → IsRecovered name.now (undo_name name.now) ((told_of self.old).files name.now) (disk_of self.new)) }
@@ -260,7 +260,7 @@ impl<D: Disk> Journal<D> {
         requires some { KeepsAny self.old }
         ensures unsynced { OnOk result (IsTrue D.tells
             → (told_of self.new).unsynced ≡ with_name (told_of self.old).unsynced name.now false) }
-        ensures leaves { IsTrue D.tells → LooksAt (is_ok result) name.now (told_of self.old) (told_of self.new) }
+        ensures leaves { IsTrue D.tells → LooksAtName (is_ok result) name.now (told_of self.old) (told_of self.new) }
         ensures stops { IsTrue D.tells
             → OnlyLeaves (RecoversAsBeforeOr name.now (undo_name name.now) (disk_of self.old) ((told_of self.old).files name.now))
             (disk_of self.old) (disk_of self.new) }
@@ -305,7 +305,7 @@ impl<D: Disk> Journal<D> {
         ensures commits { IsTrue D.tells → (told_of self.old).unsynced from.now ≡ false
             → Commits (with_new_name (told_of self.old).files from.now to.now ∷ []) (disk_of self.old) (disk_of self.new) }
         ensures stops { Passes (MayBeRenamed from.now to.now) (disk_of self.old) (disk_of self.new) }
-        ensures done { OnOk result (IsTrue D.tells → Follows (IsRenamed from.now to.now) (disk_of self.old) (disk_of self.new)) }
+        ensures done { OnOk result (IsTrue D.tells → DiskFollows (IsRenamed from.now to.now) (disk_of self.old) (disk_of self.new)) }
         ensures closed { OnOk result (IsTrue D.tells → HasClosedGate to.now (disk_of self.new)) }
     {
         self.ready = false;

@@ -1,7 +1,7 @@
 //! A store over a disk.
 
 ghost use Rattle.std.specs.Prelude.{List, ℕ, ◌≡◌, ◌≢◌, ◌⊎◌, ◌↔◌, ◌^◌, ◌≤◌, ◌∷◌, [], None, Some, length, option_map, take, false, true, if◌then◌else◌, IfOk, IsErr, IsSome, IsTrue, OnErr, OnOk, is_ok};
-ghost use Rattle.disk.specs.DiskSeen.{Follows, OnlyLeaves, Passes};
+ghost use Rattle.disk.specs.DiskSeen.{DiskFollows, OnlyLeaves, Passes};
 ghost use Rattle.edit_journal.specs.Recovered.{RecoversSame, IsRecovered, KeepsOtherThree};
 ghost use Rattle.edit_journal.specs.Undo.{recovered};
 ghost use Rattle.edit_journal.specs.UndoName.{und_name, undo_name};
@@ -335,7 +335,7 @@ impl<D: Disk> Store for JournalStore<D> {
         ensures still { IsRenameRefused (inside self.old) from.now to.now → disk_in self.new ≡ disk_in self.old }
         ensures stops { IsTrue D.tells → Passes (MayReplaceRecovered from.now to.now) (disk_seen self.old) (disk_seen self.new) }
         ensures done { OnOk result (IsTrue D.tells
-            → Follows (ReplacesRecovered from.now to.now) (disk_seen self.old) (disk_seen self.new)) }
+            → DiskFollows (ReplacesRecovered from.now to.now) (disk_seen self.old) (disk_seen self.new)) }
         ensures closed { OnOk result (IsTrue D.tells → HasClosedGate to.now (disk_seen self.new)) }
     {
         let done = self.journal.rename(from, to);

@@ -3,8 +3,8 @@
 ghost use Rattle.std.specs.Prelude.{◌≡◌, ◌<◌, ◌≤◌, ◌+◌, ◌-◌, ◌^◌, List, ℕ, length, min, option_map, slice_index, take, unwrap_or, IfOk, IsTrue, OnErr};
 ghost use Rattle.disk.specs.DiskSeen.{Passes};
 ghost use Rattle.edit_journal.specs.Recovery.{IsSame};
-ghost use Rattle.edit_journal.specs.Spans.{laid, span_of, spans_of, with_laid};
-ghost use Rattle.journal_store.specs.Overlay.{meets, meets_any};
+ghost use Rattle.edit_journal.specs.ByteRanges.{laid, range_of, ranges_of, with_laid};
+ghost use Rattle.journal_store.specs.Overlap.{overlaps, overlaps_any};
 ghost use Rattle.outside.specs.Count.{Rose};
 ghost use Rattle.outside.specs.World.{bytes_from};
 ghost use Rattle.quota_types.specs.Bytes.{byte_at};
@@ -21,7 +21,7 @@ fn end_of(range: &KeptRange) -> u64
 
 /// The length of a file that has `old_length` bytes once ranges were laid over it.
 pub(crate) fn laid_length(ranges: &[KeptRange], old_length: u64) -> u64
-    ensures { (file : List ℕ) → length file ≡ old_length → result ≡ length (laid (spans_of ranges.now) file) }
+    ensures { (file : List ℕ) → length file ≡ old_length → result ≡ length (laid (ranges_of ranges.now) file) }
 {
     let mut longest = old_length;
     for range in ranges {
@@ -64,7 +64,7 @@ fn lay_one(range: &KeptRange, at: u64, buf: &mut [u8])
 pub(crate) fn lay_over(ranges: &[KeptRange], at: u64, buf: &mut [u8])
     requires { length buf.old ≤ 1024 }
     ensures { (file : List ℕ) → ((j : ℕ) → j < length buf.old → slice_index buf.old j ≡ byte_at file (at + j))
-        → (j : ℕ) → j < length buf.old → slice_index buf.new j ≡ byte_at (laid (spans_of ranges.now) file) (at + j) }
+        → (j : ℕ) → j < length buf.old → slice_index buf.new j ≡ byte_at (laid (ranges_of ranges.now) file) (at + j) }
 {
     for range in ranges {
         lay_one(range, at, buf);
@@ -80,21 +80,21 @@ pub(crate) fn count_from(file_length: u64, at: u64, most: usize) -> usize
 }
 
 /// Whether a range has a byte in common with one of `count` bytes at place `at`.
-fn meets(range: &KeptRange, at: u64, count: u64) -> bool
+fn overlaps(range: &KeptRange, at: u64, count: u64) -> bool
     requires low { at ≤ 2 ^ 42 }
     requires few { count ≤ 1024 }
-    ensures { result ≡ meets at count (span_of range.now) }
+    ensures { result ≡ overlaps at count (range_of range.now) }
 {
     range.at() < at + count && at < end_of(range)
 }
 
 /// Whether one of these ranges has a byte in common with one of `count` bytes at place `at`.
-pub(crate) fn meets_any(ranges: &[KeptRange], at: u64, count: u64) -> bool
+pub(crate) fn overlaps_any(ranges: &[KeptRange], at: u64, count: u64) -> bool
     requires low { at ≤ 2 ^ 42 }
     requires few { count ≤ 1024 }
-    ensures { result ≡ meets_any at count ranges.now }
+    ensures { result ≡ overlaps_any at count ranges.now }
 {
-    ranges.iter().any(|range| meets(range, at, count))
+    ranges.iter().any(|range| overlaps(range, at, count))
 }
 
 /// The length of a file over which ranges are laid, or `None` where there is none of this name.
@@ -108,7 +108,7 @@ pub(crate) fn laid_size<D: Disk>(
     ranges: &[KeptRange],
 ) -> Result<Option<u64>, DiskFault>
     ensures found { IfOk result (λ found. IsTrue D.tells
-        → found ≡ option_map length (option_map (laid (spans_of ranges.now)) ((D.seen disk.old).files name.now))) }
+        → found ≡ option_map length (option_map (laid (ranges_of ranges.now)) ((D.seen disk.old).files name.now))) }
     ensures names { (D.seen disk.new).unsynced ≡ (D.seen disk.old).unsynced }
     ensures cause { OnErr result (Rose (D.seen disk.old).faults (D.seen disk.new).faults) }
     ensures counted { (D.seen disk.old).faults ≤ (D.seen disk.new).faults }
@@ -135,9 +135,9 @@ pub(crate) fn laid_read<D: Disk>(
     requires { length buf.old ≤ 1024 }
     ensures fits { IfOk result (λ count. count ≤ length buf.new) }
     ensures count { IfOk result (λ count. IsTrue D.tells → count
-        ≡ length (bytes_from (option_map (laid (spans_of ranges.now)) ((D.seen disk.old).files name.now)) at (length buf.old))) }
+        ≡ length (bytes_from (option_map (laid (ranges_of ranges.now)) ((D.seen disk.old).files name.now)) at (length buf.old))) }
     ensures bytes { IfOk result (λ count. IsTrue D.tells → take count buf.new
-        ≡ bytes_from (option_map (laid (spans_of ranges.now)) ((D.seen disk.old).files name.now)) at (length buf.old)) }
+        ≡ bytes_from (option_map (laid (ranges_of ranges.now)) ((D.seen disk.old).files name.now)) at (length buf.old)) }
     ensures names { (D.seen disk.new).unsynced ≡ (D.seen disk.old).unsynced }
     ensures cause { OnErr result (Rose (D.seen disk.old).faults (D.seen disk.new).faults) }
     ensures counted { (D.seen disk.old).faults ≤ (D.seen disk.new).faults }

@@ -3,8 +3,8 @@ use Rattle.std.proofs.Common.{◌≡◌, ◌∙◌, ℕ, Bool, true, false, ◌=
 use Rattle.std.specs.String.{string_bytes}
 use Rattle.std.specs.declared.alloc.Global.{Global}
 use Rattle.std.proofs.lemmas.List.{get_or-map}
-use Rattle.option_words.specs.declared.fault.Fault.{Fault}
-use Rattle.option_words.specs.declared.scan.Wanted.{Wanted}
+use Rattle.option_words.specs.declared.word_fault.Fault.{Fault}
+use Rattle.option_words.specs.declared.scan.NextWord.{NextWord}
 use Rattle.option_words.specs.declared.tool.Tool.{Tool}
 use Rattle.option_words.specs.declared.switch.Switch.{Switch}
 use Rattle.option_words.specs.declared.switch.Switch.TheVariants.{Flagged, Setting, Export}
@@ -12,18 +12,18 @@ use Rattle.option_words.specs.Items.{AnyWord, Item, Next, Operand, Plain, Said, 
 use Rattle.option_words.specs.Fault.{◌>>=◌}
 use Rattle.option_words.specs.Parts.{parted}
 use Rattle.option_words.specs.Switches.{letter_switch, long_switch}
-use Rattle.option_words.specs.Given.{Told, nothing_told, with_item, with_items}
+use Rattle.option_words.specs.Given.{GivenOptions, nothing_given, with_item, with_items}
 use Rattle.option_words.specs.Reads.{KeepsOperands, Reads, next_of}
 
 -- items in two parts say, behind one item, what both parts say one after the other
-after_item : (r : Result Told Fault) (some more : List Item)
-    → ((told : Told) → with_items (some ++ more) told ≡ (with_items some told >>= λ (t : Told). with_items more t))
-    → (r >>= λ (t : Told). with_items (some ++ more) t) ≡ ((r >>= λ (t : Told). with_items some t) >>= λ (t : Told). with_items more t)
+after_item : (r : Result GivenOptions Fault) (some more : List Item)
+    → ((told : GivenOptions) → with_items (some ++ more) told ≡ (with_items some told >>= λ (t : GivenOptions). with_items more t))
+    → (r >>= λ (t : GivenOptions). with_items (some ++ more) t) ≡ ((r >>= λ (t : GivenOptions). with_items some t) >>= λ (t : GivenOptions). with_items more t)
 after_item (Ok told) some more same = same told
 after_item (Err met) some more same = refl
 
 -- what is given with two lists of items in a row
-pub with_items-append : (some more : List Item) (told : Told) → with_items (some ++ more) told ≡ (with_items some told >>= λ (t : Told). with_items more t)
+pub with_items-append : (some more : List Item) (told : GivenOptions) → with_items (some ++ more) told ≡ (with_items some told >>= λ (t : GivenOptions). with_items more t)
 with_items-append [] more told = refl
 with_items-append (item ∷ some) more told = after_item (with_item item told) some more (λ t. with_items-append some more t)
 
@@ -77,8 +77,8 @@ text_at words at word text inside found is = is ∙ ap string_bytes found ∙ sy
 
 -- The words before a place were read: with those from there on, the same is given as by all of them, and the same
 -- operands are kept.
-pub record IsScanned (tool : Tool) (texts : List (List ℕ)) (at : ℕ) (next : Next) (told : Told) (kept : List Operand) : Type 0 where
-  pub given : with_items (items_of tool AnyWord 1 texts) nothing_told ≡ with_items (items_of tool next (at + 1) (drop at texts)) told
+pub record IsScanned (tool : Tool) (texts : List (List ℕ)) (at : ℕ) (next : Next) (told : GivenOptions) (kept : List Operand) : Type 0 where
+  pub given : with_items (items_of tool AnyWord 1 texts) nothing_given ≡ with_items (items_of tool next (at + 1) (drop at texts)) told
   pub operands : take 7 (operands_in (items_of tool AnyWord 1 texts)) ≡ take 7 (kept ++ operands_in (items_of tool next (at + 1) (drop at texts)))
 
 -- the items from a place on are those of the word there, and those behind it
@@ -90,8 +90,8 @@ items_here tool texts at next text inside is =
     ap (items_of tool next (at + 1)) here
 
 -- one more word was read
-pub scanned_more : (tool : Tool) (texts : List (List ℕ)) (at : ℕ) (next : Next) (told : Told) (kept : List Operand) (text : List ℕ)
-    (wanted : Wanted) (told' : Told) (kept' : List Operand)
+pub scanned_more : (tool : Tool) (texts : List (List ℕ)) (at : ℕ) (next : Next) (told : GivenOptions) (kept : List Operand) (text : List ℕ)
+    (wanted : NextWord) (told' : GivenOptions) (kept' : List Operand)
     → IsScanned tool texts at next told kept → at < length texts → text ≡ get_or texts at []
     → Reads (word_says tool next (at + 1) text) told told' (Ok wanted) → KeepsOperands (word_says tool next (at + 1) text).items kept kept'
     → IsScanned tool texts (at + 1) (next_of wanted) told' kept'
@@ -102,20 +102,20 @@ scanned_more tool texts at next told kept text wanted told' kept' so inside is r
     rw reads.1 (items_here tool texts at next text inside is) in
     record {
       given = so.given ∙ ap (λ (items : List Item). with_items items told) here ∙ with_items-append said.items rest told
-          ∙ ap (λ (r : Result Told Fault). r >>= λ (t : Told). with_items rest t) reads.0;
+          ∙ ap (λ (r : Result GivenOptions Fault). r >>= λ (t : GivenOptions). with_items rest t) reads.0;
       operands = so.operands ∙ ap (λ (items : List Item). take 7 (kept ++ operands_in items)) here
           ∙ ap (λ (os : List Operand). take 7 (kept ++ os)) (operands_in-append said.items rest)
           ∙ sym (keeps (operands_in rest));
     }
 
 -- a word has a fault
-pub scanned_fault : (tool : Tool) (texts : List (List ℕ)) (at : ℕ) (next : Next) (told : Told) (kept : List Operand) (text : List ℕ)
-    (met : Fault) (told' : Told)
+pub scanned_fault : (tool : Tool) (texts : List (List ℕ)) (at : ℕ) (next : Next) (told : GivenOptions) (kept : List Operand) (text : List ℕ)
+    (met : Fault) (told' : GivenOptions)
     → IsScanned tool texts at next told kept → at < length texts → text ≡ get_or texts at []
     → Reads (word_says tool next (at + 1) text) told told' (Err met)
-    → with_items (items_of tool AnyWord 1 texts) nothing_told ≡ Err met
+    → with_items (items_of tool AnyWord 1 texts) nothing_given ≡ Err met
 scanned_fault tool texts at next told kept text met told' so inside is reads =
     let said = word_says tool next (at + 1) text in
     let rest = items_of tool said.next (at + 1 + 1) (drop (at + 1) texts) in
     so.given ∙ ap (λ (items : List Item). with_items items told) (items_here tool texts at next text inside is)
-    ∙ with_items-append said.items rest told ∙ ap (λ (r : Result Told Fault). r >>= λ (t : Told). with_items rest t) reads
+    ∙ with_items-append said.items rest told ∙ ap (λ (r : Result GivenOptions Fault). r >>= λ (t : GivenOptions). with_items rest t) reads

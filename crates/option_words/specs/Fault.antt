@@ -1,7 +1,7 @@
 -- The first fault in words. Source: this project's own.
 use Rattle.std.specs.Prelude.{ℕ, Bool, Option, Some, None, Result, Ok, Err, if◌then◌else◌}
 use Rattle.refusals.specs.declared.cause.UsageKind.{UsageKind}
-use Rattle.option_words.specs.declared.fault.Fault.{Fault}
+use Rattle.option_words.specs.declared.word_fault.Fault.{Fault}
 
 -- this is wrong at this word
 abbrev pub fault : UsageKind → ℕ → Fault

@@ -8,8 +8,8 @@ use Rattle.quota_types.specs.declared.file_kind.Kind.{Kind}
 use Rattle.quota_types.specs.declared.file_kind.Kind.TheVariants.{User, Group}
 use Rattle.input_text.specs.Numeral.{number_of}
 use Rattle.refusals.specs.declared.cause.UsageKind.TheVariants.{UnknownOption, MissingValue, Repeated, BadValue, BadFileName}
-use Rattle.option_words.specs.declared.export.Export.{Export}
-use Rattle.option_words.specs.declared.fault.Fault.{Fault}
+use Rattle.option_words.specs.declared.export_option.ExportOption.{ExportOption}
+use Rattle.option_words.specs.declared.word_fault.Fault.{Fault}
 use Rattle.option_words.specs.declared.given.Conversion.{Conversion}
 use Rattle.option_words.specs.declared.given.ExportWords.{ExportWords}
 use Rattle.option_words.specs.declared.given.Given.{Given}
@@ -24,7 +24,7 @@ use Rattle.option_words.specs.Items.{Item, Raised, Set, Exported, Unknown, Unfin
 use Rattle.option_words.specs.Values.{conversion_of, format_of, is_export_path, kind_of, number_within}
 
 -- what was given by options
-pub record Told : Type 0 where
+pub record GivenOptions : Type 0 where
   pub flags : Flags
   pub format : Option Format
   pub names : Option (List ℕ)
@@ -34,19 +34,19 @@ pub record Told : Type 0 where
   pub conversion : Option Conversion
   pub calls : Option ℕ
   pub port : Option ℕ
-  pub exports : List Export
+  pub exports : List ExportOption
 
 -- an export, without where its texts stand
-abbrev pub export_told : ExportWords → Export
-export_told export = record { path = export.path.now; kind = export.kind; file = export.file.now }
+abbrev pub export_given : ExportWords → ExportOption
+export_given export = record { path = export.path.now; kind = export.kind; file = export.file.now }
 
 -- exports, without where their texts stand
-abbrev pub exports_told : List ExportWords → List Export
-exports_told exports = map export_told exports
+abbrev pub exports_given : List ExportWords → List ExportOption
+exports_given exports = map export_given exports
 
 -- what was given, without where its texts stand
-abbrev pub told : Given → Told
-told given = record {
+abbrev pub given_options : Given → GivenOptions
+given_options given = record {
   flags = given.flags;
   format = given.format;
   names = option_copied given.names;
@@ -56,7 +56,7 @@ told given = record {
   conversion = given.conversion;
   calls = given.calls;
   port = given.port;
-  exports = exports_told given.exports.items;
+  exports = exports_given given.exports.items;
 }
 
 -- no flag is given
@@ -76,8 +76,8 @@ no_flags = record {
 }
 
 -- nothing is given
-abbrev pub nothing_told : Told
-nothing_told = record {
+abbrev pub nothing_given : GivenOptions
+nothing_given = record {
   flags = no_flags;
   format = None;
   names = None;
@@ -105,7 +105,7 @@ raised Apply flags = record flags { apply = true }
 raised Fresh flags = record flags { fresh = true }
 
 -- whether a setting was given
-abbrev pub has : Setting → Told → Bool
+abbrev pub has : Setting → GivenOptions → Bool
 has QuotaFormat told = is_some told.format
 has Names told = is_some told.names
 has Proto told = is_some told.proto
@@ -117,7 +117,7 @@ has Port told = is_some told.port
 
 -- What is given with the value of a setting, which must be of its form: the name of a file for the names and the input,
 -- any word for another identifier, and a number of its range for a device, for how many calls are answered and for a port.
-abbrev pub put : Setting → List ℕ → (word : ℕ) → Told → Result Told Fault
+abbrev pub put : Setting → List ℕ → (word : ℕ) → GivenOptions → Result GivenOptions Fault
 put QuotaFormat value word told = with_value (format_of value) (fault BadValue word) (λ f. Ok (record told { format = Some f }))
 put Names value word told = unless (not (is_file_name value)) (fault BadFileName word) (Ok (record told { names = Some value }))
 put Proto value word told = Ok (record told { proto = Some value })
@@ -133,12 +133,12 @@ kind_word User = codes "user"
 kind_word Group = codes "group"
 
 -- a pair of a path and a kind was exported
-abbrev pub is_exported : (path kind : List ℕ) → List Export → Bool
-is_exported path kind exports = list_any (λ (e : Export). bytes_eq e.path path && bytes_eq (kind_word e.kind) kind) exports
+abbrev pub is_exported : (path kind : List ℕ) → List ExportOption → Bool
+is_exported path kind exports = list_any (λ (e : ExportOption). bytes_eq e.path path && bytes_eq (kind_word e.kind) kind) exports
 
 -- What is given with one more export, of which there may be 16: its path has 1 to 1,024 bytes, its kind is `user` or
 -- `group`, and its file is the name of a file.
-abbrev pub put_export : (path kind file : List ℕ) (word : ℕ) → Told → Result Told Fault
+abbrev pub put_export : (path kind file : List ℕ) (word : ℕ) → GivenOptions → Result GivenOptions Fault
 put_export path kind file word told =
     unless (not (is_export_path path)) (fault BadValue word)
     (with_value (kind_of kind) (fault BadValue word) (λ k.
@@ -147,7 +147,7 @@ put_export path kind file word told =
     (Ok (record told { exports = told.exports ++ record { path = path; kind = k; file = file } ∷ [] })))))
 
 -- What is given with one more item, or its fault. A flag may be repeated, and operands are looked at later.
-abbrev pub with_item : Item → Told → Result Told Fault
+abbrev pub with_item : Item → GivenOptions → Result GivenOptions Fault
 with_item (Raised flag) told = Ok (record told { flags = raised flag told.flags })
 with_item (Set setting value word) told = unless (has setting told) (fault Repeated word) (put setting value word told)
 with_item (Exported path kind file word) told =
@@ -157,6 +157,6 @@ with_item (Unfinished word) told = Err (fault MissingValue word)
 with_item (Plain text word) told = Ok told
 
 -- what items give from left to right, or the first fault
-abbrev pub with_items : List Item → Told → Result Told Fault
+abbrev pub with_items : List Item → GivenOptions → Result GivenOptions Fault
 with_items [] told = Ok told
 with_items (item ∷ items) told = with_item item told >>= λ more. with_items items more

@@ -1,14 +1,14 @@
 -- What reading words makes of what they say.
 use Rattle.std.specs.Prelude.{◌≡◌, List, ◌++◌, map, take, Result, Ok, Err}
-use Rattle.option_words.specs.declared.fault.Fault.{Fault}
+use Rattle.option_words.specs.declared.word_fault.Fault.{Fault}
 use Rattle.option_words.specs.declared.scan.OperandWord.{OperandWord}
-use Rattle.option_words.specs.declared.scan.Wanted.{Wanted}
-use Rattle.option_words.specs.declared.scan.Wanted.TheVariants.{AnyWord as WantsAny, Operand as WantsOperand, Value, Path, KindWord, File}
+use Rattle.option_words.specs.declared.scan.NextWord.{NextWord}
+use Rattle.option_words.specs.declared.scan.NextWord.TheVariants.{AnyWord as WantsAny, Operand as WantsOperand, Value, Path, KindWord, File}
 use Rattle.option_words.specs.Items.{AnyWord, FileOf, Item, KindOf, Next, Operand, Operands, PathOf, Said, ValueOf, operands_in}
-use Rattle.option_words.specs.Given.{Told, with_items}
+use Rattle.option_words.specs.Given.{GivenOptions, with_items}
 
 -- what the next word is, without where texts stand
-abbrev pub next_of : Wanted → Next
+abbrev pub next_of : NextWord → Next
 next_of WantsAny = AnyWord
 next_of WantsOperand = Operands
 next_of (Value setting began) = ValueOf setting began
@@ -26,7 +26,7 @@ operands_seen operands = map operand_seen operands
 
 -- What was given before has become what is given with the items that were said, and what the next word is was found; or
 -- one of the items is a fault.
-abbrev pub Reads : Said → (before after : Told) → Result Wanted Fault → Type 0
+abbrev pub Reads : Said → (before after : GivenOptions) → Result NextWord Fault → Type 0
 Reads said before after (Ok wanted) = (with_items said.items before ≡ Ok after) × (next_of wanted ≡ said.next)
 Reads said before after (Err met) = with_items said.items before ≡ Err met
 

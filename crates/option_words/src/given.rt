@@ -1,5 +1,5 @@
 ghost use Rattle.std.specs.Prelude.{◌≡◌, Ok, Err, MatchResult};
-ghost use Rattle.option_words.specs.Given.{exports_told, has, is_exported, kind_word, nothing_told, put, told, with_item};
+ghost use Rattle.option_words.specs.Given.{exports_given, has, is_exported, kind_word, nothing_given, put, given_options, with_item};
 ghost use Rattle.option_words.specs.Items.{Raised, Set, Exported};
 
 use crate::values::{
@@ -72,7 +72,7 @@ pub struct Given<'a> {
 impl<'a> Given<'a> {
     /// Nothing is given.
     pub fn nothing() -> Self
-        ensures { told result ≡ nothing_told }
+        ensures { given_options result ≡ nothing_given }
     {
         Given {
             flags: Flags::none(),
@@ -90,7 +90,7 @@ impl<'a> Given<'a> {
 
     /// Raises a flag, which may be raised already.
     pub fn raise(&mut self, flag: Flag)
-        ensures { with_item (Raised flag) (told self.old) ≡ Ok (told self.new) }
+        ensures { with_item (Raised flag) (given_options self.old) ≡ Ok (given_options self.new) }
     {
         self.flags = self.flags.with(flag);
     }
@@ -101,8 +101,8 @@ impl<'a> Given<'a> {
     ///
     /// The setting was given before, or the value is not of its form or range.
     pub fn set(&mut self, setting: Setting, value: &'a str, word: usize) -> Result<(), Fault>
-        ensures { MatchResult result (λ _. with_item (Set setting value.now word) (told self.old) ≡ Ok (told self.new))
-            (λ met. with_item (Set setting value.now word) (told self.old) ≡ Err met) }
+        ensures { MatchResult result (λ _. with_item (Set setting value.now word) (given_options self.old) ≡ Ok (given_options self.new))
+            (λ met. with_item (Set setting value.now word) (given_options self.old) ≡ Err met) }
     {
         if self.has(setting) {
             return Err(Fault::at(UsageKind::Repeated, word));
@@ -112,8 +112,8 @@ impl<'a> Given<'a> {
 
     /// Takes the value of a setting that was not given before.
     fn put(&mut self, setting: Setting, value: &'a str, word: usize) -> Result<(), Fault>
-        ensures { MatchResult result (λ _. put setting value.now word (told self.old) ≡ Ok (told self.new))
-            (λ met. put setting value.now word (told self.old) ≡ Err met) }
+        ensures { MatchResult result (λ _. put setting value.now word (given_options self.old) ≡ Ok (given_options self.new))
+            (λ met. put setting value.now word (given_options self.old) ≡ Err met) }
     {
         match setting {
             Setting::QuotaFormat => {
@@ -163,8 +163,8 @@ impl<'a> Given<'a> {
         file: &'a str,
         word: usize,
     ) -> Result<(), Fault>
-        ensures { MatchResult result (λ _. with_item (Exported path.now kind.now file.now word) (told self.old) ≡ Ok (told self.new))
-            (λ met. with_item (Exported path.now kind.now file.now word) (told self.old) ≡ Err met) }
+        ensures { MatchResult result (λ _. with_item (Exported path.now kind.now file.now word) (given_options self.old) ≡ Ok (given_options self.new))
+            (λ met. with_item (Exported path.now kind.now file.now word) (given_options self.old) ≡ Err met) }
     {
         if is_exported(path, kind, self.exports.as_slice()) {
             return Err(Fault::at(UsageKind::Repeated, word));
@@ -185,7 +185,7 @@ impl<'a> Given<'a> {
 
     /// Whether a setting was given.
     fn has(&self, setting: Setting) -> bool
-        ensures { result ≡ has setting (told self.now) }
+        ensures { result ≡ has setting (given_options self.now) }
     {
         match setting {
             Setting::QuotaFormat => self.format.is_some(),
@@ -202,7 +202,7 @@ impl<'a> Given<'a> {
 
 /// Whether a pair of a path and a kind was exported.
 fn is_exported(path: &str, kind: &str, exports: &[ExportWords<'_>]) -> bool
-    ensures { result ≡ is_exported path.now kind.now (exports_told exports.now) }
+    ensures { result ≡ is_exported path.now kind.now (exports_given exports.now) }
 {
     exports.iter().any(|export| export.path == path && kind_word(export.kind) == kind)
 }

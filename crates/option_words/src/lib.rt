@@ -3,8 +3,7 @@
 //! The one promise: what words give, and the first fault among them, are those of the items that they say.
 #![tactic(auto)]
 
-mod export;
-mod fault;
+mod export_option;
 mod file_name;
 mod given;
 mod parts;
@@ -12,9 +11,9 @@ mod scan;
 mod switch;
 mod tool;
 mod values;
+mod word_fault;
 
-pub use export::{Export, ExportList};
-pub use fault::Fault;
+pub use export_option::{ExportOption, ExportOptions};
 pub use file_name::{all_graphic, is_file_name, read_file_name};
 pub use given::{Conversion, ExportWords, Given};
 pub use scan::{OperandWord, Scan, scan_words};
@@ -23,3 +22,4 @@ pub use tool::Tool;
 pub use values::{
     checked, is_export_path, lines_of, number_within, read_calls, read_format, read_kind, read_port,
 };
+pub use word_fault::Fault;

@@ -1,7 +1,7 @@
 ghost use Rattle.std.specs.Prelude.{◌≡◌, [], ◌∷◌, None, Some, Ok, Err, MatchResult, IfOk, IsTrue, OnOk, take};
 ghost use Rattle.option_words.specs.Items.{texts_of};
 ghost use Rattle.option_words.specs.Items.{operands_in};
-ghost use Rattle.option_words.specs.Given.{Told, nothing_told, told, with_items};
+ghost use Rattle.option_words.specs.Given.{GivenOptions, nothing_given, given_options, with_items};
 ghost use Rattle.option_words.specs.Items.{AnyWord, Plain, Said, any_word_says, end_says, holds_options, items_of, letter_says, letters_say, long_says, long_word_says, options_say, word_says};
 ghost use Rattle.option_words.specs.Reads.{KeepsOperands, Reads, next_of, operands_seen};
 ghost use Rattle.option_words.specs.Parts.{parted};
@@ -28,7 +28,7 @@ impl Default for OperandWord<'_> {
 
 /// What the next word is.
 #[derive(Clone, Copy)]
-pub enum Wanted<'a> {
+pub enum NextWord<'a> {
     /// Any word.
     AnyWord,
     /// An operand: one behind `--`.
@@ -54,13 +54,13 @@ pub struct Scan<'a> {
 
 /// What the words behind a command's name say, or the first fault among the options.
 pub fn scan_words<'a>(tool: Tool, words: &'a [String]) -> Result<Scan<'a>, Fault>
-    ensures given { MatchResult result (λ scan. with_items (items_of tool AnyWord 1 (texts_of words.now)) nothing_told ≡ Ok (told scan.given))
-        (λ met. with_items (items_of tool AnyWord 1 (texts_of words.now)) nothing_told ≡ Err met) }
+    ensures given { MatchResult result (λ scan. with_items (items_of tool AnyWord 1 (texts_of words.now)) nothing_given ≡ Ok (given_options scan.given))
+        (λ met. with_items (items_of tool AnyWord 1 (texts_of words.now)) nothing_given ≡ Err met) }
     ensures operands { IfOk result (λ scan. take 7 (operands_seen scan.operands.items) ≡ take 7 (operands_in (items_of tool AnyWord 1 (texts_of words.now)))) }
 {
     let mut given = Given::nothing();
     let mut operands = ArrayVec::new();
-    let mut wanted = Wanted::AnyWord;
+    let mut wanted = NextWord::AnyWord;
     for (at, word) in words.iter().enumerate() {
         match read_word(
             tool,
@@ -81,31 +81,31 @@ pub fn scan_words<'a>(tool: Tool, words: &'a [String]) -> Result<Scan<'a>, Fault
 /// Reads a word in its place.
 fn read_word<'a>(
     tool: Tool,
-    wanted: Wanted<'a>,
+    wanted: NextWord<'a>,
     word: usize,
     text: &'a str,
     given: &mut Given<'a>,
     operands: &mut ArrayVec<OperandWord<'a>, 7>,
-) -> Result<Wanted<'a>, Fault>
-    ensures reads { Reads (word_says tool (next_of wanted.entry) word text.now) (told given.old) (told given.new) result }
+) -> Result<NextWord<'a>, Fault>
+    ensures reads { Reads (word_says tool (next_of wanted.entry) word text.now) (given_options given.old) (given_options given.new) result }
     ensures keeps { OnOk result (KeepsOperands (word_says tool (next_of wanted.entry) word text.now).items
         (operands_seen operands.old.items) (operands_seen operands.new.items)) }
 {
     match wanted {
-        Wanted::AnyWord => read_any_word(tool, word, text, given, operands),
-        Wanted::Operand => {
+        NextWord::AnyWord => read_any_word(tool, word, text, given, operands),
+        NextWord::Operand => {
             keep(operands, text, word);
-            Ok(Wanted::Operand)
+            Ok(NextWord::Operand)
         }
-        Wanted::Value(setting, began) => {
+        NextWord::Value(setting, began) => {
             given.set(setting, text, began)?;
-            Ok(Wanted::AnyWord)
+            Ok(NextWord::AnyWord)
         }
-        Wanted::Path(began) => Ok(Wanted::KindWord(text, began)),
-        Wanted::KindWord(path, began) => Ok(Wanted::File(path, text, began)),
-        Wanted::File(path, kind, began) => {
+        NextWord::Path(began) => Ok(NextWord::KindWord(text, began)),
+        NextWord::KindWord(path, began) => Ok(NextWord::File(path, text, began)),
+        NextWord::File(path, kind, began) => {
             given.export(path, kind, text, began)?;
-            Ok(Wanted::AnyWord)
+            Ok(NextWord::AnyWord)
         }
     }
 }
@@ -117,19 +117,19 @@ fn read_any_word<'a>(
     text: &'a str,
     given: &mut Given<'a>,
     operands: &mut ArrayVec<OperandWord<'a>, 7>,
-) -> Result<Wanted<'a>, Fault>
-    ensures reads { Reads (any_word_says tool word text.now) (told given.old) (told given.new) result }
+) -> Result<NextWord<'a>, Fault>
+    ensures reads { Reads (any_word_says tool word text.now) (given_options given.old) (given_options given.new) result }
     ensures keeps { OnOk result (KeepsOperands (any_word_says tool word text.now).items
         (operands_seen operands.old.items) (operands_seen operands.new.items)) }
 {
     if text == "--" {
-        return Ok(Wanted::Operand);
+        return Ok(NextWord::Operand);
     }
     if holds_options(text) {
         return read_options(tool, word, text, given);
     }
     keep(operands, text, word);
-    Ok(Wanted::AnyWord)
+    Ok(NextWord::AnyWord)
 }
 
 /// Whether a word holds options: it begins with a hyphen, and has more than that.
@@ -156,9 +156,9 @@ fn read_options<'a>(
     word: usize,
     text: &'a str,
     given: &mut Given<'a>,
-) -> Result<Wanted<'a>, Fault>
+) -> Result<NextWord<'a>, Fault>
     requires { IsTrue (holds_options text.now) }
-    ensures reads { Reads (options_say tool word text.now) (told given.old) (told given.new) result }
+    ensures reads { Reads (options_say tool word text.now) (given_options given.old) (given_options given.new) result }
     ensures none { operands_in (options_say tool word text.now).items ≡ [] }
 {
     if text.as_bytes()[1] == b'-' {
@@ -174,8 +174,8 @@ fn read_long<'a>(
     word: usize,
     text: &'a str,
     given: &mut Given<'a>,
-) -> Result<Wanted<'a>, Fault>
-    ensures { Reads (long_word_says tool word text.now (parted 61 text.now)) (told given.old) (told given.new) result }
+) -> Result<NextWord<'a>, Fault>
+    ensures { Reads (long_word_says tool word text.now (parted 61 text.now)) (given_options given.old) (given_options given.new) result }
 {
     match parted(text, b'=') {
         Some((written, value)) => take_value(tool.long_switch(written), word, value, given),
@@ -189,13 +189,13 @@ fn take_value<'a>(
     word: usize,
     value: &'a str,
     given: &mut Given<'a>,
-) -> Result<Wanted<'a>, Fault>
-    ensures { Reads (long_says switch word (Some value.now)) (told given.old) (told given.new) result }
+) -> Result<NextWord<'a>, Fault>
+    ensures { Reads (long_says switch word (Some value.now)) (given_options given.old) (given_options given.new) result }
 {
     match switch {
         Some(Switch::Setting(setting)) => {
             given.set(setting, value, word)?;
-            Ok(Wanted::AnyWord)
+            Ok(NextWord::AnyWord)
         }
         _ => Err(Fault::at(UsageKind::UnknownOption, word)),
     }
@@ -206,16 +206,16 @@ fn take_option<'a>(
     switch: Option<Switch>,
     word: usize,
     given: &mut Given<'a>,
-) -> Result<Wanted<'a>, Fault>
-    ensures { Reads (long_says switch word None) (told given.old) (told given.new) result }
+) -> Result<NextWord<'a>, Fault>
+    ensures { Reads (long_says switch word None) (given_options given.old) (given_options given.new) result }
 {
     match switch {
         Some(Switch::Flagged(flag)) => {
             given.raise(flag);
-            Ok(Wanted::AnyWord)
+            Ok(NextWord::AnyWord)
         }
-        Some(Switch::Setting(setting)) => Ok(Wanted::Value(setting, word)),
-        Some(Switch::Export) => Ok(Wanted::Path(word)),
+        Some(Switch::Setting(setting)) => Ok(NextWord::Value(setting, word)),
+        Some(Switch::Export) => Ok(NextWord::Path(word)),
         None => Err(Fault::at(UsageKind::UnknownOption, word)),
     }
 }
@@ -226,8 +226,8 @@ fn read_letters<'a>(
     word: usize,
     letters: &'a str,
     given: &mut Given<'a>,
-) -> Result<Wanted<'a>, Fault>
-    ensures { Reads (letters_say tool word letters.now) (told given.old) (told given.new) result }
+) -> Result<NextWord<'a>, Fault>
+    ensures { Reads (letters_say tool word letters.now) (given_options given.old) (given_options given.new) result }
 {
     for (at, letter) in letters.as_bytes().iter().enumerate() {
         let Some(switch) = tool.letter_switch(*letter) else {
@@ -241,7 +241,7 @@ fn read_letters<'a>(
             Switch::Export => return Err(Fault::at(UsageKind::UnknownOption, word)),
         }
     }
-    Ok(Wanted::AnyWord)
+    Ok(NextWord::AnyWord)
 }
 
 /// Takes the letters behind that of a setting as its value, or the next word where there are none.
@@ -250,26 +250,26 @@ fn take_letters<'a>(
     word: usize,
     behind: &'a str,
     given: &mut Given<'a>,
-) -> Result<Wanted<'a>, Fault>
-    ensures { (more : Said) → Reads (letter_says (Some (Switch.Setting setting)) word behind.now more) (told given.old) (told given.new) result }
+) -> Result<NextWord<'a>, Fault>
+    ensures { (more : Said) → Reads (letter_says (Some (Switch.Setting setting)) word behind.now more) (given_options given.old) (given_options given.new) result }
 {
     if behind.is_empty() {
-        return Ok(Wanted::Value(setting, word));
+        return Ok(NextWord::Value(setting, word));
     }
     given.set(setting, behind, word)?;
-    Ok(Wanted::AnyWord)
+    Ok(NextWord::AnyWord)
 }
 
 /// What the end of the words says: a fault where a value is wanted.
-fn read_end(wanted: Wanted<'_>) -> Result<(), Fault>
-    ensures { (given : Told) → MatchResult result (λ _. with_items (end_says (next_of wanted.entry)) given ≡ Ok given)
+fn read_end(wanted: NextWord<'_>) -> Result<(), Fault>
+    ensures { (given : GivenOptions) → MatchResult result (λ _. with_items (end_says (next_of wanted.entry)) given ≡ Ok given)
         (λ met. with_items (end_says (next_of wanted.entry)) given ≡ Err met) }
 {
     match wanted {
-        Wanted::AnyWord | Wanted::Operand => Ok(()),
-        Wanted::Value(_, began)
-        | Wanted::Path(began)
-        | Wanted::KindWord(_, began)
-        | Wanted::File(_, _, began) => Err(Fault::at(UsageKind::MissingValue, began)),
+        NextWord::AnyWord | NextWord::Operand => Ok(()),
+        NextWord::Value(_, began)
+        | NextWord::Path(began)
+        | NextWord::KindWord(_, began)
+        | NextWord::File(_, _, began) => Err(Fault::at(UsageKind::MissingValue, began)),
     }
 }

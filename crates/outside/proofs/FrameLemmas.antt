@@ -6,7 +6,7 @@ use Rattle.outside.specs.Count.{Rose}
 use Rattle.outside.specs.Frame.{AreSynced, ChangesOne, IsUnfailed, OnlyReads}
 use Rattle.outside.specs.ManyCalls.{IsSynced, Syncs}
 use Rattle.outside.specs.Seen.{StoreSeen}
-use Rattle.outside.specs.Unsynced.{AddsNone, Names}
+use Rattle.outside.specs.Unsynced.{AddsNone, UnsyncedNames}
 use Rattle.outside.specs.World.{KeepsOthers, KeepsOtherTwo, World}
 
 -- where nothing changed all others are as they were
@@ -60,7 +60,7 @@ unfailed-before : {done : Bool} (old between new : StoreSeen) → between.faults
 unfailed-before old between new later (inl done) = absurd (false≢true done)
 unfailed-before old between new later (inr none) = inr (unfailed-first old between new later none)
 
-pub adds_none-then : (old between new : Names) → AddsNone old between → AddsNone between new → AddsNone old new
+pub adds_none-then : (old between new : UnsyncedNames) → AddsNone old between → AddsNone between new → AddsNone old new
 adds_none-then old between new first second name is = first name (second name is)
 
 -- what was done is also what was not said to be done
@@ -96,7 +96,7 @@ changes_one-then name old between new first second = record {
 }
 
 -- a name that was synced is synced after a call that made no name unsynced
-still_synced : (name : List ℕ) (old new : Names) → AddsNone old new → old name ≡ false → new name ≡ false
+still_synced : (name : List ℕ) (old new : UnsyncedNames) → AddsNone old new → old name ≡ false → new name ≡ false
 still_synced name old new adds was =
     elim (cases_Bool (new name)) [
       | inl is ↦ absurd (false≢true (sym was ∙ adds name is))

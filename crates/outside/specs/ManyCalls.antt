@@ -2,7 +2,7 @@
 use Rattle.std.specs.Prelude.{◌≡◌, ◌≤◌, ◌⊎◌, ℕ, Bool, false, List, None, Some}
 use Rattle.outside.specs.Replacement.{ReplacesOnly, replacement_name}
 use Rattle.outside.specs.Seen.{StoreSeen}
-use Rattle.outside.specs.Unsynced.{AddsNone, Names, with_name}
+use Rattle.outside.specs.Unsynced.{AddsNone, UnsyncedNames, with_name}
 use Rattle.outside.specs.Frame.{IsUnfailed, AreSynced}
 use Rattle.outside.specs.World.{World, with_file}
 
@@ -26,7 +26,7 @@ pub record IsSynced (name : List ℕ) (old new : StoreSeen) : Type 0 where
 
 -- the names that are unsynced once a file was replaced: neither the one of the file nor the one that the new file was
 -- written under
-abbrev pub replaced_names : Names → List ℕ → Names
+abbrev pub replaced_names : UnsyncedNames → List ℕ → UnsyncedNames
 replaced_names names name = with_name (with_name names (replacement_name name) false) name false
 
 -- the files once the one of this name was replaced by these bytes, with none left under the name of the new file

@@ -1,14 +1,14 @@
 -- What is seen of the objects outside of the program, as far as they tell it.
 use Rattle.std.specs.Prelude.{ℕ, List, Option, Some}
 use Rattle.outside.specs.Count.{counted}
-use Rattle.outside.specs.Unsynced.{Names}
+use Rattle.outside.specs.Unsynced.{UnsyncedNames}
 use Rattle.outside.specs.World.{World}
 
 -- A store: its files by the bytes of their names, the names that are unsynced, how many of its calls have failed, and
 -- how many calls of `read` and of `write` there were. Each count stands still at the last value of 64 bits.
 pub record StoreSeen : Type 0 where
   pub files : World
-  pub unsynced : Names
+  pub unsynced : UnsyncedNames
   pub faults : ℕ
   pub reads : ℕ
   pub writes : ℕ

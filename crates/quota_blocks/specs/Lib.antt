@@ -49,5 +49,5 @@ pub use Rattle.quota_types.specs.Kept
 pub use Rattle.quota_types.specs.Range
 pub use Rattle.quota_types.specs.Rec
 pub use Rattle.quota_types.specs.Damage
-pub use Rattle.quota_types.specs.Span
+pub use Rattle.quota_types.specs.KeptBytes
 pub use Rattle.quota_types.specs.Times

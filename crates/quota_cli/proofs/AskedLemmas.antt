@@ -17,7 +17,7 @@ use Rattle.command_table.proofs.CommandLemmas.{Spares, asked_known, read_known, 
 use Rattle.command_table.proofs.FullLemmas.{IsFullSo, asked_by_full, command_full}
 use Rattle.command_table.proofs.StepLemmas.{command_looks, command_reads}
 use Rattle.command_table.proofs.SureLemmas.{asked_sure, command_sure}
-use Rattle.quota_cli.specs.Headline.{Setting, asked, steps_asked, uses_asked}
+use Rattle.quota_cli.specs.Headline.{CommandLine, asked, steps_asked, uses_asked}
 use Rattle.quota_cli.specs.Script.{StandsInScript, commanded, is_script, script_or}
 use Rattle.quota_cli.proofs.ScriptFullLemmas.{script_full}
 use Rattle.quota_cli.proofs.RowLemmas.{script_reads}
@@ -78,27 +78,27 @@ asked_by_looks : (asks : Result Command Refusal) (invocation : Invocation) → (
 asked_by_looks (Ok command) invocation one = looks_by (is_script command) command invocation one
 asked_by_looks (Err refusal) invocation one = tt
 
-pub setting_looks : (setting : Setting) → (uses_asked setting).reads_commands ≡ false → LooksFirstBy (uses_asked setting).reads_edits true true (steps_asked setting)
-setting_looks setting one = asked_by_looks (command_of false setting.words) setting.invocation one
+pub setting_looks : (typed : CommandLine) → (uses_asked typed).reads_commands ≡ false → LooksFirstBy (uses_asked typed).reads_edits true true (steps_asked typed)
+setting_looks typed one = asked_by_looks (command_of false typed.words) typed.invocation one
 
 -- where no edits are read, no file is looked at once one was changed
-pub setting_looks_first : (setting : Setting) → (uses_asked setting).reads_commands ≡ false → (uses_asked setting).reads_edits ≡ false → LooksFirst true true (steps_asked setting)
-setting_looks_first setting one none = subst (λ (rooms : Bool). LooksFirstBy rooms true true (steps_asked setting)) none (setting_looks setting one)
+pub setting_looks_first : (typed : CommandLine) → (uses_asked typed).reads_commands ≡ false → (uses_asked typed).reads_edits ≡ false → LooksFirst true true (steps_asked typed)
+setting_looks_first typed one none = subst (λ (rooms : Bool). LooksFirstBy rooms true true (steps_asked typed)) none (setting_looks typed one)
 
 asked_by_reads : (asks : Result Command Refusal) (invocation : Invocation) → IsTrue (asked_by commanded asks).uses.input → ReadsToEnd ((asked_by commanded asks).steps invocation)
 asked_by_reads (Ok command) invocation uses = reads_by (is_script command) command invocation uses
 asked_by_reads (Err refusal) invocation uses = absurd (cc)
 
-pub setting_reads : (setting : Setting) → IsTrue (uses_asked setting).input → ReadsToEnd (steps_asked setting)
-setting_reads setting uses = asked_by_reads (command_of false setting.words) setting.invocation uses
+pub setting_reads : (typed : CommandLine) → IsTrue (uses_asked typed).input → ReadsToEnd (steps_asked typed)
+setting_reads typed uses = asked_by_reads (command_of false typed.words) typed.invocation uses
 
 -- where words ask for an edit that is refused since its file is full, the file has no room for it at the end
-pub setting_full : (setting : Setting) → IsFullSo (asked setting) setting.invocation
-setting_full setting = asked_by_full commanded (command_of false setting.words) setting.invocation (λ command. full_by (is_script command) command setting.invocation)
+pub setting_full : (typed : CommandLine) → IsFullSo (asked typed) typed.invocation
+setting_full typed = asked_by_full commanded (command_of false typed.words) typed.invocation (λ command. full_by (is_script command) command typed.invocation)
 
-pub setting_sure : (setting : Setting) (old : Outside) → (asked setting).suffices setting.invocation old → IsSure (steps_asked setting) old
-setting_sure setting old can =
-    asked_sure commanded (command_of false setting.words) setting.invocation old (λ command. sure_by (is_script command) command setting.invocation old) can
+pub setting_sure : (typed : CommandLine) (old : Outside) → (asked typed).suffices typed.invocation old → IsSure (steps_asked typed) old
+setting_sure typed old can =
+    asked_sure commanded (command_of false typed.words) typed.invocation old (λ command. sure_by (is_script command) command typed.invocation old) can
 
-pub setting_known : (setting : Setting) → (asked setting).known
-setting_known setting = asked_known commanded (command_of false setting.words) (commanded_known setting.words)
+pub setting_known : (typed : CommandLine) → (asked typed).known
+setting_known typed = asked_known commanded (command_of false typed.words) (commanded_known typed.words)

@@ -2,7 +2,7 @@ ghost use Rattle.std.specs.Prelude.{◌≡◌, ◌≢◌, ◌≤◌, ◌⊎◌, 
 ghost use Rattle.std.specs.Result.{result_err};
 ghost use Rattle.outside.specs.Count.{Rose};
 ghost use Rattle.run_steps.specs.Done.{IsAllTold, NoFault, seen_of, tells_of};
-ghost use Rattle.quota_cli.specs.Headline.{HasEffect, Keeps, asked, setting_of, uses_asked};
+ghost use Rattle.quota_cli.specs.Headline.{HasEffect, Keeps, asked, command_line, uses_asked};
 ghost use Rattle.command_words.specs.Asked.{command_of};
 ghost use Rattle.command_table.specs.CarriedOut.{IsCarriedOut};
 ghost use Rattle.quota_cli.specs.Script.{StandsInScript, commanded, is_script};
@@ -44,16 +44,16 @@ pub fn run<S: Store, I: Source, O: Sink, E: Sink, L: Link>(
     ensures headline { let tells = tells_of S.tells I.tells O.tells E.tells L.tells in
         let old = seen_of (S.seen store.old) (I.seen input.old) (O.seen out.old) (E.seen err.old) (L.seen link.old) in
         let new = seen_of (S.seen store.new) (I.seen input.new) (O.seen out.new) (E.seen err.new) (L.seen link.new) in
-        IsAllTold tells → NoFault old new → result ≢ 5 → HasEffect (setting_of (texts_of words.now) now) tells old new result }
+        IsAllTold tells → NoFault old new → result ≢ 5 → HasEffect (command_line (texts_of words.now) now) tells old new result }
     // What else it keeps, whatever is told: what was done and said, which status it has, what stays, and what has begun.
-    ensures keeps { Keeps (setting_of (texts_of words.now) now) (tells_of S.tells I.tells O.tells E.tells L.tells)
+    ensures keeps { Keeps (command_line (texts_of words.now) now) (tells_of S.tells I.tells O.tells E.tells L.tells)
         (seen_of (S.seen store.old) (I.seen input.old) (O.seen out.old) (E.seen err.old) (L.seen link.old))
         (seen_of (S.seen store.new) (I.seen input.new) (O.seen out.new) (E.seen err.new) (L.seen link.new)) result }
     // Refused words leave the store alone, and a command leaves alone what it does not use, whatever is told.
-    ensures store { (refusal : Refusal) → (asked (setting_of (texts_of words.now) now)).faulty ≡ Some refusal → store.new ≡ store.old }
-    ensures input { (uses_asked (setting_of (texts_of words.now) now)).input ≡ false → input.new ≡ input.old }
-    ensures out { (uses_asked (setting_of (texts_of words.now) now)).out ≡ false → out.new ≡ out.old }
-    ensures link { (uses_asked (setting_of (texts_of words.now) now)).link ≡ false → link.new ≡ link.old }
+    ensures store { (refusal : Refusal) → (asked (command_line (texts_of words.now) now)).faulty ≡ Some refusal → store.new ≡ store.old }
+    ensures input { (uses_asked (command_line (texts_of words.now) now)).input ≡ false → input.new ≡ input.old }
+    ensures out { (uses_asked (command_line (texts_of words.now) now)).out ≡ false → out.new ≡ out.old }
+    ensures link { (uses_asked (command_line (texts_of words.now) now)).link ≡ false → link.new ≡ link.old }
     // What the input keeps along its calls is kept, such as the files of a store that it reads from.
     ensures source { I.keeps false input.old input.new }
 {
@@ -72,24 +72,24 @@ fn carry_out_words<S: Store, I: Source, O: Sink, E: Sink, L: Link>(
     link: &mut L,
     now: u64,
 ) -> Result<(), Refusal>
-    ensures carries { IsCarriedOut (asked (setting_of (texts_of words.now) now)) (record { now = now; line = None })
+    ensures carries { IsCarriedOut (asked (command_line (texts_of words.now) now)) (record { now = now; line = None })
         (tells_of S.tells I.tells O.tells E.tells L.tells)
         (seen_of (S.seen store.old) (I.seen input.old) (O.seen out.old) (E.seen err.old) (L.seen link.old))
         (seen_of (S.seen store.new) (I.seen input.new) (O.seen out.new) (E.seen err.new) (L.seen link.new)) result }
-    ensures stands { IsTrue (uses_asked (setting_of (texts_of words.now) now)).reads_commands
+    ensures stands { IsTrue (uses_asked (command_line (texts_of words.now) now)).reads_commands
         → IfErr result (StandsInScript now (tells_of S.tells I.tells O.tells E.tells L.tells)
         (seen_of (S.seen store.old) (I.seen input.old) (O.seen out.old) (E.seen err.old) (L.seen link.old))
         (seen_of (S.seen store.new) (I.seen input.new) (O.seen out.new) (E.seen err.new) (L.seen link.new))) }
-    ensures usage { (uses_asked (setting_of (texts_of words.now) now)).reads_commands ≡ false
+    ensures usage { (uses_asked (command_line (texts_of words.now) now)).reads_commands ≡ false
         → IsErrAnd result (λ said. status_of said.cause ≡ 2) ↔ IsErr (command_of false (texts_of words.now)) }
-    ensures word { (refusal : Refusal) → (asked (setting_of (texts_of words.now) now)).faulty ≡ Some refusal
+    ensures word { (refusal : Refusal) → (asked (command_line (texts_of words.now) now)).faulty ≡ Some refusal
         → IsErrAnd result (λ said. (said ≡ refusal) ⊎ (said.cause ≡ Memory)) }
-    ensures quiet { (refusal : Refusal) → (asked (setting_of (texts_of words.now) now)).faulty ≡ Some refusal → err.new ≡ err.old }
-    ensures store { (refusal : Refusal) → (asked (setting_of (texts_of words.now) now)).faulty ≡ Some refusal → store.new ≡ store.old }
-    ensures input { (uses_asked (setting_of (texts_of words.now) now)).input ≡ false → input.new ≡ input.old }
+    ensures quiet { (refusal : Refusal) → (asked (command_line (texts_of words.now) now)).faulty ≡ Some refusal → err.new ≡ err.old }
+    ensures store { (refusal : Refusal) → (asked (command_line (texts_of words.now) now)).faulty ≡ Some refusal → store.new ≡ store.old }
+    ensures input { (uses_asked (command_line (texts_of words.now) now)).input ≡ false → input.new ≡ input.old }
     ensures source { I.keeps false input.old input.new }
-    ensures out { (uses_asked (setting_of (texts_of words.now) now)).out ≡ false → out.new ≡ out.old }
-    ensures link { (uses_asked (setting_of (texts_of words.now) now)).link ≡ false → link.new ≡ link.old }
+    ensures out { (uses_asked (command_line (texts_of words.now) now)).out ≡ false → out.new ≡ out.old }
+    ensures link { (uses_asked (command_line (texts_of words.now) now)).link ≡ false → link.new ≡ link.old }
 {
     let invocation = outside_script(now);
     match read_words(alloc, words, false) {

@@ -9,7 +9,7 @@ use Rattle.std.proofs.lemmas.List.{length-map, take_all}
 use Rattle.std.proofs.lemmas.List.Elements.{All-cons, All-nil}
 use Rattle.option_words.specs.Fault.{◌>>=◌}
 use Rattle.option_words.specs.Items.{texts_of}
-use Rattle.option_words.specs.declared.fault.Fault.{Fault}
+use Rattle.option_words.specs.declared.word_fault.Fault.{Fault}
 use Rattle.quota_client.specs.declared.client.Client.{Client}
 use Rattle.quota_client.specs.Words.{Asked, asked_of, client_of, is_path, with_paths}
 

@@ -4,7 +4,7 @@ use Rattle.std.specs.Prelude.{ℕ, ◌-◌, ◌*◌, ◌/◌, Bool, true, false,
 use Rattle.std.specs.List.{concat}
 use Rattle.quota_types.specs.Timers.{is_exceeded}
 use Rattle.report_text.specs.Period.{period_of}
-use Rattle.rquota_xdr.specs.declared.quota.Quota.{Quota}
+use Rattle.rquota_xdr.specs.declared.reply.Quota.{Quota}
 use Rattle.rquota_xdr.specs.declared.reply.Reply.{Reply}
 use Rattle.rquota_xdr.specs.declared.reply.Reply.TheVariants as reply
 use Rattle.quota_client.specs.declared.mode.Mode.{Mode}

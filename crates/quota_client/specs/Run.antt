@@ -9,7 +9,7 @@ use Rattle.refusals.specs.Refusals.{refusal_of}
 use Rattle.refusals.specs.Said.{AppendsUnless}
 use Rattle.refusals.specs.declared.cause.Cause.{Cause}
 use Rattle.refusals.specs.declared.cause.Cause.TheVariants.{LinkFault, SinkFault, Usage}
-use Rattle.option_words.specs.declared.fault.Fault.{Fault}
+use Rattle.option_words.specs.declared.word_fault.Fault.{Fault}
 use Rattle.quota_client.specs.Exchange.{Begins}
 use Rattle.quota_client.specs.Line.{lines_of}
 use Rattle.quota_client.specs.Paths.{AreAsked, PathAsked, PathCall, call_bytes, path_calls, printed_of, status_by_answers}

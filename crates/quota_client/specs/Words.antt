@@ -7,7 +7,7 @@ use Rattle.option_words.specs.Fault.{fault, unless, with_value, ◌>>=◌}
 use Rattle.option_words.specs.FileName.{is_graphic}
 use Rattle.option_words.specs.Tools.{look_up}
 use Rattle.option_words.specs.Values.{is_export_path, number_within}
-use Rattle.option_words.specs.declared.fault.Fault.{Fault}
+use Rattle.option_words.specs.declared.word_fault.Fault.{Fault}
 use Rattle.quota_client.specs.declared.client.Client.{Client}
 use Rattle.quota_client.specs.declared.mode.Mode.{Mode}
 use Rattle.quota_client.specs.declared.mode.Mode.TheVariants.{Quota, Warn}

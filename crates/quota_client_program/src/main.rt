@@ -14,7 +14,7 @@ use std::io;
 use std::io::IsTerminal;
 use std::process::ExitCode;
 use system_network::UdpPeer;
-use system_streams::{Failure, StreamSink, moment};
+use system_streams::{LinkFailure, StreamSink, moment};
 
 mod help;
 
@@ -26,7 +26,7 @@ fn first_xid(seconds: u64) -> u32
 }
 
 /// What the system refused, and why, of the output or of the peer. A run ends with the first one, so there is one at most.
-fn reason_of<'a>(output: Option<io::Error>, peer: Option<Failure>) -> Option<Reason<'a>> {
+fn reason_of<'a>(output: Option<io::Error>, peer: Option<LinkFailure>) -> Option<Reason<'a>> {
     if let Some(error) = output {
         return Some(Reason {
             of: Failed::Output,

@@ -21,7 +21,7 @@ use Rattle.opened_file.proofs.ChangesLemmas.{changes-wider}
 use Rattle.tree_meaning.specs.Ids.{ids_in}
 use Rattle.tree_meaning.specs.TreeFile.{TreeStandsFor}
 use Rattle.quota_pages.specs.Pages.{name_of}
-use Rattle.tree_file.specs.Room.{blocks_wanted}
+use Rattle.tree_file.specs.BlocksWanted.{blocks_wanted}
 use Rattle.tree_file.specs.TreeChange.{TreeLeaves}
 use Rattle.tree_file.specs.TreeCalls.{most_blocks, tree_at, tree_change_reads, tree_change_writes, tree_done_writes, tree_laws}
 use Rattle.tree_file.specs.declared.opened_tree.TreeFile.{TreeFile}

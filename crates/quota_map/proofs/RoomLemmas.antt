@@ -11,7 +11,7 @@ use Rattle.quota_types.specs.declared.file_kind.Format.TheVariants.{V1, V2R0, V2
 use Rattle.opened_file.specs.FileSeen.{FileSeen}
 use Rattle.outside.specs.World.{World}
 use Rattle.tree_file.specs.Opened.{LacksRoom}
-use Rattle.tree_file.specs.Room.{blocks_wanted, blocks_with_new, has_no_leaf, tree_blocks_wanted}
+use Rattle.tree_file.specs.BlocksWanted.{blocks_wanted, blocks_with_new, has_no_leaf, tree_blocks_wanted}
 use Rattle.tree_meaning.specs.Ids.{ids_in}
 use Rattle.quota_map.specs.AnyFile.{HoldsAny, any_seen}
 use Rattle.quota_map.specs.declared.any_file.AnyFile.{AnyFile}

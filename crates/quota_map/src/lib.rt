@@ -6,11 +6,11 @@
 
 mod any_file;
 pub mod laws;
-mod opening;
+mod open_file;
 mod reading;
 mod replacing;
 
 pub use any_file::AnyFile;
-pub use opening::{MOST_BLOCKS, open_file};
+pub use open_file::{MOST_BLOCKS, open_file};
 pub use reading::read_all;
 pub use replacing::replace_file;

@@ -12,7 +12,7 @@ use Rattle.quota_pages.specs.Flushed.{IsPartlyFlushed}
 use Rattle.quota_pages.specs.Held.{lent_head, pages_in, with_lent}
 use Rattle.quota_pages.specs.Page.{IsClean, Page, are_distinct, is_buffered, is_lent, lent_count, shown}
 use Rattle.quota_pages.specs.Pages.{HasAt, HoldsAsBuffered, Lent, LooksAt, name_of, pages_of}
-use Rattle.quota_pages.specs.declared.held_blocks.Head.{Head}
+use Rattle.quota_pages.specs.declared.held_blocks.PageHead.{PageHead}
 use Rattle.quota_pages.specs.declared.held_blocks.Held.{Held}
 use Rattle.quota_pages.specs.declared.page_buffer.Pages.{Pages}
 use Rattle.quota_pages.proofs.BlockLemmas.{block_of-with_block_other, whole_block-same}
@@ -91,7 +91,7 @@ unfolding pages_of
 number_at_place buffer place number has =
     let heads = buffer.held.heads.items in
     let blocks = buffer.held.blocks.items in
-    let h : Head = record { number = number; lent = false } in
+    let h : PageHead = record { number = number; lent = false } in
     let within : place < length (pages_in heads blocks) = omega (arith, has.within, length-pages_in heads blocks buffer.beside) in
     (within, ap (λ (p : Page). p.number) (pages_in-get_or heads blocks place no_page h [] buffer.beside has.within) ∙ has.is)
 
@@ -105,10 +105,10 @@ pub few_pages : (buffer : Pages) → length (pages_of buffer) ≤ 12
 few_pages buffer = omega (arith, page_count buffer, buffer.few)
 
 -- a head that was found at a place
-pub has_at : (buffer : Pages) (place number : ℕ) (d : Head) → place < length buffer.held.heads.items → (get_or buffer.held.heads.items place d).number ≡ number → HasAt place number buffer
+pub has_at : (buffer : Pages) (place number : ℕ) (d : PageHead) → place < length buffer.held.heads.items → (get_or buffer.held.heads.items place d).number ≡ number → HasAt place number buffer
 has_at buffer place number d within is = record {
   within = within;
-  is = ap (λ (h : Head). h.number) (get_or_default buffer.held.heads.items place _ d within) ∙ is;
+  is = ap (λ (h : PageHead). h.number) (get_or_default buffer.held.heads.items place _ d within) ∙ is;
 }
 
 pub has_buffered : (buffer : Pages) (place number : ℕ) → HasAt place number buffer → is_buffered (pages_of buffer) number ≡ true
@@ -119,13 +119,13 @@ pages_in-lent : (between : Pages) (place number : ℕ) (bytes : List ℕ) → Ha
 pages_in-lent between place number bytes has =
     let heads = between.held.heads.items in
     let blocks = between.held.blocks.items in
-    let h : Head = record { number = 0; lent = true } in
-    let named : (get_or heads place h).number ≡ number = ap (λ (x : Head). x.number) (get_or_default heads place h (record { number = number; lent = false }) has.within) ∙ has.is in
+    let h : PageHead = record { number = 0; lent = true } in
+    let named : (get_or heads place h).number ≡ number = ap (λ (x : PageHead). x.number) (get_or_default heads place h (record { number = number; lent = false }) has.within) ∙ has.is in
     pages_in-set heads blocks place (lent_head (get_or heads place h)) bytes between.beside
     ∙ ap (λ (n : ℕ). set (pages_in heads blocks) place (lent_page n bytes)) named
 
 -- numbers stay distinct where a new one is pushed, and where a block is lent
-pub pushed_distinct : (heads new_heads : List Head) (blocks new_blocks : List (List ℕ)) (head : Head) (block : List ℕ) → length heads ≡ length blocks → new_heads ≡ heads ++ head ∷ [] → new_blocks ≡ blocks ++ block ∷ []
+pub pushed_distinct : (heads new_heads : List PageHead) (blocks new_blocks : List (List ℕ)) (head : PageHead) (block : List ℕ) → length heads ≡ length blocks → new_heads ≡ heads ++ head ∷ [] → new_blocks ≡ blocks ++ block ∷ []
     → is_buffered (pages_in heads blocks) head.number ≡ false → IsTrue (are_distinct (pages_in heads blocks)) → IsTrue (are_distinct (pages_in new_heads new_blocks))
 pushed_distinct heads new_heads blocks new_blocks head block same is are none distinct =
     subst IsTrue (sym (ap are_distinct (pushed_pages heads new_heads blocks new_blocks head block same is are) ∙ are_distinct-push (pages_in heads blocks) (page_of head block) none)) distinct
@@ -133,13 +133,13 @@ pushed_distinct heads new_heads blocks new_blocks head block same is are none di
 pub lent_beside : (between : Pages) (place : ℕ) (bytes : List ℕ) → let held = with_lent between.held place bytes in length held.heads.items ≡ length held.blocks.items
 lent_beside between place bytes =
     let heads = between.held.heads.items in
-    let h : Head = record { number = 0; lent = true } in
+    let h : PageHead = record { number = 0; lent = true } in
     length-set heads place (lent_head (get_or heads place h)) ∙ between.beside ∙ sym (length-set between.held.blocks.items place bytes)
 
 pub lent_few : (between : Pages) (place : ℕ) (bytes : List ℕ) → length (with_lent between.held place bytes).heads.items ≤ 12
 lent_few between place bytes =
     let heads = between.held.heads.items in
-    let h : Head = record { number = 0; lent = true } in
+    let h : PageHead = record { number = 0; lent = true } in
     omega (arith, length-set heads place (lent_head (get_or heads place h)), between.few)
 
 pub lent_distinct : (between : Pages) (place number : ℕ) (bytes : List ℕ) → HasAt place number between → let held = with_lent between.held place bytes in IsTrue (are_distinct (pages_in held.heads.items held.blocks.items))
@@ -152,7 +152,7 @@ lent_distinct between place number bytes has =
 bytes_at : (buffer : Pages) (place number : ℕ) (block : List ℕ) → HasAt place number buffer → block ≡ get_or buffer.held.blocks.items place block → (get_or (pages_of buffer) place no_page).bytes ≡ block
 unfolding pages_of
 bytes_at buffer place number block has is =
-    let h : Head = record { number = number; lent = false } in
+    let h : PageHead = record { number = number; lent = false } in
     ap (λ (p : Page). p.bytes) (pages_in-get_or buffer.held.heads.items buffer.held.blocks.items place no_page h block buffer.beside has.within) ∙ sym is
 
 -- the block at a place is the one that is shown

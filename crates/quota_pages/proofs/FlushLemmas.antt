@@ -9,9 +9,9 @@ use Rattle.std.proofs.lemmas.List.Folds.{list_any-append, list_any_at}
 use Rattle.std.proofs.lemmas.List.Sums.{sum_by-append, sum_by-cons}
 use Rattle.file_blocks.specs.Block.{bytes_of}
 use Rattle.outside.specs.Count.{Rose, counted}
-use Rattle.outside.specs.Unsynced.{Names, with_name}
+use Rattle.outside.specs.Unsynced.{UnsyncedNames, with_name}
 use Rattle.outside.specs.World.{World, overwritten, with_bytes, with_file}
-use Rattle.outside.proofs.UnsyncedLemmas.{with_name-again}
+use Rattle.outside.proofs.UnsyncedLemmas.{with_name-cond_of_cond}
 use Rattle.outside.proofs.WorldLemmas.{with_file-again, with_file-at}
 use Rattle.quota_pages.specs.Overlay.{whole_block, with_block}
 use Rattle.quota_pages.specs.Flushed.{IsPartlyFlushed, counted_by, flushed_files, flushed_names}
@@ -164,24 +164,24 @@ pub lent-none : (pages : List Page) (place : ℕ) (page d : Page) → is_some_le
 lent-none pages place page d none within is =
     false_from_ne_true _ (λ lent. true≢false (sym (list_any_at (λ p. p.lent) pages place d within (ap (λ (p : Page). p.lent) (sym is) ∙ lent)) ∙ none))
 
-pub names-nil : (names : Names) (name : List ℕ) → flushed_names names name [] ≡ names
+pub names-nil : (names : UnsyncedNames) (name : List ℕ) → flushed_names names name [] ≡ names
 unfolding flushed_names
 names-nil names name = refl
 
-named_again : (names : Names) (name : List ℕ) (some lent : Bool)
-    → let now : Names = cond some (with_name names name true) names in cond lent (with_name now name true) now ≡ cond (some || lent) (with_name names name true) names
-named_again names name true true = with_name-again names name true true
+named_again : (names : UnsyncedNames) (name : List ℕ) (some lent : Bool)
+    → let now : UnsyncedNames = cond some (with_name names name true) names in cond lent (with_name now name true) now ≡ cond (some || lent) (with_name names name true) names
+named_again names name true true = with_name-cond_of_cond names name true true
 named_again names name true false = refl
 named_again names name false true = refl
 named_again names name false false = refl
 
 -- the names that are unsynced after one more page
-pub names-more : (old now new : Names) (name : List ℕ) (pages : List Page) (place : ℕ) (page d : Page) → place < length pages → page ≡ get_or pages place d
+pub names-more : (old now new : UnsyncedNames) (name : List ℕ) (pages : List Page) (place : ℕ) (page d : Page) → place < length pages → page ≡ get_or pages place d
     → now ≡ flushed_names old name (take place pages) → new ≡ cond page.lent (with_name now name true) now → new ≡ flushed_names old name (take (place + 1) pages)
 unfolding flushed_names
 names-more old now new name pages place page d within is was wrote =
     wrote
-    ∙ ap (λ (n : Names). cond page.lent (with_name n name true) n) was
+    ∙ ap (λ (n : UnsyncedNames). cond page.lent (with_name n name true) n) was
     ∙ named_again old name (is_some_lent (take place pages)) page.lent
     ∙ ap (λ (b : Bool). cond b (with_name old name true) old) (sym (some_lent-push (take place pages) page))
     ∙ ap (λ (p : Page). flushed_names old name (take place pages ++ p ∷ [])) is

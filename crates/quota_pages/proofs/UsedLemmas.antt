@@ -11,7 +11,7 @@ use Rattle.file_blocks.specs.Block.{block_of, bytes_of}
 use Rattle.outside.specs.Count.{counted}
 use Rattle.outside.specs.Frame.{OnlyReads}
 use Rattle.outside.specs.Seen.{StoreSeen}
-use Rattle.quota_types.specs.Span.{KeepsOutside}
+use Rattle.quota_types.specs.KeptBytes.{KeepsOutside}
 use Rattle.outside.specs.World.{World}
 use Rattle.outside.proofs.FrameLemmas.{only_reads-none, only_reads-any, only_reads-then}
 use Rattle.quota_types.proofs.BytesLemmas.{number_same}

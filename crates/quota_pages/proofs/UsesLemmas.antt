@@ -9,20 +9,20 @@ use Rattle.outside.specs.Seen.{StoreSeen}
 use Rattle.outside.proofs.FrameLemmas.{only_reads-none}
 use Rattle.quota_pages.specs.Page.{Page, is_buffered}
 use Rattle.quota_pages.specs.Pages.{name_of}
-use Rattle.quota_pages.specs.Used.{LendsSome, LooksAtSome, Uses, missing, missing_among}
+use Rattle.quota_pages.specs.Used.{LendsSome, LooksAtSome, UsesPages, missing, missing_among}
 use Rattle.quota_pages.specs.declared.page_buffer.Pages.{Pages}
 use Rattle.quota_pages.proofs.UsedLemmas.{missing-absent, missing-stay, missing-there, only_reads-both}
 
 -- what looked at pages used that many
-pub uses_of_looks : {tells ok : Bool} {count : ℕ} {before now : StoreSeen} {old new : Pages} → LooksAtSome tells ok count before now old new → Uses tells ok count before now old new
+pub uses_of_looks : {tells ok : Bool} {count : ℕ} {before now : StoreSeen} {old new : Pages} → LooksAtSome tells ok count before now old new → UsesPages tells ok count before now old new
 uses_of_looks looks = record { name = looks.name; few = looks.few; stay = looks.stay; known = looks.known; leaves = looks.leaves; reads = looks.reads }
 
 -- and so did what lent pages
-pub uses_of_lends : {tells ok : Bool} {count : ℕ} {numbers : List ℕ} {before now : StoreSeen} {old new : Pages} → LendsSome tells ok count numbers before now old new → Uses tells ok count before now old new
+pub uses_of_lends : {tells ok : Bool} {count : ℕ} {numbers : List ℕ} {before now : StoreSeen} {old new : Pages} → LendsSome tells ok count numbers before now old new → UsesPages tells ok count before now old new
 uses_of_lends lends = record { name = lends.name; few = lends.few; stay = lends.stay; known = lends.known; leaves = lends.leaves; reads = lends.reads }
 
 -- nothing was done
-pub uses_none : {ok : Bool} (tells : Bool) (seen : StoreSeen) (buffer : Pages) → Uses tells ok 0 seen seen buffer buffer
+pub uses_none : {ok : Bool} (tells : Bool) (seen : StoreSeen) (buffer : Pages) → UsesPages tells ok 0 seen seen buffer buffer
 uses_none tells seen buffer = record {
   name = refl;
   few = omega arith;
@@ -33,7 +33,7 @@ uses_none tells seen buffer = record {
 }
 
 -- two calls in a row
-pub uses_both : {tells done ok : Bool} {one two : ℕ} {before between now : StoreSeen} {old middle new : Pages} → Uses tells done one before between old middle → Uses tells ok two between now middle new → Uses tells (done && ok) (one + two) before now old new
+pub uses_both : {tells done ok : Bool} {one two : ℕ} {before between now : StoreSeen} {old middle new : Pages} → UsesPages tells done one before between old middle → UsesPages tells ok two between now middle new → UsesPages tells (done && ok) (one + two) before now old new
 uses_both {done = done} {ok = ok} {before = before} {between = between} {now = now} {old = old} first second = record {
   name = second.name ∙ first.name;
   few = omega (arith, first.few, second.few);
@@ -43,11 +43,11 @@ uses_both {done = done} {ok = ok} {before = before} {between = between} {now = n
   reads = omega (arith, first.reads, second.reads);
 }
 
-pub uses_then : {tells ok : Bool} {one two : ℕ} {before between now : StoreSeen} {old middle new : Pages} → Uses tells true one before between old middle → Uses tells ok two between now middle new → Uses tells ok (one + two) before now old new
+pub uses_then : {tells ok : Bool} {one two : ℕ} {before between now : StoreSeen} {old middle new : Pages} → UsesPages tells true one before between old middle → UsesPages tells ok two between now middle new → UsesPages tells ok (one + two) before now old new
 uses_then first second = uses_both first second
 
 -- what was used is used of a greater count
-pub uses_more : {tells ok : Bool} {few : ℕ} {before now : StoreSeen} {old new : Pages} (more : ℕ) → few ≤ more → Uses tells ok few before now old new → Uses tells ok more before now old new
+pub uses_more : {tells ok : Bool} {few : ℕ} {before now : StoreSeen} {old new : Pages} (more : ℕ) → few ≤ more → UsesPages tells ok few before now old new → UsesPages tells ok more before now old new
 uses_more more fewer uses = record {
   name = uses.name;
   few = omega (arith, uses.few, fewer);

@@ -2,7 +2,7 @@
 use Rattle.std.specs.Prelude.{◌≡◌, ℕ, zero, suc, true, List, take, Some, if◌then◌else◌}
 use Rattle.file_blocks.specs.Block.{file_of}
 use Rattle.outside.specs.Count.{counted}
-use Rattle.outside.specs.Unsynced.{Names, with_name}
+use Rattle.outside.specs.Unsynced.{UnsyncedNames, with_name}
 use Rattle.outside.specs.World.{World, with_file}
 use Rattle.quota_pages.specs.Page.{Page, is_some_lent, shown}
 
@@ -13,7 +13,7 @@ flushed_files files name pages =
     if is_some_lent pages then with_file files name (Some (shown pages (file_of files name))) else files
 
 -- the names that are unsynced then: the named one besides, where some page was lent for writing
-unfoldable pub flushed_names : Names → List ℕ → List Page → Names
+unfoldable pub flushed_names : UnsyncedNames → List ℕ → List Page → UnsyncedNames
 flushed_names names name pages = if is_some_lent pages then with_name names name true else names
 
 -- The pages up to some place were written, so that each lent block of the file is the old or the new one.

@@ -5,7 +5,7 @@ use Rattle.quota_types.specs.Times.{times}
 use Rattle.file_blocks.specs.Block.{block_of, file_of}
 use Rattle.outside.specs.Frame.{OnlyReads}
 use Rattle.outside.specs.Seen.{StoreSeen}
-use Rattle.quota_types.specs.Span.{KeepsOutside}
+use Rattle.quota_types.specs.KeptBytes.{KeepsOutside}
 use Rattle.quota_pages.specs.Page.{IsClean, Page, is_buffered, is_lent, lent_count, shown}
 use Rattle.quota_pages.specs.Pages.{name_of, pages_of}
 use Rattle.quota_pages.specs.declared.page_buffer.Pages.{Pages}
@@ -40,7 +40,7 @@ HasRoomWithin known pages most numbers = (length pages + most ≤ 12) ⊎ (known
 
 -- At most this many pages were used, whether they were looked at or lent: the name and what was buffered stay, what was known
 -- still is, no file changed, and where it was done no name is unsynced that was not. It is said beside what is shown then.
-pub record Uses (tells ok : Bool) (count : ℕ) (before now : StoreSeen) (old new : Pages) : Type 0 where
+pub record UsesPages (tells ok : Bool) (count : ℕ) (before now : StoreSeen) (old new : Pages) : Type 0 where
   pub name : name_of new ≡ name_of old
   pub few : length (pages_of new) ≤ length (pages_of old) + count
   pub stay : (number : ℕ) → is_buffered (pages_of old) number ≡ true → is_buffered (pages_of new) number ≡ true

@@ -9,7 +9,7 @@ pub(crate) const ROOM: usize = 12;
 
 /// Which block of its file a held block is, and whether it was lent for writing.
 #[derive(Clone, Copy, Default)]
-pub(crate) struct Head {
+pub(crate) struct PageHead {
     pub number: u32,
     pub lent: bool,
 }
@@ -17,7 +17,7 @@ pub(crate) struct Head {
 /// Blocks beside their heads.
 #[derive(Drop)]
 pub(crate) struct Held {
-    heads: ArrayVec<Head, ROOM>,
+    heads: ArrayVec<PageHead, ROOM>,
     blocks: ArrayVec<[u8; 1024], ROOM>,
 }
 
@@ -44,7 +44,7 @@ impl Held {
     }
 
     /// The head at a place.
-    pub(crate) fn head(&self, place: usize) -> Head
+    pub(crate) fn head(&self, place: usize) -> PageHead
         requires { place < array_vec_len self.now.heads }
         ensures { result ≡ slice_index_or self.now.heads.items place result }
     {
@@ -78,7 +78,7 @@ impl Held {
         ensures heads { self.new.heads.items ≡ self.old.heads.items ++ record { number = number; lent = false } ∷ [] }
         ensures blocks { self.new.blocks.items ≡ self.old.blocks.items ++ block ∷ [] }
     {
-        self.heads.push(Head {
+        self.heads.push(PageHead {
             number,
             lent: false,
         });
@@ -126,7 +126,7 @@ impl Held {
 }
 
 /// The place of the first head of this number.
-fn place_in(heads: &[Head], number: u32) -> Option<usize>
+fn place_in(heads: &[PageHead], number: u32) -> Option<usize>
     ensures { result ≡ position (λ head. head.number == number) heads.now }
 {
     heads.iter().position(|head| head.number == number)

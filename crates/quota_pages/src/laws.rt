@@ -11,7 +11,7 @@ ghost use Rattle.quota_pages.specs.Overlay.{with_block};
 ghost use Rattle.quota_pages.specs.Flushed.{IsPartlyFlushed, counted_by, flushed_files};
 ghost use Rattle.quota_pages.specs.Page.{IsClean, Page, is_buffered, is_lent, lent_count, lent_numbers, shown};
 ghost use Rattle.quota_pages.specs.Pages.{name_of, pages_of};
-ghost use Rattle.quota_pages.specs.Used.{LendsSome, LooksAtSome, Uses, file_under, shown_over};
+ghost use Rattle.quota_pages.specs.Used.{LendsSome, LooksAtSome, UsesPages, file_under, shown_over};
 ghost use Rattle.quota_pages.specs.KeptBlocks.{KeepsBlocksBut};
 ghost use Rattle.quota_pages.specs.declared.page_buffer.Pages.{Pages as Buffer};
 
@@ -141,15 +141,15 @@ pub fn calls_stand_for_one()
 /// so do calls that lend pages. No call uses none, two in a row use as many as both, and what was used is used of a greater count.
 pub fn what_calls_use_adds_up()
     ensures looks { (tells ok : Bool) (count : ℕ) (before now : StoreSeen) (old new : Buffer)
-        → LooksAtSome tells ok count before now old new → Uses tells ok count before now old new }
+        → LooksAtSome tells ok count before now old new → UsesPages tells ok count before now old new }
     ensures lends { (tells ok : Bool) (count : ℕ) (numbers : List ℕ) (before now : StoreSeen) (old new : Buffer)
-        → LendsSome tells ok count numbers before now old new → Uses tells ok count before now old new }
-    ensures none { (tells ok : Bool) (seen : StoreSeen) (buffer : Buffer) → Uses tells ok 0 seen seen buffer buffer }
+        → LendsSome tells ok count numbers before now old new → UsesPages tells ok count before now old new }
+    ensures none { (tells ok : Bool) (seen : StoreSeen) (buffer : Buffer) → UsesPages tells ok 0 seen seen buffer buffer }
     ensures both { (tells done ok : Bool) (one two : ℕ) (before between now : StoreSeen) (old middle new : Buffer)
-        → Uses tells done one before between old middle → Uses tells ok two between now middle new
-        → Uses tells (done && ok) (one + two) before now old new }
+        → UsesPages tells done one before between old middle → UsesPages tells ok two between now middle new
+        → UsesPages tells (done && ok) (one + two) before now old new }
     ensures more { (tells ok : Bool) (few more : ℕ) (before now : StoreSeen) (old new : Buffer) → few ≤ more
-        → Uses tells ok few before now old new → Uses tells ok more before now old new }
+        → UsesPages tells ok few before now old new → UsesPages tells ok more before now old new }
 {}
 
 /// A word that is set in one block leaves each other block as it was shown. This answers a word of the other block.

@@ -1,7 +1,7 @@
 ghost use Rattle.quota_program.specs.QuotaFiles.{IsOpened};
 
 use command_words::Command;
-use option_words::ExportList;
+use option_words::ExportOptions;
 
 /// The quota files that a command opens. Beside each of them, and beside no other file, stands an undo file.
 #[derive(Clone, Copy, Debug)]
@@ -11,7 +11,7 @@ pub enum QuotaFiles<'a> {
     /// These two.
     Two(&'a str, &'a str),
     /// The files of exports.
-    Exported(&'a ExportList),
+    Exported(&'a ExportOptions),
     /// Whatever files the lines of a script name.
     Any,
 }

@@ -1,7 +1,7 @@
 use program_start::{Failed, Reason};
 use std::io;
-use system_objects::Failure as DiskFailure;
-use system_streams::Failure as LinkFailure;
+use system_objects::DiskFailure;
+use system_streams::LinkFailure;
 
 /// The last calls that failed of the objects outside. A run ends with the first one, so there is one at most.
 #[derive(Clone, Copy)]

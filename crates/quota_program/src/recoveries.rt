@@ -5,8 +5,8 @@ ghost use Rattle.std.specs.Prelude.{◌≡◌, ◌≤◌, false};
 use jiff::Timestamp;
 use outside::Sink;
 use std::alloc::{AllocError, Global};
-use system_objects::Failure;
-use undo_trust::gates::{Gate, Outcome};
+use system_objects::DiskFailure;
+use undo_trust::gates::{Gate, GateOutcome};
 use undo_trust::trust::Distrust;
 use undo_trust::undo::plain_name;
 
@@ -48,17 +48,17 @@ fn distrust_text(alloc: Global, undo: &str, why: Distrust) -> Result<String, All
 fn outcome_text(alloc: Global, gate: &Gate) -> Result<Option<String>, AllocError> {
     let (file, undo) = (gate.file(), gate.undo());
     match gate.outcome() {
-        Some(Outcome::Mended) => {
+        Some(GateOutcome::Mended) => {
             let text = format!(in alloc; "{file}: an edit that was stopped has been undone")?;
             Ok(Some(text))
         }
-        Some(Outcome::Unusable) => {
+        Some(GateOutcome::Unusable) => {
             let text = format!(in alloc;
                 "{undo}: it had an open gate and does not fit {file}, which stays as it is"
             )?;
             Ok(Some(text))
         }
-        Some(Outcome::Open) | None => Ok(None),
+        Some(GateOutcome::Open) | None => Ok(None),
     }
 }
 
@@ -75,7 +75,7 @@ fn push_line(lines: &mut String, called: &str, text: &str) -> Result<(), AllocEr
 fn lines_of(
     alloc: Global,
     called: &str,
-    failure: Option<&Failure>,
+    failure: Option<&DiskFailure>,
     gates: &[Gate],
 ) -> Result<String, AllocError> {
     let mut lines = String::new(alloc);
@@ -100,7 +100,7 @@ pub fn tell_undo_files<E: Sink>(
     err: &mut E,
     is_terminal: bool,
     called: &str,
-    failure: Option<&Failure>,
+    failure: Option<&DiskFailure>,
     gates: &[Gate],
     alloc: Global,
 )

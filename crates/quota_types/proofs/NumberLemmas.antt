@@ -10,7 +10,7 @@ use Rattle.byteorder.specs.Endian.{little_bytes, little_from, little_number}
 use Rattle.byteorder.specs.Numbers.{length-bytes_low_first, little_number-reads_back}
 use Rattle.quota_types.specs.Bytes.{number_at}
 use Rattle.quota_types.proofs.BytesLemmas.{number_at-drop, number_same}
-use Rattle.quota_types.specs.Span.{KeepsOutside}
+use Rattle.quota_types.specs.KeptBytes.{KeepsOutside}
 
 little_from-number_at : (width at : ℕ) (file : List ℕ) → little_from at width file ≡ number_at width file at
 unfolding number_at

@@ -7,7 +7,7 @@ pub mod Kept
 pub mod Kind
 pub mod Range
 pub mod Rec
-pub mod Span
+pub mod KeptBytes
 pub mod TimerRoom
 pub mod Timers
 pub mod Times

@@ -1,6 +1,6 @@
 ghost use Rattle.std.specs.Prelude.{◌≡◌, ℕ, ◌+◌, ◌*◌, ◌<◌, ◌≤◌, length, slice_index};
 ghost use Rattle.quota_types.specs.Bytes.{number_at};
-ghost use Rattle.quota_types.specs.Span.{KeepsOutside};
+ghost use Rattle.quota_types.specs.KeptBytes.{KeepsOutside};
 
 use byteorder::{ByteOrder, LittleEndian};
 

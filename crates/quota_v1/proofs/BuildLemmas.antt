@@ -21,7 +21,7 @@ use Rattle.quota_types.specs.Bytes.{byte_at, number_at}
 use Rattle.quota_types.specs.Range.{grace_unfit, unfit}
 use Rattle.quota_types.specs.Rec.{is_zeros}
 use Rattle.quota_value.specs.Listed.{ids_of, records_of, value_of}
-use Rattle.quota_types.specs.Span.{KeepsOutside}
+use Rattle.quota_types.specs.KeptBytes.{KeepsOutside}
 use Rattle.quota_v1.specs.Build.{IsZeroElsewhere, greatest}
 use Rattle.quota_v1.specs.FlatFile.{FlatStandsFor, flat_record, timed_record, unless_zeros}
 use Rattle.quota_v1.specs.Place.{block_time_start, inode_time_start, record_start}

@@ -11,7 +11,7 @@ use Rattle.opened_file.proofs.EditsOneLemmas.{edits_one-after_read, edits_one-ch
 use Rattle.quota_types.specs.Bytes.{byte_at, number_at}
 use Rattle.quota_types.specs.Kept.{IsKept, without_timers_of_zero}
 use Rattle.quota_types.specs.Rec.{kib_of}
-use Rattle.quota_types.specs.Span.{KeepsOutside}
+use Rattle.quota_types.specs.KeptBytes.{KeepsOutside}
 use Rattle.quota_types.specs.declared.file_kind.Format.TheVariants.{V1}
 use Rattle.quota_types.specs.declared.record.Grace.{Grace}
 use Rattle.quota_types.specs.declared.record.Rec.{Rec}

@@ -13,7 +13,7 @@ use Rattle.quota_types.specs.Range.{grace_unfit}
 use Rattle.quota_types.specs.Rec.{IsNull, is_zeros, kib_of}
 use Rattle.quota_types.proofs.BytesLemmas.{number_at-past, number_same}
 use Rattle.quota_value.specs.QuotaValue.{QuotaValue, with_record, without_record, with_grace}
-use Rattle.quota_types.specs.Span.{KeepsOutside}
+use Rattle.quota_types.specs.KeptBytes.{KeepsOutside}
 use Rattle.quota_v1.specs.FlatFile.{FlatStandsFor, flat_record, flat_grace, or_week, timed_record, unless_zeros}
 use Rattle.quota_v1.specs.FlatCalls.{stored_record}
 use Rattle.quota_v1.specs.Place.{block_time_start, inode_time_start, record_start}

@@ -9,7 +9,7 @@ use Rattle.file_blocks.proofs.WordLemmas.{byte_at-block_of, length-block_of, num
 use Rattle.outside.proofs.OverwriteLemmas.{get_or-overwritten_before, get_or-overwritten_behind}
 use Rattle.outside.specs.World.{World, overwritten, with_bytes}
 use Rattle.quota_types.specs.Bytes.{byte_at, number_at}
-use Rattle.quota_types.specs.Span.{KeepsOutside}
+use Rattle.quota_types.specs.KeptBytes.{KeepsOutside}
 use Rattle.quota_types.specs.Times.{StandsIn, times}
 use Rattle.quota_types.proofs.TimesLemmas.{times-cons-same, times_cases}
 use Rattle.quota_types.specs.declared.record.Rec.{Rec}

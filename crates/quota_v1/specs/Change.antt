@@ -4,7 +4,7 @@ use Rattle.quota_types.specs.declared.record.Grace.{Grace}
 use Rattle.quota_types.specs.declared.record.Rec.{Rec}
 use Rattle.quota_types.specs.Bytes.{number_at}
 use Rattle.opened_file.specs.FileChange.{FileChange, Put, Remove, SetGrace}
-use Rattle.quota_types.specs.Span.{KeepsOutside}
+use Rattle.quota_types.specs.KeptBytes.{KeepsOutside}
 use Rattle.outside.specs.World.{KeepsOthers, World}
 use Rattle.quota_v1.specs.FlatFile.{flat_record}
 use Rattle.quota_v1.specs.Place.{block_time_start, inode_time_start, record_size, record_start}

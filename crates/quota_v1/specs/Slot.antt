@@ -7,7 +7,7 @@ use Rattle.opened_file.specs.EditsOne.{EditsOne}
 use Rattle.outside.specs.Seen.{StoreSeen}
 use Rattle.outside.specs.World.{KeepsOthers, World, with_file}
 use Rattle.quota_types.specs.Bytes.{byte_at, number_at}
-use Rattle.quota_types.specs.Span.{KeepsOutside}
+use Rattle.quota_types.specs.KeptBytes.{KeepsOutside}
 use Rattle.quota_types.specs.declared.damage.Damage.{Damage}
 use Rattle.quota_types.specs.declared.record.Entry.{Entry}
 use Rattle.quota_types.specs.declared.record.Grace.{Grace}

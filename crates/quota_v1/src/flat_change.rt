@@ -4,7 +4,7 @@ ghost use Rattle.quota_types.specs.declared.file_kind.Format.TheVariants.{V1};
 ghost use Rattle.quota_types.specs.Kept.{IsKept};
 ghost use Rattle.quota_types.specs.Range.{unfit};
 ghost use Rattle.quota_types.specs.Rec.{kib_of};
-ghost use Rattle.quota_types.specs.Span.{KeepsOutside};
+ghost use Rattle.quota_types.specs.KeptBytes.{KeepsOutside};
 ghost use Rattle.quota_v1.specs.FlatFile.{timed_record};
 ghost use Rattle.quota_v1.specs.Place.{block_time_at, block_time_start, record_size, record_start};
 

@@ -12,11 +12,11 @@ mod flat_change;
 mod flat_file;
 mod flat_record;
 pub mod laws;
-mod opening;
+mod open_v1;
 mod slot;
 mod slot_file;
 mod window;
 
 pub use building::build_v1;
 pub use flat_file::V1File;
-pub use opening::open_v1;
+pub use open_v1::open_v1;

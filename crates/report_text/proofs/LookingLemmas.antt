@@ -10,7 +10,7 @@ use Rattle.quota_value.proofs.EntriesLemmas.{ids_after}
 use Rattle.opened_file.proofs.LookupLemmas.{IsAnswer}
 use Rattle.opened_file.proofs.LooksUpLemmas.{looks_up-answer, looks_up-more, looks_up-stopped, looks_up-within}
 use Rattle.report_text.specs.Fault.{file_fault}
-use Rattle.report_text.specs.declared.fault.ReportFault.{ReportFault}
+use Rattle.report_text.specs.declared.report_fault.ReportFault.{ReportFault}
 
 -- an identifier that comes after another one leaves fewer behind it
 further : (after : Option ℕ) (id : ℕ) → IsAfter after id → id < 2 ^ 32 → (2 ^ 32 - ids_after after) + 1 ≤ 2 ^ 32 - ids_after (Some id)

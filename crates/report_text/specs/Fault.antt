@@ -1,8 +1,8 @@
 -- Why a report was refused.
 use Rattle.std.specs.Prelude.{Option, None, Some, ⊤}
 use Rattle.opened_file.specs.declared.quota_file.FileFault.{FileFault}
-use Rattle.report_text.specs.declared.fault.ReportFault.{ReportFault}
-use Rattle.report_text.specs.declared.fault.ReportFault.TheVariants.{Sink, File}
+use Rattle.report_text.specs.declared.report_fault.ReportFault.{ReportFault}
+use Rattle.report_text.specs.declared.report_fault.ReportFault.TheVariants.{Sink, File}
 
 -- the fault of a lookup, where a report was refused by one
 abbrev pub file_fault : ReportFault → Option FileFault

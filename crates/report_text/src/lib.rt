@@ -4,16 +4,16 @@
 #![tactic(auto)]
 
 mod entries;
-mod fault;
 mod file_report;
 mod head;
 mod page;
 mod period;
+mod report_fault;
 mod usage;
 
-pub use fault::ReportFault;
 pub use file_report::report;
 pub use period::period_text;
+pub use report_fault::ReportFault;
 
 // The options of a report are named with `report`, though words are read without this crate.
 pub use report_options::Options;

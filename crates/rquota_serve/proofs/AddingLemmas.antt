@@ -19,7 +19,7 @@ use Rattle.outside.proofs.FrameLemmas.{syncs-after_read, syncs-none, syncs-read}
 use Rattle.quota_map.specs.View.{IsOpenFault, IsOpenedAs, IsView, opening_reads, fresh_seen}
 use Rattle.rquota_serve.specs.Adding.{AreToldOf, MayAddAll, NewSeen, reads_of}
 use Rattle.rquota_serve.specs.Added.{AreAdded, IsRefusedAt, ReadsEach, added_of, new_seen, news_seen, one_later, tried_of}
-use Rattle.rquota_serve.specs.Exported.{Exported, with_export}
+use Rattle.rquota_serve.specs.ExportedValues.{ExportedValues, with_export}
 use Rattle.rquota_serve.specs.Exports.{IsServed, Serves, export_seen, fresh_export, kept_in}
 use Rattle.rquota_serve.specs.ExportSeen.{ExportSeen, is_exported, may_add}
 use Rattle.rquota_serve.specs.declared.export.Export.{Export}
@@ -89,20 +89,20 @@ abbrev pub AllSeen : Option Format → World → List NewSeen → Type 0
 AllSeen asked files [] = ⊤
 AllSeen asked files (one ∷ news) = ((value : QuotaValue) × IsView (files one.file) one.kind asked (Ok value)) × AllSeen asked files news
 
-pub all_seen : (asked : Option Format) (files : World) (news : List NewSeen) (before exported : Exported) → AreToldOf asked files news before exported → AllSeen asked files news
+pub all_seen : (asked : Option Format) (files : World) (news : List NewSeen) (before exported : ExportedValues) → AreToldOf asked files news before exported → AllSeen asked files news
 all_seen asked files [] before exported is = tt
 all_seen asked files (one ∷ news) before exported is = ((is.0, is.1), all_seen asked files news (with_export before one.path one.kind is.0) exported is.2)
 
 -- All that is said where files are added.
-pub record AllAdded (tells : Bool) (asked : Option Format) (news : List NewSeen) (result : Result (Unit {0}) AddFault) (was is : List ExportSeen) (served serving : Exported → Type 0) (old new : StoreSeen) : Type 0 where
+pub record AllAdded (tells : Bool) (asked : Option Format) (news : List NewSeen) (result : Result (Unit {0}) AddFault) (was is : List ExportSeen) (served serving : ExportedValues → Type 0) (old new : StoreSeen) : Type 0 where
   pub added : AreAdded asked (added_of news result) was is
-  pub serves : IsTrue tells → (before : Exported) → served before → (exported : Exported) × AreToldOf asked old.files (added_of news result) before exported × serving exported
+  pub serves : IsTrue tells → (before : ExportedValues) → served before → (exported : ExportedValues) × AreToldOf asked old.files (added_of news result) before exported × serving exported
   pub leaves : OnOk result (ReadsEach news old new)
   pub reads : IsTrue tells → new.reads ≤ old.reads + reads_of asked old.files (tried_of news result)
   pub refused : IfErr result (λ met. IsRefusedAt tells asked met.place news met.fault old new)
   pub within : IfErr result (λ met. met.place < length news)
 
-pub all_none : (tells : Bool) (asked : Option Format) (was : List ExportSeen) (served : Exported → Type 0) (store : StoreSeen) → AllAdded tells asked [] (Ok tt) was was served served store store
+pub all_none : (tells : Bool) (asked : Option Format) (was : List ExportSeen) (served : ExportedValues → Type 0) (store : StoreSeen) → AllAdded tells asked [] (Ok tt) was was served served store store
 all_none tells asked was served store = record {
   added = refl;
   serves = λ told before is. (before, refl, is);
@@ -129,10 +129,10 @@ err_later P Q (Ok done) so on = tt
 err_later P Q (Err met) so on = so met on
 
 -- one was added, and then the others behind it
-pub all_more : (tells : Bool) (asked : Option Format) (one : NewSeen) (news : List NewSeen) (result : Result (Unit {0}) AddFault) (was between is : List ExportSeen) (served middle serves : Exported → Type 0) (old mid new : StoreSeen)
+pub all_more : (tells : Bool) (asked : Option Format) (one : NewSeen) (news : List NewSeen) (result : Result (Unit {0}) AddFault) (was between is : List ExportSeen) (served middle serves : ExportedValues → Type 0) (old mid new : StoreSeen)
     → OnlyReads true one.file old mid → (opened : Format) × IsOpenedAs asked opened × (between ≡ was ++ fresh_export one.path one.kind one.file opened ∷ [])
     → (IsTrue tells → (value : QuotaValue) × IsView (old.files one.file) one.kind asked (Ok value))
-    → (IsTrue tells → (before : Exported) (value : QuotaValue) → served before → IsView (old.files one.file) one.kind asked (Ok value) → middle (with_export before one.path one.kind value))
+    → (IsTrue tells → (before : ExportedValues) (value : QuotaValue) → served before → IsView (old.files one.file) one.kind asked (Ok value) → middle (with_export before one.path one.kind value))
     → (IsTrue tells → mid.reads ≤ old.reads + opening_reads asked (bytes_of (old.files one.file)))
     → AllAdded tells asked news result between is middle serves mid new
     → AllAdded tells asked (one ∷ news) (one_later result) was is served serves old new
@@ -159,8 +159,8 @@ all_more tells asked one news result was between is served middle serves old mid
 }
 
 -- the first one was not added
-pub all_refused : (tells : Bool) (asked : Option Format) (one : NewSeen) (news : List NewSeen) (fault : OpenFault) (was is : List ExportSeen) (served serves : Exported → Type 0) (old new : StoreSeen)
-    → OnlyReads false one.file old new → IsOpenFault old.faults new.faults tells (old.files one.file) one.kind asked fault → is ≡ was → ((before : Exported) → served before → serves before)
+pub all_refused : (tells : Bool) (asked : Option Format) (one : NewSeen) (news : List NewSeen) (fault : OpenFault) (was is : List ExportSeen) (served serves : ExportedValues → Type 0) (old new : StoreSeen)
+    → OnlyReads false one.file old new → IsOpenFault old.faults new.faults tells (old.files one.file) one.kind asked fault → is ≡ was → ((before : ExportedValues) → served before → serves before)
     → (IsTrue tells → new.reads ≤ old.reads + opening_reads asked (bytes_of (old.files one.file)))
     → AllAdded tells asked (one ∷ news) (Err (record { place = 0; fault = fault })) was is served serves old new
 all_refused tells asked one news fault was is served serves old new leaves refused same stays reads = record {
@@ -173,14 +173,14 @@ all_refused tells asked one news fault was is served serves old new leaves refus
 }
 
 -- exports that are kept as they were serve what they did, once the files are as they were
-pub serves_kept : (tells : Bool) (old new : World) (was is : Exports) (exported : Exported) → kept_in is ≡ kept_in was → new ≡ old → Serves tells old was exported → Serves tells new is exported
+pub serves_kept : (tells : Bool) (old new : World) (was is : Exports) (exported : ExportedValues) → kept_in is ≡ kept_in was → new ≡ old → Serves tells old was exported → Serves tells new is exported
 serves_kept tells old new was is exported same files serves = record {
   each = subst (λ (w : World). All (IsServed tells w exported) (kept_in is)) (sym files) (subst (All (IsServed tells old exported)) (sym same) serves.each);
   others = λ path kind free. serves.others path kind (ap (λ (l : List Export). is_exported (map export_seen l) path kind) (sym same) ∙ free);
 }
 
 -- the same of an equal list, and of an equal result
-pub all_of : (tells : Bool) (asked : Option Format) (news other : List NewSeen) (result answered : Result (Unit {0}) AddFault) (was is : List ExportSeen) (served serves : Exported → Type 0) (old new : StoreSeen)
+pub all_of : (tells : Bool) (asked : Option Format) (news other : List NewSeen) (result answered : Result (Unit {0}) AddFault) (was is : List ExportSeen) (served serves : ExportedValues → Type 0) (old new : StoreSeen)
     → other ≡ news → answered ≡ result → AllAdded tells asked news result was is served serves old new → AllAdded tells asked other answered was is served serves old new
 all_of tells asked news other result answered was is served serves old new list_is result_is all =
     subst (λ (l : List NewSeen). AllAdded tells asked l answered was is served serves old new) (sym list_is)

@@ -26,7 +26,7 @@ use Rattle.quota_value.specs.QuotaValue.{QuotaValue}
 use Rattle.outside.specs.Seen.{StoreSeen}
 use Rattle.outside.specs.World.{World}
 use Rattle.quota_map.specs.AnyFile.{HoldsAny, any_seen, MayRefuse}
-use Rattle.rquota_serve.specs.Exported.{Exported, names_eq, nothing_exported, with_export}
+use Rattle.rquota_serve.specs.ExportedValues.{ExportedValues, names_eq, nothing_exported, with_export}
 use Rattle.rquota_serve.specs.Exports.{CountsOne, IsServed, OnlyLooksUp, Serves, export_seen, exports_seen, kept_in}
 use Rattle.rquota_serve.specs.ExportSeen.{ExportSeen, is_exported, is_named, may_add}
 use Rattle.rquota_serve.specs.Refusal.{IsAnswerFault, MayRefuseOne}
@@ -104,11 +104,11 @@ names-flip path kind path' kind' other = by (names_eq path' kind' path kind) ref
 
 -- Values that are served.
 
-value-under : (exported : Exported) (path : List ℕ) (kind : Kind) (path' : List ℕ) (kind' : Kind) (value : QuotaValue) → names_eq path kind path' kind' ≡ false
+value-under : (exported : ExportedValues) (path : List ℕ) (kind : Kind) (path' : List ℕ) (kind' : Kind) (value : QuotaValue) → names_eq path kind path' kind' ≡ false
     → with_export exported path kind value path' kind' ≡ exported path' kind'
 value-under exported path kind path' kind' value other = ap (λ (b : Bool). if b then Some value else exported path' kind') other
 
-value-here : (exported : Exported) (path : List ℕ) (kind : Kind) (value : QuotaValue) → with_export exported path kind value path kind ≡ Some value
+value-here : (exported : ExportedValues) (path : List ℕ) (kind : Kind) (value : QuotaValue) → with_export exported path kind value path kind ≡ Some value
 value-here exported path kind value = ap (λ (b : Bool). if b then Some value else exported path kind) (names-same path kind)
 
 -- no exports serve nothing
@@ -119,7 +119,7 @@ serves-none tells files exports empty = record {
 }
 
 -- the files are the same ones
-served-files : (tells : Bool) (files files' : World) (exported : Exported) (export : Export) → files' ≡ files → IsServed tells files exported export → IsServed tells files' exported export
+served-files : (tells : Bool) (files files' : World) (exported : ExportedValues) (export : Export) → files' ≡ files → IsServed tells files exported export → IsServed tells files' exported export
 served-files tells files files' exported export same served = record {
   value = served.value;
   there = served.there;
@@ -127,14 +127,14 @@ served-files tells files files' exported export same served = record {
 }
 
 -- what is served at a place
-pub served-at : (tells : Bool) (files : World) (exports : Exports) (exported : Exported) (place : ℕ) (export : Export) → slice_get (kept_in exports) place ≡ Some export → Serves tells files exports exported
+pub served-at : (tells : Bool) (files : World) (exports : Exports) (exported : ExportedValues) (place : ℕ) (export : Export) → slice_get (kept_in exports) place ≡ Some export → Serves tells files exports exported
     → IsServed tells files exported export
 served-at tells files exports exported place export at serves =
     subst (IsServed tells files exported) (get_or_from_slice_get (kept_in exports) place export export at)
     (All-get_or (IsServed tells files exported) (kept_in exports) place export (slice_get_within (kept_in exports) place export at) serves.each)
 
 -- the exports serve the same values where one of them holds what it held
-pub serves-set : (tells : Bool) (files files' : World) (old new : Exports) (exported : Exported) (place : ℕ) (was export : Export) → slice_get (kept_in old) place ≡ Some was
+pub serves-set : (tells : Bool) (files files' : World) (old new : Exports) (exported : ExportedValues) (place : ℕ) (was export : Export) → slice_get (kept_in old) place ≡ Some was
     → kept_in new ≡ set (kept_in old) place export → files' ≡ files → string_bytes export.path ≡ string_bytes was.path → export.kind ≡ was.kind
     → ((value : QuotaValue) → HoldsAny tells files was.file value → HoldsAny tells files' export.file value) → Serves tells files old exported → Serves tells files' new exported
 serves-set tells files files' old new exported place was export at is same same_path same_kind stays serves =
@@ -163,7 +163,7 @@ none-named path kind (export ∷ list) none =
     (names-flip (string_bytes export.path) export.kind path kind (or_parts here rest none).0)
     (none-named path kind list (or_parts here rest none).1)
 
-served-beside : (tells : Bool) (files files' : World) (exported : Exported) (path : List ℕ) (kind : Kind) (value : QuotaValue) (export : Export) → files' ≡ files
+served-beside : (tells : Bool) (files files' : World) (exported : ExportedValues) (path : List ℕ) (kind : Kind) (value : QuotaValue) (export : Export) → files' ≡ files
     → names_eq path kind (string_bytes export.path) export.kind ≡ false → IsServed tells files exported export → IsServed tells files' (with_export exported path kind value) export
 served-beside tells files files' exported path kind value export same other served = record {
   value = served.value;
@@ -172,17 +172,17 @@ served-beside tells files files' exported path kind value export same other serv
 }
 
 -- two facts of each element
-both : (P Q R : Export → Type 0) (list : List Export) → ((e : Export) → P e → Q e → R e) → All P list → All Q list → All R list
-both P Q R list joins one other k d lt = joins (get_or list k d) (one k d lt) (other k d lt)
+all_of_both : (P Q R : Export → Type 0) (list : List Export) → ((e : Export) → P e → Q e → R e) → All P list → All Q list → All R list
+all_of_both P Q R list joins one other k d lt = joins (get_or list k d) (one k d lt) (other k d lt)
 
 -- one more value is served where one more file is exported
-pub serves-push : (tells : Bool) (files files' : World) (old new : Exports) (exported : Exported) (path : List ℕ) (kind : Kind) (value : QuotaValue) (export : Export)
+pub serves-push : (tells : Bool) (files files' : World) (old new : Exports) (exported : ExportedValues) (path : List ℕ) (kind : Kind) (value : QuotaValue) (export : Export)
     → kept_in new ≡ kept_in old ++ export ∷ [] → files' ≡ files → string_bytes export.path ≡ path → export.kind ≡ kind → is_exported (exports_seen old) path kind ≡ false
     → HoldsAny tells files' export.file value → Serves tells files old exported → Serves tells files' new (with_export exported path kind value)
 serves-push tells files files' old new exported path kind value export is same same_path same_kind none held serves = record {
   each = subst (All (IsServed tells files' (with_export exported path kind value))) (sym is)
       (All-push (IsServed tells files' (with_export exported path kind value)) (kept_in old) export
-      (both (λ (e : Export). names_eq path kind (string_bytes e.path) e.kind ≡ false) (IsServed tells files exported) (IsServed tells files' (with_export exported path kind value)) (kept_in old)
+      (all_of_both (λ (e : Export). names_eq path kind (string_bytes e.path) e.kind ≡ false) (IsServed tells files exported) (IsServed tells files' (with_export exported path kind value)) (kept_in old)
       (λ e. served-beside tells files files' exported path kind value e same) (none-named path kind (kept_in old) none) serves.each)
       (record {
         value = value;
@@ -219,7 +219,7 @@ named-at exports place seen export path kind there named at =
     sym (ap (is_named path kind) is) ∙ named
 
 -- the record that was looked up in its file
-pub found-at : (tells : Bool) (files : World) (exports : Exports) (exported : Exported) (place : ℕ) (seen : ExportSeen) (export : Export) (path : List ℕ) (kind : Kind) (id : ℕ) (rec : Rec)
+pub found-at : (tells : Bool) (files : World) (exports : Exports) (exported : ExportedValues) (place : ℕ) (seen : ExportSeen) (export : Export) (path : List ℕ) (kind : Kind) (id : ℕ) (rec : Rec)
     → slice_get (exports_seen exports) place ≡ Some seen → is_named path kind seen ≡ true → slice_get (kept_in exports) place ≡ Some export
     → ((value : QuotaValue) → HoldsAny tells files export.file value → rec ≡ record_of id value) → Serves tells files exports exported → Some rec ≡ record_under exported path kind id
 found-at tells files exports exported place seen export path kind id rec there named at found serves =

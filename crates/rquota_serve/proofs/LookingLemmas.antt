@@ -7,12 +7,12 @@ use Rattle.outside.specs.Seen.{StoreSeen}
 use Rattle.opened_file.specs.declared.quota_file.FileFault.{FileFault}
 use Rattle.opened_file.specs.declared.quota_file.FileFault.TheVariants.{Store as CallFailed, Damage as Damaged, Full, Memory as NoMemory}
 use Rattle.outside.proofs.FrameLemmas.{syncs-none, syncs-then}
-use Rattle.rquota_serve.specs.Exported.{Exported}
+use Rattle.rquota_serve.specs.ExportedValues.{ExportedValues}
 use Rattle.rquota_serve.specs.ExportSeen.{ExportSeen}
 use Rattle.rquota_serve.specs.Looking.{ExportsAt, LooksUpIn}
 use Rattle.rquota_serve.specs.Refusal.{IsAnswerFault, IsServeFault, OnFile, OnLink, file_in}
-use Rattle.rquota_serve.specs.declared.fault.ServeFault.{ServeFault}
-use Rattle.rquota_serve.specs.declared.fault.ServeFault.TheVariants.{Link as LinkFailed, File as FileFailed}
+use Rattle.rquota_serve.specs.declared.serve_fault.ServeFault.{ServeFault}
+use Rattle.rquota_serve.specs.declared.serve_fault.ServeFault.TheVariants.{Link as LinkFailed, File as FileFailed}
 use Rattle.rquota_serve.proofs.ExportLemmas.{looks-none, looks-then}
 
 -- nothing was looked up, whatever number of reads may be made
@@ -28,14 +28,14 @@ looks_in-none fault_of at most told = record {
   reads = omega arith;
 }
 
-answer_fault-after : (before between now : ℕ) (serves serves_between : Exported → Type 0) (fault : FileFault) → before ≤ between → ((exported : Exported) → serves exported → serves_between exported)
+answer_fault-after : (before between now : ℕ) (serves serves_between : ExportedValues → Type 0) (fault : FileFault) → before ≤ between → ((exported : ExportedValues) → serves exported → serves_between exported)
     → IsAnswerFault between now serves_between fault → IsAnswerFault before now serves fault
 answer_fault-after before between now serves serves_between CallFailed later stays cause = omega arith
 answer_fault-after before between now serves serves_between (Damaged damage) later stays cause = λ exported is. cause exported (stays exported is)
 answer_fault-after before between now serves serves_between (Full blocks limit) later stays cause = cause
 answer_fault-after before between now serves serves_between NoMemory later stays cause = cause
 
-looks_in-mid : {T U E G : Type 0} (fault_in : G → Option FileFault) (fault_of : E → Option FileFault) (old new : ExportsAt) (one two : ℕ) (told : U) (held : Exported → Type 0) (store : StoreSeen) (result : Result T E)
+looks_in-mid : {T U E G : Type 0} (fault_in : G → Option FileFault) (fault_of : E → Option FileFault) (old new : ExportsAt) (one two : ℕ) (told : U) (held : ExportedValues → Type 0) (store : StoreSeen) (result : Result T E)
     → LooksUpIn fault_in old (record { serves = held; seen = old.seen; store = store }) one (Ok told) → LooksUpIn fault_of (record { serves = held; seen = old.seen; store = store }) new two result
     → LooksUpIn fault_of old new (one + two) result
 looks_in-mid fault_in fault_of old new one two told held store (Ok done) first second = record {
@@ -91,7 +91,7 @@ looks_in-more fault_in fault_of old mid new each count most told result more fir
     (looks_in-then fault_in fault_of old mid new (each * count) each told result first second)
 
 -- why serving ended: the link failed, or a file did
-pub serve_fault : (before now link link_now : ℕ) (serves : Exported → Type 0) (fault : ServeFault) → OnLink fault (Rose link link_now) → IfSome (file_in fault) (IsAnswerFault before now serves)
+pub serve_fault : (before now link link_now : ℕ) (serves : ExportedValues → Type 0) (fault : ServeFault) → OnLink fault (Rose link link_now) → IfSome (file_in fault) (IsAnswerFault before now serves)
     → IsServeFault before now link link_now serves fault
 serve_fault before now link link_now serves LinkFailed unlinked refused = unlinked
 serve_fault before now link link_now serves (FileFailed fault) unlinked refused = refused

@@ -15,10 +15,10 @@ pub sought-first : (rec : Rec) → IsSought rec 10
 unfolding block_power
 sought-first rec = record { more = 21; up_to = refl; sought = refl }
 
-step : (rec : Rec) (power more : ℕ) (fits : Bool) → fit_blocks rec power ≡ fits
+next_power : (rec : Rec) (power more : ℕ) (fits : Bool) → fit_blocks rec power ≡ fits
     → unwrap_or (find (fit_blocks rec) (range_with_len power (suc more))) 30 ≡ cond fits power (unwrap_or (find (fit_blocks rec) (range_with_len (power + 1) more)) 30)
-step rec power more true is = ap (λ (b : Bool). unwrap_or (cond b (Some power) (find (fit_blocks rec) (range_with_len (power + 1) more))) 30) is
-step rec power more false is = ap (λ (b : Bool). unwrap_or (cond b (Some power) (find (fit_blocks rec) (range_with_len (power + 1) more))) 30) is
+next_power rec power more true is = ap (λ (b : Bool). unwrap_or (cond b (Some power) (find (fit_blocks rec) (range_with_len (power + 1) more))) 30) is
+next_power rec power more false is = ap (λ (b : Bool). unwrap_or (cond b (Some power) (find (fit_blocks rec) (range_with_len (power + 1) more))) 30) is
 
 -- there is a power to try below 31
 one-more : (power more : ℕ) → power + more ≡ 31 → power + 1 ≤ 31 → (less : ℕ) × (more ≡ suc less)
@@ -28,7 +28,7 @@ one-more power (suc less) is below = (less, refl)
 pub sought-here : (rec : Rec) (power : ℕ) → power + 1 ≤ 31 → fit_blocks rec power ≡ true → IsSought rec power → power ≡ block_power rec
 sought-here rec power below fits so_far =
     let found = one-more power so_far.more so_far.up_to below in
-    sym (so_far.sought ∙ ap (λ (m : ℕ). unwrap_or (find (fit_blocks rec) (range_with_len power m)) 30) found.1 ∙ step rec power found.0 true fits)
+    sym (so_far.sought ∙ ap (λ (m : ℕ). unwrap_or (find (fit_blocks rec) (range_with_len power m)) 30) found.1 ∙ next_power rec power found.0 true fits)
 
 pub sought-next : (rec : Rec) (power : ℕ) → power + 1 ≤ 31 → fit_blocks rec power ≡ false → IsSought rec power → IsSought rec (power + 1)
 sought-next rec power below fits so_far =
@@ -36,7 +36,7 @@ sought-next rec power below fits so_far =
     record {
       more = found.0;
       up_to = omega (arith, so_far.up_to, found.1);
-      sought = so_far.sought ∙ ap (λ (m : ℕ). unwrap_or (find (fit_blocks rec) (range_with_len power m)) 30) found.1 ∙ step rec power found.0 false fits;
+      sought = so_far.sought ∙ ap (λ (m : ℕ). unwrap_or (find (fit_blocks rec) (range_with_len power m)) 30) found.1 ∙ next_power rec power found.0 false fits;
     }
 
 pub sought-last : (rec : Rec) (power : ℕ) → 31 ≤ power → IsSought rec power → 30 ≡ block_power rec
@@ -53,7 +53,7 @@ tried_within rec power zero is = omega arith
 tried_within rec power (suc more) is =
     let rest = tried_within rec (power + 1) more (omega (arith, is)) in
     let chosen = chosen_within (fit_blocks rec power) power _ (omega (arith, is)) rest in
-    subst (λ (n : ℕ). n ≤ 30) (sym (step rec power more (fit_blocks rec power) refl)) chosen
+    subst (λ (n : ℕ). n ≤ 30) (sym (next_power rec power more (fit_blocks rec power) refl)) chosen
 
 -- the greatest power is 30
 pub block_power-within : (rec : Rec) → block_power rec ≤ 30

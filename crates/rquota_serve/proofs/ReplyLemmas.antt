@@ -13,11 +13,11 @@ use Rattle.quota_types.specs.Rec.{zero_record}
 use Rattle.quota_value.specs.QuotaValue.{QuotaValue, Records}
 use Rattle.rquota_xdr.specs.declared.call.Call.{Call}
 use Rattle.rquota_xdr.specs.declared.call.Call.TheVariants.{Silent, OldRpc, NoProgram, NoVersion, NoProcedure, Auth, Garbage, Null, Get, Set}
-use Rattle.rquota_xdr.specs.declared.caller.Caller.{Caller}
-use Rattle.rquota_xdr.specs.declared.span.Span.{Span}
+use Rattle.rquota_xdr.specs.declared.call.Caller.{Caller}
+use Rattle.rquota_xdr.specs.declared.call.Span.{Span}
 use Rattle.rquota_xdr.specs.declared.reply.Reply.{Reply}
 use Rattle.rquota_xdr.specs.declared.reply.Reply.TheVariants as reply
-use Rattle.rquota_serve.specs.Exported.{Exported}
+use Rattle.rquota_serve.specs.ExportedValues.{ExportedValues}
 use Rattle.rquota_serve.specs.Exports.{HasPaths}
 use Rattle.rquota_serve.specs.ExportSeen.{ExportSeen, is_exported}
 use Rattle.rquota_serve.specs.Refusal.{IsQuota}
@@ -28,7 +28,7 @@ abbrev pub IsPlain : Call → Type 0
 IsPlain call = (xid : ℕ) (caller : Caller) (path : Span) (type id : ℕ) → call ≡ Get xid caller path type id → ⊥
 
 -- its reply rests on nothing that is exported
-pub plain-reply : (exported : Exported) (datagram : List ℕ) (now : ℕ) (call : Call) → IsPlain call → plain_reply call ≡ reply_to exported datagram now call
+pub plain-reply : (exported : ExportedValues) (datagram : List ℕ) (now : ℕ) (call : Call) → IsPlain call → plain_reply call ≡ reply_to exported datagram now call
 plain-reply exported datagram now Silent plain = refl
 plain-reply exported datagram now (OldRpc xid) plain = refl
 plain-reply exported datagram now (NoProgram xid) plain = refl
@@ -55,7 +55,7 @@ value_with id rec = record {
 }
 
 -- such values under the paths of exports
-pub told_by : List ExportSeen → (id : ℕ) → Rec → Exported
+pub told_by : List ExportSeen → (id : ℕ) → Rec → ExportedValues
 told_by seen id rec path kind = cond (is_exported seen path kind) (Some (value_with id rec)) None
 
 some-cond : (b : Bool) (value : QuotaValue) → is_some (cond b (Some value) None) ≡ b
@@ -86,22 +86,22 @@ told-found seen path kind id (Some rec) is =
     (ap (λ (r : Rec). Some r) (sym (record-with id rec)))
 
 -- whoever may ask is told what is found
-pub reply-allowed : (exported : Exported) (xid now : ℕ) (caller : Caller) (path : List ℕ) (kind : Kind) (id : ℕ) (found : Option Rec) → may_ask kind caller id ≡ true
+pub reply-allowed : (exported : ExportedValues) (xid now : ℕ) (caller : Caller) (path : List ℕ) (kind : Kind) (id : ℕ) (found : Option Rec) → may_ask kind caller id ≡ true
     → found ≡ record_under exported path kind id → reply_with xid now found ≡ reply_for exported xid now caller path (Some kind) id
 reply-allowed exported xid now caller path kind id found may is =
     ap (reply_with xid now) is
     ∙ ap (λ (b : Bool). if b then reply_with xid now (record_under exported path kind id) else reply.Denied xid) (sym may)
 
 -- whoever may not is denied
-pub reply-denied : (exported : Exported) (xid now : ℕ) (caller : Caller) (path : List ℕ) (kind : Kind) (id : ℕ) → may_ask kind caller id ≡ false
+pub reply-denied : (exported : ExportedValues) (xid now : ℕ) (caller : Caller) (path : List ℕ) (kind : Kind) (id : ℕ) → may_ask kind caller id ≡ false
     → reply.Denied xid ≡ reply_for exported xid now caller path (Some kind) id
 reply-denied exported xid now caller path kind id may =
     ap (λ (b : Bool). if b then reply_with xid now (record_under exported path kind id) else reply.Denied xid) (sym may)
 
 -- a datagram of which limits would be told is one that is replied to
-pub quota-not-silent : (seen : List ExportSeen) (datagram : List ℕ) (now : ℕ) (call : Call) → ((exported : Exported) → HasPaths seen exported → IsQuota (reply_to exported datagram now call)) → call ≡ Silent → ⊥
+pub quota-not-silent : (seen : List ExportSeen) (datagram : List ℕ) (now : ℕ) (call : Call) → ((exported : ExportedValues) → HasPaths seen exported → IsQuota (reply_to exported datagram now call)) → call ≡ Silent → ⊥
 quota-not-silent seen datagram now call quota is =
-    let told : Exported = told_by seen 0 zero_record in
+    let told : ExportedValues = told_by seen 0 zero_record in
     subst (λ (c : Call). IsQuota (reply_to told datagram now c)) is (quota told (told-paths seen 0 zero_record))
 
 some-not-none : (reply : Option Reply) → IsSome reply → reply ≡ None → ⊥

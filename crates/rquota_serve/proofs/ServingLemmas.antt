@@ -7,23 +7,23 @@ use Rattle.std.specs.Option.{option_to_list}
 use Rattle.outside.specs.Seen.{Datagram, LinkSeen}
 use Rattle.rquota_xdr.specs.Reply.{spelling_of}
 use Rattle.rquota_xdr.specs.declared.reply.Reply.{Reply}
-use Rattle.rquota_serve.specs.Exported.{Exported}
+use Rattle.rquota_serve.specs.ExportedValues.{ExportedValues}
 use Rattle.rquota_serve.specs.Serving.{HasReply, Stopped, answers_of, datagram_reply}
 use Rattle.rquota_serve.specs.Served.{ReadsForTaken, Served}
 
 -- no datagrams have no answers
-answers-none : (exported : Exported) → answers_of exported [] ≡ []
+answers-none : (exported : ExportedValues) → answers_of exported [] ≡ []
 unfolding answers_of
 answers-none exported = refl
 
-answers-append : (exported : Exported) (one more : List Datagram) → answers_of exported (one ++ more) ≡ answers_of exported one ++ answers_of exported more
+answers-append : (exported : ExportedValues) (one more : List Datagram) → answers_of exported (one ++ more) ≡ answers_of exported one ++ answers_of exported more
 unfolding answers_of
 answers-append exported one more =
     ap (map spelling_of) (filter_map-append (datagram_reply exported) one more)
     ∙ map-append spelling_of (filter_map (datagram_reply exported) one) (filter_map (datagram_reply exported) more)
 
 -- one datagram has the answer that its reply is spelled as
-pub answers-one : (exported : Exported) (datagram : Datagram) (reply : Option Reply) → reply ≡ datagram_reply exported datagram
+pub answers-one : (exported : ExportedValues) (datagram : Datagram) (reply : Option Reply) → reply ≡ datagram_reply exported datagram
     → map spelling_of (option_to_list reply) ≡ answers_of exported (datagram ∷ [])
 unfolding answers_of
 answers-one exported datagram reply is = ap (map spelling_of) (listed (datagram_reply exported datagram) reply is)
@@ -33,7 +33,7 @@ answers-one exported datagram reply is = ap (map spelling_of) (listed (datagram_
     listed (Some found) reply is = ap option_to_list is
 
 -- nothing was served
-pub served-none : (serves : Exported → Type 0) (link : LinkSeen) → Served serves 0 link link
+pub served-none : (serves : ExportedValues → Type 0) (link : LinkSeen) → Served serves 0 link link
 served-none serves link = record {
   taken = [];
   left = refl;
@@ -42,7 +42,7 @@ served-none serves link = record {
 }
 
 -- what is served of later exports is served of those before
-pub served-before : (before after : Exported → Type 0) (calls : ℕ) (old new : LinkSeen) → ((exported : Exported) → before exported → after exported) → Served after calls old new → Served before calls old new
+pub served-before : (before after : ExportedValues → Type 0) (calls : ℕ) (old new : LinkSeen) → ((exported : ExportedValues) → before exported → after exported) → Served after calls old new → Served before calls old new
 served-before before after calls old new stays served = record {
   taken = served.taken;
   left = served.left;
@@ -50,7 +50,7 @@ served-before before after calls old new stays served = record {
   answers = λ exported is. served.answers exported (stays exported is);
 }
 
-pub stopped-before : (before after : Exported → Type 0) (calls : ℕ) (old new : LinkSeen) → ((exported : Exported) → before exported → after exported) → Stopped after calls old new → Stopped before calls old new
+pub stopped-before : (before after : ExportedValues → Type 0) (calls : ℕ) (old new : LinkSeen) → ((exported : ExportedValues) → before exported → after exported) → Stopped after calls old new → Stopped before calls old new
 stopped-before before after calls old new stays stopped = record {
   done = stopped.done;
   at_hand = stopped.at_hand;
@@ -61,7 +61,7 @@ stopped-before before after calls old new stays stopped = record {
 }
 
 -- answers behind answers are those of the datagrams behind datagrams
-joined : (exported : Exported) (first second : List Datagram) (old between new : List (List ℕ)) → between ≡ old ++ answers_of exported first → new ≡ between ++ answers_of exported second
+joined : (exported : ExportedValues) (first second : List Datagram) (old between new : List (List ℕ)) → between ≡ old ++ answers_of exported first → new ≡ between ++ answers_of exported second
     → new ≡ old ++ answers_of exported (first ++ second)
 joined exported first second old between new one two =
     two
@@ -69,7 +69,7 @@ joined exported first second old between new one two =
     ∙ append_assoc old (answers_of exported first) (answers_of exported second)
     ∙ ap (λ (l : List (List ℕ)). old ++ l) (sym (answers-append exported first second))
 
-pub served-then : (serves : Exported → Type 0) (calls : ℕ) (old between new : LinkSeen) → Served serves calls old between → Served serves 1 between new → Served serves (calls + 1) old new
+pub served-then : (serves : ExportedValues → Type 0) (calls : ℕ) (old between new : LinkSeen) → Served serves calls old between → Served serves 1 between new → Served serves (calls + 1) old new
 served-then serves calls old between new first second = record {
   taken = first.taken ++ second.taken;
   left = first.left ∙ ap (λ (l : List Datagram). first.taken ++ l) second.left ∙ sym (append_assoc first.taken second.taken new.left);
@@ -78,7 +78,7 @@ served-then serves calls old between new first second = record {
       joined exported first.taken second.taken old.answers between.answers new.answers (first.answers exported is) (second.answers exported is);
 }
 
-pub stopped-then : (serves : Exported → Type 0) (calls most : ℕ) (old between new : LinkSeen) → calls < most → Served serves calls old between → Stopped serves 1 between new → Stopped serves most old new
+pub stopped-then : (serves : ExportedValues → Type 0) (calls most : ℕ) (old between new : LinkSeen) → calls < most → Served serves calls old between → Stopped serves 1 between new → Stopped serves most old new
 stopped-then serves calls most old between new fewer first second = record {
   done = first.taken ++ second.done;
   at_hand = second.at_hand;
@@ -92,7 +92,7 @@ stopped-then serves calls most old between new fewer first second = record {
 }
 
 -- no datagram was taken
-pub stopped-none : (serves : Exported → Type 0) (old new : LinkSeen) → new.left ≡ old.left → new.answers ≡ old.answers → Stopped serves 1 old new
+pub stopped-none : (serves : ExportedValues → Type 0) (old new : LinkSeen) → new.left ≡ old.left → new.answers ≡ old.answers → Stopped serves 1 old new
 stopped-none serves old new left answers = record {
   done = [];
   at_hand = None;
@@ -103,7 +103,7 @@ stopped-none serves old new left answers = record {
 }
 
 -- one datagram was taken, and its reply was not sent
-pub stopped-one : (serves : Exported → Type 0) (datagram : Datagram) (old new : LinkSeen) → old.left ≡ datagram ∷ new.left → new.answers ≡ old.answers → HasReply datagram → Stopped serves 1 old new
+pub stopped-one : (serves : ExportedValues → Type 0) (datagram : Datagram) (old new : LinkSeen) → old.left ≡ datagram ∷ new.left → new.answers ≡ old.answers → HasReply datagram → Stopped serves 1 old new
 stopped-one serves datagram old new left answers unsent = record {
   done = [];
   at_hand = Some datagram;
@@ -114,8 +114,8 @@ stopped-one serves datagram old new left answers unsent = record {
 }
 
 -- one datagram was taken, and its reply was sent
-pub served-one : (serves : Exported → Type 0) (datagram : Datagram) (reply : Option Reply) (old new : LinkSeen) → old.left ≡ datagram ∷ new.left
-    → new.answers ≡ old.answers ++ map spelling_of (option_to_list reply) → ((exported : Exported) → serves exported → reply ≡ datagram_reply exported datagram) → Served serves 1 old new
+pub served-one : (serves : ExportedValues → Type 0) (datagram : Datagram) (reply : Option Reply) (old new : LinkSeen) → old.left ≡ datagram ∷ new.left
+    → new.answers ≡ old.answers ++ map spelling_of (option_to_list reply) → ((exported : ExportedValues) → serves exported → reply ≡ datagram_reply exported datagram) → Served serves 1 old new
 served-one serves datagram reply old new left sent is = record {
   taken = datagram ∷ [];
   left = left;

@@ -9,10 +9,10 @@ use Rattle.rquota_xdr.specs.Fields.{xid_of}
 use Rattle.rquota_xdr.specs.Reply.{AreNumbers, FitsUnits, accepted_head, reply_xid}
 use Rattle.rquota_xdr.specs.declared.call.Call.{Call}
 use Rattle.rquota_xdr.specs.declared.call.Call.TheVariants.{Silent, OldRpc, NoProgram, NoVersion, NoProcedure, Auth, Garbage, Null, Get, Set}
-use Rattle.rquota_xdr.specs.declared.caller.Caller.{Caller}
+use Rattle.rquota_xdr.specs.declared.call.Caller.{Caller}
 use Rattle.rquota_xdr.specs.declared.reply.Reply.{Reply}
 use Rattle.rquota_xdr.specs.declared.reply.Reply.TheVariants as reply
-use Rattle.rquota_serve.specs.Exported.{Exported}
+use Rattle.rquota_serve.specs.ExportedValues.{ExportedValues}
 use Rattle.rquota_serve.specs.Quota.{block_power, limit_blocks, narrowed, quota_of_record, seconds_left, space_blocks}
 use Rattle.rquota_serve.specs.Reply.{kind_named, may_ask, record_under, reply_for, reply_of, reply_to, reply_with}
 use Rattle.rquota_xdr.proofs.XidLemmas.{asked_with}
@@ -66,7 +66,7 @@ either : (P : Reply → Type 0) (test : Bool) (one two : Reply) → P one → P 
 either P true one two first second = first
 either P false one two first second = second
 
-limits_known : (exported : Exported) (xid now : ℕ) (caller : Caller) (path : List ℕ) (kind : Option Kind) (id : ℕ) → IsKnown xid (reply_for exported xid now caller path kind id)
+limits_known : (exported : ExportedValues) (xid now : ℕ) (caller : Caller) (path : List ℕ) (kind : Option Kind) (id : ℕ) → IsKnown xid (reply_for exported xid now caller path kind id)
 limits_known exported xid now caller path None id = told_known xid now None
 limits_known exported xid now caller path (Some kind) id =
     either (IsKnown xid) (may_ask kind caller id) _ _ (told_known xid now (record_under exported path kind id)) (denied_known xid xid refl)
@@ -76,7 +76,7 @@ limits_known exported xid now caller path (Some kind) id =
 same_known : (xid : ℕ) (one other : Reply) → IsKnown xid one → Some one ≡ Some other → IsKnown xid other
 same_known xid one other is same = let it : one ≡ other = cc in subst (IsKnown xid) it is
 
-reply_known : (exported : Exported) (datagram : List ℕ) (now : ℕ) (call : Call) (r : Reply) (xid : ℕ) → IsAskedWith xid call → reply_to exported datagram now call ≡ Some r → IsKnown xid r
+reply_known : (exported : ExportedValues) (datagram : List ℕ) (now : ℕ) (call : Call) (r : Reply) (xid : ℕ) → IsAskedWith xid call → reply_to exported datagram now call ≡ Some r → IsKnown xid r
 reply_known exported datagram now Silent r xid is same = absurd cc
 reply_known exported datagram now (OldRpc own) r xid is same = same_known xid (reply.OldRpc own) r (is, λ few. (omega (arith, is, few), (omega arith, (omega arith, (omega arith, (omega arith, (omega arith, tt))))))) same
 reply_known exported datagram now (NoProgram own) r xid is same = same_known xid (reply.NoProgram own) r (is, λ few. behind_head own (1 ∷ []) (omega (arith, is, few)) (omega arith, tt)) same
@@ -93,5 +93,5 @@ reply_known exported datagram now (Get own caller path type id) r xid is same =
     (subst (λ (x : ℕ). IsKnown x (reply_for exported own now caller named (kind_named type) id)) is limits) same
 
 -- the reply to a datagram is known by the datagram's xid
-pub known_by_call : (exported : Exported) (datagram : List ℕ) (now : ℕ) (r : Reply) → reply_of exported datagram now ≡ Some r → IsKnown (xid_of datagram) r
+pub known_by_call : (exported : ExportedValues) (datagram : List ℕ) (now : ℕ) (r : Reply) → reply_of exported datagram now ≡ Some r → IsKnown (xid_of datagram) r
 known_by_call exported datagram now r same = reply_known exported datagram now (call_of datagram) r (xid_of datagram) (asked_with datagram) same

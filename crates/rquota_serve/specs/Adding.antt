@@ -7,7 +7,7 @@ use Rattle.opened_file.specs.FileSeen.{FileSeen}
 use Rattle.quota_value.specs.QuotaValue.{QuotaValue}
 use Rattle.outside.specs.World.{World}
 use Rattle.quota_map.specs.View.{IsView, opening_reads}
-use Rattle.rquota_serve.specs.Exported.{Exported, with_export}
+use Rattle.rquota_serve.specs.ExportedValues.{ExportedValues, with_export}
 use Rattle.rquota_serve.specs.ExportSeen.{ExportSeen, may_add}
 
 -- What is seen of a file that is to be exported: the bytes of its path, whose usage it tells, and its name.
@@ -25,7 +25,7 @@ MayAddAll before (new ∷ news) =
     × ((file : FileSeen) → MayAddAll (before ++ record { path = new.path; kind = new.kind; file = file } ∷ []) news)
 
 -- These files are told of beside what is exported before: each is seen as a value, which is exported under its path for its kind.
-abbrev pub AreToldOf : Option Format → World → List NewSeen → (before exported : Exported) → Type 0
+abbrev pub AreToldOf : Option Format → World → List NewSeen → (before exported : ExportedValues) → Type 0
 AreToldOf asked files [] before exported = exported ≡ before
 AreToldOf asked files (new ∷ news) before exported =
     (value : QuotaValue) × IsView (files new.file) new.kind asked (Ok value)

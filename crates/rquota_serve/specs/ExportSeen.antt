@@ -3,7 +3,7 @@ use Rattle.std.specs.Prelude.{ℕ, Bool, not, ◌&&◌, nat_lt, List, length}
 use Rattle.std.specs.List.{list_any}
 use Rattle.quota_types.specs.declared.file_kind.Kind.{Kind}
 use Rattle.opened_file.specs.FileSeen.{FileSeen}
-use Rattle.rquota_serve.specs.Exported.{names_eq}
+use Rattle.rquota_serve.specs.ExportedValues.{names_eq}
 
 -- What is seen of an export: the bytes of its path, whose usage it tells, and what is seen of its opened file.
 pub record ExportSeen : Type 0 where

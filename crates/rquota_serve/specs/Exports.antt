@@ -11,7 +11,7 @@ use Rattle.outside.specs.Seen.{StoreSeen}
 use Rattle.outside.specs.World.{World}
 use Rattle.quota_map.specs.AnyFile.{HoldsAny, any_seen}
 use Rattle.quota_map.specs.View.{fresh_seen}
-use Rattle.rquota_serve.specs.Exported.{Exported}
+use Rattle.rquota_serve.specs.ExportedValues.{ExportedValues}
 use Rattle.rquota_serve.specs.declared.export.Export.{Export}
 use Rattle.rquota_serve.specs.declared.exports.Exports.{Exports}
 use Rattle.rquota_serve.specs.ExportSeen.{ExportSeen, is_exported}
@@ -33,18 +33,18 @@ abbrev pub fresh_export : (path : List ℕ) → Kind → (name : List ℕ) → F
 fresh_export path kind name format = record { path = path; kind = kind; file = fresh_seen name format }
 
 -- Values are exported under the paths of these exports, for their kinds, and under no others.
-abbrev pub HasPaths : List ExportSeen → Exported → Type 0
+abbrev pub HasPaths : List ExportSeen → ExportedValues → Type 0
 HasPaths seen exported = (path : List ℕ) (kind : Kind) → is_some (exported path kind) ≡ is_exported seen path kind
 
 -- Under the path of an export, for its kind, stands a value, which its opened file with the store holds.
-pub record IsServed (tells : Bool) (files : World) (exported : Exported) (export : Export) : Type 0 where
+pub record IsServed (tells : Bool) (files : World) (exported : ExportedValues) (export : Export) : Type 0 where
   pub value : QuotaValue
   pub there : exported (string_bytes export.path) export.kind ≡ Some value
   pub held : HoldsAny tells files export.file value
 
 -- The exports with a store, which tells its files or does not, stand for these values: those that their opened files hold, each
 -- under its path and for its kind, and no others.
-pub record Serves (tells : Bool) (files : World) (exports : Exports) (exported : Exported) : Type 0 where
+pub record Serves (tells : Bool) (files : World) (exports : Exports) (exported : ExportedValues) : Type 0 where
   pub each : All (IsServed tells files exported) (kept_in exports)
   pub others : (path : List ℕ) (kind : Kind) → is_exported (exports_seen exports) path kind ≡ false → exported path kind ≡ None
 

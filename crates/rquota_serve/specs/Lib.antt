@@ -1,6 +1,6 @@
 pub mod Adding
 pub mod Quota
-pub mod Exported
+pub mod ExportedValues
 pub mod Exports
 pub mod Reply
 pub mod Refusal

@@ -4,7 +4,7 @@ use Rattle.std.specs.Prelude.{◌≡◌, ℕ, ◌+◌, ◌≤◌, Bool, IfErr, I
 use Rattle.outside.specs.ManyCalls.{Syncs}
 use Rattle.outside.specs.Seen.{StoreSeen}
 use Rattle.opened_file.specs.declared.quota_file.FileFault.{FileFault}
-use Rattle.rquota_serve.specs.Exported.{Exported}
+use Rattle.rquota_serve.specs.ExportedValues.{ExportedValues}
 use Rattle.rquota_serve.specs.Exports.{CountsOne, OnlyLooksUp, Serves, exports_seen}
 use Rattle.rquota_serve.specs.ExportSeen.{ExportSeen}
 use Rattle.rquota_serve.specs.Refusal.{IsAnswerFault, MayRefuseOne}
@@ -12,7 +12,7 @@ use Rattle.rquota_serve.specs.declared.exports.Exports.{Exports}
 
 -- Exports with their store at a moment: the values for which they stand, and what is seen of both.
 pub record ExportsAt : Type 1 where
-  pub serves : Exported → Type 0
+  pub serves : ExportedValues → Type 0
   pub seen : List ExportSeen
   pub store : StoreSeen
 
@@ -32,7 +32,7 @@ CountsRefused old new (Some fault) = CountsOne old new
 pub record LooksUpIn {T E : Type 0} (fault_of : E → Option FileFault) (old new : ExportsAt) (most : ℕ) (result : Result T E) : Type 0 where
   pub refused : IfErr result (λ fault. IfSome (fault_of fault) (IsAnswerFault old.store.faults new.store.faults old.serves))
   pub may : IfErr result (λ fault. IfSome (fault_of fault) (MayRefuseOne old.seen))
-  pub stays : (exported : Exported) → old.serves exported → new.serves exported
+  pub stays : (exported : ExportedValues) → old.serves exported → new.serves exported
   pub leaves : OnlyLooksUp old.seen old.store new.store
   pub synced : Syncs (is_ok result) old.store new.store
   pub same : OnOk result (new.seen ≡ old.seen)

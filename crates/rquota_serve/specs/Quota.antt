@@ -4,7 +4,7 @@ use Rattle.std.specs.Prelude.{ℕ, ◌-◌, ◌^◌, Bool, ◌&&◌, nat_lt, nat
 use Rattle.std.specs.Int.{div_ceil}
 use Rattle.std.specs.List.{range_with_len}
 use Rattle.quota_types.specs.declared.record.Rec.{Rec}
-use Rattle.rquota_xdr.specs.declared.quota.Quota.{Quota}
+use Rattle.rquota_xdr.specs.declared.reply.Quota.{Quota}
 
 -- the number, or the greatest one of 32 bits where it does not fit
 abbrev pub narrowed : ℕ → ℕ

@@ -6,16 +6,16 @@ use Rattle.opened_file.specs.declared.quota_file.FileFault.TheVariants.{Store, D
 use Rattle.quota_map.specs.AnyFile.{MayRefuse}
 use Rattle.rquota_xdr.specs.declared.reply.Reply.{Reply}
 use Rattle.rquota_xdr.specs.declared.reply.Reply.TheVariants as reply
-use Rattle.rquota_serve.specs.Exported.{Exported}
+use Rattle.rquota_serve.specs.ExportedValues.{ExportedValues}
 use Rattle.rquota_serve.specs.ExportSeen.{ExportSeen}
-use Rattle.rquota_serve.specs.declared.fault.ServeFault.{ServeFault}
-use Rattle.rquota_serve.specs.declared.fault.ServeFault.TheVariants.{Link as LinkFailed, File as FileFailed}
+use Rattle.rquota_serve.specs.declared.serve_fault.ServeFault.{ServeFault}
+use Rattle.rquota_serve.specs.declared.serve_fault.ServeFault.TheVariants.{Link as LinkFailed, File as FileFailed}
 
 -- A look-up in a file of the exports is refused where the store's count of faults rose, or where the exports with the store stand
 -- for no values. It needs no room and takes no memory.
-abbrev pub IsAnswerFault : (before now : ℕ) → (serves : Exported → Type 0) → FileFault → Type 0
+abbrev pub IsAnswerFault : (before now : ℕ) → (serves : ExportedValues → Type 0) → FileFault → Type 0
 IsAnswerFault before now serves Store = Rose before now
-IsAnswerFault before now serves (Damage _) = (exported : Exported) → ¬ (serves exported)
+IsAnswerFault before now serves (Damage _) = (exported : ExportedValues) → ¬ (serves exported)
 IsAnswerFault before now serves (Full _ _) = ⊥
 IsAnswerFault before now serves Memory = ⊥
 
@@ -30,7 +30,7 @@ IsQuota (Some (reply.Quota xid quota)) = ⊤
 IsQuota (Some _) = ⊥
 
 -- Serving ends before its time where the link's count of faults rose, or where a datagram could not be answered.
-abbrev pub IsServeFault : (store_before store_now link_before link_now : ℕ) → (serves : Exported → Type 0) → ServeFault → Type 0
+abbrev pub IsServeFault : (store_before store_now link_before link_now : ℕ) → (serves : ExportedValues → Type 0) → ServeFault → Type 0
 IsServeFault store_before store_now link_before link_now serves LinkFailed = Rose link_before link_now
 IsServeFault store_before store_now link_before link_now serves (FileFailed fault) = IsAnswerFault store_before store_now serves fault
 

@@ -12,10 +12,10 @@ use Rattle.quota_value.specs.QuotaValue.{QuotaValue}
 use Rattle.rquota_xdr.specs.Call.{call_of}
 use Rattle.rquota_xdr.specs.declared.call.Call.{Call}
 use Rattle.rquota_xdr.specs.declared.call.Call.TheVariants.{Silent, OldRpc, NoProgram, NoVersion, NoProcedure, Auth, Garbage, Null, Get, Set}
-use Rattle.rquota_xdr.specs.declared.caller.Caller.{Caller}
+use Rattle.rquota_xdr.specs.declared.call.Caller.{Caller}
 use Rattle.rquota_xdr.specs.declared.reply.Reply.{Reply}
 use Rattle.rquota_xdr.specs.declared.reply.Reply.TheVariants as reply
-use Rattle.rquota_serve.specs.Exported.{Exported}
+use Rattle.rquota_serve.specs.ExportedValues.{ExportedValues}
 use Rattle.rquota_serve.specs.Quota.{quota_of_record}
 
 -- whose usage a type names: 0 is a user's, 1 a group's, and any other number names none
@@ -41,11 +41,11 @@ reply_with xid now None = reply.NoQuota xid
 reply_with xid now (Some rec) = reply.Quota xid (quota_of_record rec now)
 
 -- the record of an identifier under a path, where that is exported for the kind
-abbrev pub record_under : Exported → (path : List ℕ) → Kind → (id : ℕ) → Option Rec
+abbrev pub record_under : ExportedValues → (path : List ℕ) → Kind → (id : ℕ) → Option Rec
 record_under exported path kind id = option_map (record_of id) (exported path kind)
 
 -- the reply to a caller who asks for an identifier of a kind, where the type names one
-abbrev pub reply_for : Exported → (xid now : ℕ) → Caller → (path : List ℕ) → Option Kind → (id : ℕ) → Reply
+abbrev pub reply_for : ExportedValues → (xid now : ℕ) → Caller → (path : List ℕ) → Option Kind → (id : ℕ) → Reply
 reply_for exported xid now caller path None id = reply.NoQuota xid
 reply_for exported xid now caller path (Some kind) id =
     if may_ask kind caller id
@@ -66,11 +66,11 @@ plain_reply (Get xid caller path type id) = None
 plain_reply (Set xid) = Some (reply.Denied xid)
 
 -- the reply to what a datagram asks at a moment, or none
-abbrev pub reply_to : Exported → (datagram : List ℕ) → (now : ℕ) → Call → Option Reply
+abbrev pub reply_to : ExportedValues → (datagram : List ℕ) → (now : ℕ) → Call → Option Reply
 reply_to exported datagram now (Get xid caller path type id) =
     Some (reply_for exported xid now caller (slice_range datagram path.start (path.start + path.len)) (kind_named type) id)
 reply_to exported datagram now call = plain_reply call
 
 -- the reply to a datagram that comes at a moment, or none
-abbrev pub reply_of : Exported → (datagram : List ℕ) → (now : ℕ) → Option Reply
+abbrev pub reply_of : ExportedValues → (datagram : List ℕ) → (now : ℕ) → Option Reply
 reply_of exported datagram now = reply_to exported datagram now (call_of datagram)

@@ -2,7 +2,7 @@ ghost use Rattle.std.specs.Prelude.{◌≡◌, ◌↔◌, None, Some, IfOk, OnEr
 ghost use Rattle.quota_map.specs.AnyFile.{any_get_reads};
 ghost use Rattle.rquota_xdr.specs.Call.{HasPathWithin, call_of};
 ghost use Rattle.rquota_xdr.specs.declared.call.Call.TheVariants.{Silent};
-ghost use Rattle.rquota_serve.specs.Exported.{Exported};
+ghost use Rattle.rquota_serve.specs.ExportedValues.{ExportedValues};
 ghost use Rattle.rquota_serve.specs.Exports.{HasPaths, Serves, exports_seen};
 ghost use Rattle.rquota_serve.specs.Looking.{LooksUpIn, exports_at};
 ghost use Rattle.rquota_serve.specs.Refusal.{IsQuota};
@@ -27,14 +27,14 @@ pub fn answer<S: Store>(
     datagram: &[u8],
     now: u64,
 ) -> Result<Option<Reply>, FileFault>
-    ensures reply { IfOk result (λ reply. (exported : Exported) → Serves S.tells (S.seen store.old).files exports.old exported
+    ensures reply { IfOk result (λ reply. (exported : ExportedValues) → Serves S.tells (S.seen store.old).files exports.old exported
         → reply ≡ reply_of exported datagram.now now) }
     // Whatever the store tells, the reply is that of some values under just the paths that are exported.
-    ensures told { IfOk result (λ reply. (exported : Exported) × HasPaths (exports_seen exports.old) exported
+    ensures told { IfOk result (λ reply. (exported : ExportedValues) × HasPaths (exports_seen exports.old) exported
         × (reply ≡ reply_of exported datagram.now now)) }
     ensures silent { IfOk result (λ reply. (reply ≡ None) ↔ (call_of datagram.now ≡ Silent)) }
     // Whatever the store tells, it is refused only where limits would be told.
-    ensures asked { OnErr result ((exported : Exported) → HasPaths (exports_seen exports.old) exported
+    ensures asked { OnErr result ((exported : ExportedValues) → HasPaths (exports_seen exports.old) exported
         → IsQuota (reply_of exported datagram.now now)) }
     ensures looks { LooksUpIn Some (exports_at S.tells (S.seen store.old) exports.old)
         (exports_at S.tells (S.seen store.new) exports.new) any_get_reads result }
@@ -53,11 +53,11 @@ fn answer_call<S: Store>(
     call: Call,
 ) -> Result<Option<Reply>, FileFault>
     requires { HasPathWithin (length datagram.now) call }
-    ensures reply { IfOk result (λ reply. (exported : Exported) → Serves S.tells (S.seen store.old).files exports.old exported
+    ensures reply { IfOk result (λ reply. (exported : ExportedValues) → Serves S.tells (S.seen store.old).files exports.old exported
         → reply ≡ reply_to exported datagram.now now call) }
-    ensures told { IfOk result (λ reply. (exported : Exported) × HasPaths (exports_seen exports.old) exported
+    ensures told { IfOk result (λ reply. (exported : ExportedValues) × HasPaths (exports_seen exports.old) exported
         × (reply ≡ reply_to exported datagram.now now call)) }
-    ensures asked { OnErr result ((exported : Exported) → HasPaths (exports_seen exports.old) exported
+    ensures asked { OnErr result ((exported : ExportedValues) → HasPaths (exports_seen exports.old) exported
         → IsQuota (reply_to exported datagram.now now call)) }
     ensures looks { LooksUpIn Some (exports_at S.tells (S.seen store.old) exports.old)
         (exports_at S.tells (S.seen store.new) exports.new) any_get_reads result }

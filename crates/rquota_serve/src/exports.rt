@@ -26,7 +26,7 @@ impl Exports {
     ghost use Rattle.file_blocks.specs.Block.{file_of};
     ghost use Rattle.rquota_serve.specs.Adding.{AreToldOf, MayAddAll, reads_of};
     ghost use Rattle.rquota_serve.specs.Added.{AreAdded, IsRefusedAt, ReadsEach, added_of, news_seen, tried_of};
-    ghost use Rattle.rquota_serve.specs.Exported.{Exported, nothing_exported, with_export};
+    ghost use Rattle.rquota_serve.specs.ExportedValues.{ExportedValues, nothing_exported, with_export};
     ghost use Rattle.rquota_serve.specs.Exports.{Serves, export_seen, exports_seen, fresh_export, kept_in};
     ghost use Rattle.rquota_serve.specs.ExportSeen.{ExportSeen, is_exported, is_named, may_add};
     ghost use Rattle.rquota_serve.specs.Looking.{LooksUpIn, exports_at};
@@ -69,7 +69,7 @@ impl Exports {
             × (exports_seen self.new ≡ exports_seen self.old ++ fresh_export path.now kind file.now opened ∷ [])) }
         ensures seen { OnOk result (IsTrue S.tells → (value : QuotaValue)
             × IsView ((S.seen store.old).files file.now) kind format (Ok value)) }
-        ensures serves { OnOk result (IsTrue S.tells → (exported : Exported) (value : QuotaValue)
+        ensures serves { OnOk result (IsTrue S.tells → (exported : ExportedValues) (value : QuotaValue)
             → Serves S.tells (S.seen store.old).files self.old exported
             → IsView ((S.seen store.old).files file.now) kind format (Ok value)
             → Serves S.tells (S.seen store.new).files self.new (with_export exported path.now kind value)) }
@@ -102,8 +102,8 @@ impl Exports {
     ) -> Result<(), AddFault>
         requires { MayAddAll (exports_seen self.old) (news_seen list.now) }
         ensures added { AreAdded format (added_of (news_seen list.now) result) (exports_seen self.old) (exports_seen self.new) }
-        ensures serves { IsTrue S.tells → (before : Exported) → Serves S.tells (S.seen store.old).files self.old before
-            → (exported : Exported)
+        ensures serves { IsTrue S.tells → (before : ExportedValues) → Serves S.tells (S.seen store.old).files self.old before
+            → (exported : ExportedValues)
             × AreToldOf format (S.seen store.old).files (added_of (news_seen list.now) result) before exported
             × Serves S.tells (S.seen store.new).files self.new exported }
         ensures leaves { OnOk result (ReadsEach (news_seen list.now) (S.seen store.old) (S.seen store.new)) }
@@ -153,7 +153,7 @@ impl Exports {
         kind: Kind,
         id: u32,
     ) -> Result<Option<Rec>, FileFault>
-        ensures found { IfOk result (λ found. (exported : Exported) → Serves S.tells (S.seen store.old).files self.old exported
+        ensures found { IfOk result (λ found. (exported : ExportedValues) → Serves S.tells (S.seen store.old).files self.old exported
             → found ≡ record_under exported path.now kind id) }
         ensures told { IfOk result (λ found. is_some found ≡ is_exported (exports_seen self.old) path.now kind) }
         ensures there { OnErr result (IsTrue (is_exported (exports_seen self.old) path.now kind)) }

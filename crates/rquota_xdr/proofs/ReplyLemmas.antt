@@ -3,7 +3,7 @@ use Rattle.std.proofs.Common.{◌≡◌, ◌≢◌, ℕ, ◌*◌, ◌/◌, List,
 use Rattle.std.specs.Prelude.{◌==◌, ◌%◌, if◌then◌else◌, IfSome, IfNone}
 use Rattle.rquota_xdr.specs.Units.{units_from}
 use Rattle.rquota_xdr.specs.Reply.{FitsUnits, bytes_of, spelling_of, units_of}
-use Rattle.rquota_xdr.specs.declared.quota.Quota.{Quota}
+use Rattle.rquota_xdr.specs.declared.reply.Quota.{Quota}
 use Rattle.rquota_xdr.specs.declared.reply.Reply.{Reply}
 use Rattle.rquota_xdr.specs.declared.reply.Reply.TheVariants as reply
 use Rattle.rquota_xdr.proofs.SpellingLemmas.{AreBytes, length-bytes_of, units_again, bytes_again}

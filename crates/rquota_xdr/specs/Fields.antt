@@ -2,8 +2,8 @@
 -- of the quota tools for the arguments.
 use Rattle.std.specs.Prelude.{ℕ, ◌+◌, ◌*◌, Bool, ◌&&◌, ◌==◌, nat_lt, nat_le, if◌then◌else◌, List, length}
 use Rattle.rquota_xdr.specs.Units.{unit_at, units_from, opaque_end, is_opaque}
-use Rattle.rquota_xdr.specs.declared.span.Span.{Span}
-use Rattle.rquota_xdr.specs.declared.caller.Caller.{Caller}
+use Rattle.rquota_xdr.specs.declared.call.Span.{Span}
+use Rattle.rquota_xdr.specs.declared.call.Caller.{Caller}
 
 -- ---- the head: six units (RFC 5531, section 9, `struct rpc_msg` and `struct call_body`)
 

@@ -5,7 +5,7 @@ use Rattle.std.specs.Int.{w32, to_be_bytes}
 use Rattle.rquota_xdr.specs.Units.{padded}
 use Rattle.rquota_xdr.specs.Reply.{AreNumbers, bytes_of}
 use Rattle.rquota_xdr.specs.Call.{call_of}
-use Rattle.rquota_xdr.specs.declared.caller.Caller.{Caller}
+use Rattle.rquota_xdr.specs.declared.call.Caller.{Caller}
 use Rattle.rquota_xdr.specs.declared.call.Call.TheVariants.{Get}
 
 -- bytes, and the padding behind them, which has any value

@@ -7,29 +7,13 @@
 //! bytes are its spelling by the table `spelling_of`, which is what is written.
 #![tactic(auto)]
 
-mod arguments;
+mod authentication;
 mod call;
-mod caller;
-mod calls;
-mod credential;
-mod gids;
-mod head;
+mod call_reader;
 pub mod laws;
-mod opaque;
-mod quota;
 mod reply;
-mod reply_reader;
-mod reply_writer;
-mod span;
 mod units;
-mod verifier;
 
-pub use call::Call;
-pub use caller::Caller;
-pub use calls::read_call;
-pub use gids::Gids;
-pub use quota::Quota;
-pub use reply::Reply;
-pub use reply_reader::read_reply;
-pub use reply_writer::write_reply;
-pub use span::Span;
+pub use call::{Call, Caller, Gids, Span};
+pub use call_reader::read_call;
+pub use reply::{Quota, Reply, read_reply, write_reply};

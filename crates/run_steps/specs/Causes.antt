@@ -3,8 +3,8 @@ use Rattle.std.specs.Prelude.{◌≡◌, ℕ, IsTrue, Bool, List, ⊤}
 use Rattle.outside.specs.Count.{Rose}
 use Rattle.opened_file.specs.declared.whole_file.LoadFault.{LoadFault}
 use Rattle.opened_file.specs.declared.whole_file.LoadFault.TheVariants.{Store as StoreFailed, NoFile as Absent, TooLarge as Larger, Memory as NoMemory}
-use Rattle.id_names.specs.declared.fault.NamesFault.{NamesFault}
-use Rattle.id_names.specs.declared.fault.NamesFault.TheVariants.{BadLine as WrongLine, Memory as NamesWantMemory}
+use Rattle.id_names.specs.declared.names_fault.NamesFault.{NamesFault}
+use Rattle.id_names.specs.declared.names_fault.NamesFault.TheVariants.{BadLine as WrongLine, Memory as NamesWantMemory}
 use Rattle.id_names.specs.NamesFile.{NameLine}
 use Rattle.refusals.specs.declared.cause.Cause.{Cause}
 use Rattle.refusals.specs.declared.cause.Cause.TheVariants.{StoreFault, NoFile, TooLarge, Memory, BadLine, SourceFault}

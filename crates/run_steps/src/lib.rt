@@ -4,15 +4,15 @@
 //! The one promise: each helper meets its step.
 #![tactic(auto)]
 
+mod file_causes;
 mod input_line;
 mod invocation;
 pub mod laws;
 mod naming;
 mod numbers;
-mod opening;
 
+pub use file_causes::{file_cause, opening_cause};
 pub use input_line::says_nothing;
 pub use invocation::Invocation;
 pub use naming::{load_cause, read_names};
 pub use numbers::{read_grace, read_identifier, read_limits, read_time};
-pub use opening::{file_cause, opening_cause};

@@ -7,8 +7,8 @@ use Rattle.input_text.specs.LineReading.{lines_left, LinesSeen}
 use Rattle.refusals.specs.declared.cause.Cause.TheVariants.{TooLarge, LongLine, BadLine}
 use Rattle.refusals.specs.Outcome.{Outcome, Passed, Refused}
 use Rattle.run_steps.specs.InputLine.{says_nothing}
-use Rattle.script_lines.specs.declared.line.LineRead.{LineRead}
-use Rattle.script_lines.specs.declared.line.LineRead.TheVariants.{Nothing, Line as Found, Refused as Faulty}
+use Rattle.script_lines.specs.declared.line.ScriptLineRead.{ScriptLineRead}
+use Rattle.script_lines.specs.declared.line.ScriptLineRead.TheVariants.{Nothing, Line as Found, Refused as Faulty}
 use Rattle.script_lines.specs.declared.script.ScriptFault.{ScriptFault}
 use Rattle.script_lines.specs.declared.script.ScriptFault.TheVariants.{Memory as NoMemory}
 use Rattle.script_lines.specs.declared.script.ScriptLine.{ScriptLine}
@@ -33,7 +33,7 @@ abbrev pub left_lines : LinesSeen → List ℕ → InputLines
 left_lines seen left = lines_left 4096 16777216 seen left
 
 -- a line was read
-pub line_taken : (old new : LinesSeen) (left left_now line : List ℕ) (number : ℕ) (read : LineRead)
+pub line_taken : (old new : LinesSeen) (left left_now line : List ℕ) (number : ℕ) (read : ScriptLineRead)
     → left_lines old left ≡ LineThen line (left_lines new left_now) → new.number ≡ old.number + 1 → number ≡ old.number → line_says number line ≡ line_outcome read
     → lines_say old.number (left_lines old left) ≡ read_then (Some read) (lines_say new.number (left_lines new left_now))
 line_taken old new left left_now line number read is next same says =
@@ -58,9 +58,9 @@ pub past_taken : (old : LinesSeen) (left : List ℕ) (more : ScriptSaid) → lef
 past_taken old left more is = ap (λ (l : InputLines). lines_say old.number l) is
 
 -- a refusal that was made for what comes next
-pub refused_taken : (result : Result (Option LineRead) ScriptFault) (read : Option LineRead) (told : Type 0) (says more : ScriptSaid) → MatchResult result (λ (r : Option LineRead). r ≡ read) (λ (fault : ScriptFault). fault ≡ NoMemory)
-    → (told → says ≡ read_then read more) → IfOk result (λ (r : Option LineRead). told → says ≡ read_then r more)
-refused_taken (Ok found) read told says more is taken = λ known. taken known ∙ ap (λ (r : Option LineRead). read_then r more) (sym is)
+pub refused_taken : (result : Result (Option ScriptLineRead) ScriptFault) (read : Option ScriptLineRead) (told : Type 0) (says more : ScriptSaid) → MatchResult result (λ (r : Option ScriptLineRead). r ≡ read) (λ (fault : ScriptFault). fault ≡ NoMemory)
+    → (told → says ≡ read_then read more) → IfOk result (λ (r : Option ScriptLineRead). told → says ≡ read_then r more)
+refused_taken (Ok found) read told says more is taken = λ known. taken known ∙ ap (λ (r : Option ScriptLineRead). read_then r more) (sym is)
 refused_taken (Err fault) read told says more is taken = tt
 
 -- For what a line may be refused.
@@ -82,11 +82,11 @@ says_line number line =
     says_if (says_nothing line) (Passed None) (cond (is_utf8 line) text bad) tt
     (says_if (is_utf8 line) text bad tt (record { may = refl; place = refl }))
 
-outcome_may : (read : LineRead) → OnlyOfScript (line_outcome read) → IfSome (refusal_read (Some read)) IsOfScript
+outcome_may : (read : ScriptLineRead) → OnlyOfScript (line_outcome read) → IfSome (refusal_read (Some read)) IsOfScript
 outcome_may Nothing may = tt
 outcome_may (Found line) may = tt
 outcome_may (Faulty refusal) may = may
 
-pub line_may : (number : ℕ) (line : List ℕ) (read : LineRead) → line_says number line ≡ line_outcome read → IfSome (refusal_read (Some read)) IsOfScript
+pub line_may : (number : ℕ) (line : List ℕ) (read : ScriptLineRead) → line_says number line ≡ line_outcome read → IfSome (refusal_read (Some read)) IsOfScript
 line_may number line read says =
     outcome_may read (subst (λ (o : Outcome (Option LineSaid)). OnlyOfScript o) says (says_line number line))

@@ -2,7 +2,7 @@ ghost use Rattle.std.specs.Prelude.{◌≡◌, false, true, IfOk, MatchOption};
 ghost use Rattle.std.specs.Str.{is_utf8};
 ghost use Rattle.script_lines.specs.Script.{line_says, script_refusal};
 ghost use Rattle.script_lines.specs.ScriptReading.{line_outcome};
-ghost use Rattle.script_lines.specs.declared.line.LineRead.TheVariants.{Refused as Faulty};
+ghost use Rattle.script_lines.specs.declared.line.ScriptLineRead.TheVariants.{Refused as Faulty};
 
 use crate::ScriptLine;
 use refusals::{Cause, Refusal, Word};
@@ -14,7 +14,7 @@ const SCRIPT: &str = "script";
 
 /// What a line of a script says.
 #[derive(Debug, Drop)]
-pub enum LineRead {
+pub enum ScriptLineRead {
     /// Nothing: it is a comment, or has no words.
     Nothing,
     /// A command.
@@ -28,16 +28,16 @@ pub enum LineRead {
 /// # Errors
 ///
 /// There is not enough memory.
-pub fn read_line(alloc: Global, number: u64, line: &[u8]) -> Result<LineRead, AllocError>
+pub fn read_line(alloc: Global, number: u64, line: &[u8]) -> Result<ScriptLineRead, AllocError>
     ensures { IfOk result (λ read. line_says number line.now ≡ line_outcome read) }
 {
     if says_nothing(line) {
-        return Ok(LineRead::Nothing);
+        return Ok(ScriptLineRead::Nothing);
     }
     match as_text(line) {
         Some(text) => {
             let text = String::from_str(alloc, text)?;
-            Ok(LineRead::Line(ScriptLine { number, text }))
+            Ok(ScriptLineRead::Line(ScriptLine { number, text }))
         }
         None => refused_script(alloc, Cause::BadLine(number)),
     }
@@ -58,9 +58,9 @@ fn as_text(line: &[u8]) -> Option<&str>
 /// # Errors
 ///
 /// There is not enough memory.
-pub fn refused_script(alloc: Global, cause: Cause) -> Result<LineRead, AllocError>
+pub fn refused_script(alloc: Global, cause: Cause) -> Result<ScriptLineRead, AllocError>
     ensures { IfOk result (λ read. read ≡ Faulty (script_refusal cause)) }
 {
     let name = Word::copy_of(alloc, SCRIPT)?;
-    Ok(LineRead::Refused(Refusal::of(cause, name)))
+    Ok(ScriptLineRead::Refused(Refusal::of(cause, name)))
 }

@@ -4,10 +4,10 @@ ghost use Rattle.outside.specs.Count.{Rose};
 ghost use Rattle.input_text.specs.LineReading.{lines_left};
 ghost use Rattle.script_lines.specs.Script.{lines_say, script_refusal, script_said};
 ghost use Rattle.script_lines.specs.ScriptReading.{IsOfScript, read_then, refusal_read, script_read};
-ghost use Rattle.script_lines.specs.declared.line.LineRead.TheVariants.{Refused as Faulty};
+ghost use Rattle.script_lines.specs.declared.line.ScriptLineRead.TheVariants.{Refused as Faulty};
 ghost use Rattle.script_lines.specs.declared.script.ScriptFault.TheVariants.{Source as SourceFailed, Memory as NoMemory};
 
-use crate::line::{LineRead, read_line, refused_script};
+use crate::line::{ScriptLineRead, read_line, refused_script};
 use crate::{Script, ScriptFault};
 use arrayvec::ArrayVec;
 use input_text::{LineFault, LineReader};
@@ -64,13 +64,13 @@ fn read_lines<I: Source>(alloc: Global, input: &mut I) -> Result<Script, ScriptF
                     refusal: None,
                 });
             }
-            Some(LineRead::Nothing) => {}
-            Some(LineRead::Line(line)) => {
+            Some(ScriptLineRead::Nothing) => {}
+            Some(ScriptLineRead::Line(line)) => {
                 if lines.push(line).is_err() {
                     return Err(ScriptFault::Memory);
                 }
             }
-            Some(LineRead::Refused(refusal)) => {
+            Some(ScriptLineRead::Refused(refusal)) => {
                 return Ok(Script {
                     lines,
                     refusal: Some(refusal),
@@ -86,7 +86,7 @@ fn take_line<I: Source>(
     reader: &mut LineReader,
     line: &mut ArrayVec<u8, 4096>,
     input: &mut I,
-) -> Result<Option<LineRead>, ScriptFault>
+) -> Result<Option<ScriptLineRead>, ScriptFault>
     ensures read { IfOk result (λ read. IsTrue I.tells
         → lines_say reader.old.number (lines_left 4096 16777216 reader.old (I.seen input.old).left)
         ≡ read_then read (lines_say reader.new.number (lines_left 4096 16777216 reader.new (I.seen input.new).left))) }
@@ -112,7 +112,7 @@ fn take_line<I: Source>(
 }
 
 /// The refusal of a line that was not read.
-fn refused_at(alloc: Global, cause: Cause) -> Result<Option<LineRead>, ScriptFault>
+fn refused_at(alloc: Global, cause: Cause) -> Result<Option<ScriptLineRead>, ScriptFault>
     ensures { MatchResult result (λ read. read ≡ Some (Faulty (script_refusal cause))) (λ fault. fault ≡ NoMemory) }
 {
     match refused_script(alloc, cause) {

@@ -15,14 +15,14 @@ use Rattle.rquota_xdr.specs.Reply.{spelling_of}
 use Rattle.rquota_xdr.specs.declared.call.Call.{Call}
 use Rattle.rquota_xdr.specs.declared.call.Call.TheVariants.{Silent, OldRpc, NoProgram, NoVersion, NoProcedure, Auth, Garbage, Null, Get, Set}
 use Rattle.rquota_xdr.specs.declared.reply.Reply.{Reply}
-use Rattle.rquota_serve.specs.Exported.{Exported}
+use Rattle.rquota_serve.specs.ExportedValues.{ExportedValues}
 use Rattle.rquota_serve.specs.ExportSeen.{ExportSeen}
 use Rattle.rquota_serve.specs.Refusal.{IsServeFault, MayRefuseOne, OnFile}
 use Rattle.rquota_serve.specs.Reply.{reply_to}
 use Rattle.rquota_serve.specs.Serving.{HasReply, Stopped, answers_of, datagram_reply, read_of}
 use Rattle.rquota_serve.specs.Served.{Served}
-use Rattle.rquota_serve.specs.declared.fault.ServeFault.{ServeFault}
-use Rattle.rquota_serve.specs.declared.fault.ServeFault.TheVariants.{Link as LinkFailed, File as FileFailed}
+use Rattle.rquota_serve.specs.declared.serve_fault.ServeFault.{ServeFault}
+use Rattle.rquota_serve.specs.declared.serve_fault.ServeFault.TheVariants.{Link as LinkFailed, File as FileFailed}
 use Rattle.refusals.specs.Refusals.{refusal_of}
 use Rattle.refusals.specs.declared.cause.Cause.{Cause}
 use Rattle.refusals.specs.declared.cause.Cause.TheVariants.{LinkFault, SinkFault}
@@ -79,10 +79,10 @@ answering-follows [] old new same = same
 answering-follows (bytes ∷ sent) old new same = (old, refl, answering-follows sent old new same)
 
 -- the acts of datagrams, one after another
-acts_of : Exported → List Datagram → List Act
+acts_of : ExportedValues → List Datagram → List Act
 acts_of exported datagrams = answering (answers_of exported datagrams)
 
-acts_none : (exported : Exported) → acts_of exported [] ≡ []
+acts_none : (exported : ExportedValues) → acts_of exported [] ≡ []
 unfolding acts_of answering answers_of
 acts_none exported = refl
 
@@ -90,7 +90,7 @@ replied : Option Reply → List Act → List Act
 replied None rest = rest
 replied (Some reply) rest = Answer (spelling_of reply) ∷ rest
 
-acts_one : (exported : Exported) (datagram : Datagram) (datagrams : List Datagram) → acts_of exported (datagram ∷ datagrams) ≡ replied (datagram_reply exported datagram) (acts_of exported datagrams)
+acts_one : (exported : ExportedValues) (datagram : Datagram) (datagrams : List Datagram) → acts_of exported (datagram ∷ datagrams) ≡ replied (datagram_reply exported datagram) (acts_of exported datagrams)
 unfolding acts_of answering answers_of replied
 acts_one exported datagram datagrams = by (datagram_reply exported datagram)
   where
@@ -106,7 +106,7 @@ unfolding replied
 reply_ends None next rest from to ends = ends
 reply_ends (Some reply) next rest from to ends = (rest, from.files, refl, refl, ends)
 
-answered_ends : (exported : Exported) (taken : List Datagram) (files : World) (input : List ℕ) (left : List Datagram)
+answered_ends : (exported : ExportedValues) (taken : List Datagram) (files : World) (input : List ℕ) (left : List Datagram)
     → EndsBy (AnsweringSteps exported (length taken)) (met files input (taken ++ left)) (acts_of exported taken) (met files input left) None
 answered_ends exported [] files input left = record { acts_none = acts_none exported; same = refl; ends = refl }
 answered_ends exported (datagram ∷ taken) files input left = (
@@ -119,7 +119,7 @@ answered_ends exported (datagram ∷ taken) files input left = (
       (answered_ends exported taken files input left)),
 )
 
-pub served_steps : (exported : Exported) (calls : ℕ) (serves : Exported → Type 0) (tells : RunTells) (old : RunSeen) (store : StoreSeen) (link : LinkSeen)
+pub served_steps : (exported : ExportedValues) (calls : ℕ) (serves : ExportedValues → Type 0) (tells : RunTells) (old : RunSeen) (store : StoreSeen) (link : LinkSeen)
     → serves exported → store.files ≡ old.store.files → store.writes ≡ old.store.writes → link.started ≡ old.link.started → Served serves calls old.link link
     → HasSteps (AnsweringSteps exported calls) tells None old (with_link old store link)
 unfolding acts_of
@@ -145,7 +145,7 @@ served_steps exported calls serves tells old store link is files writes started 
 -- Datagrams of which not all were answered.
 
 -- a datagram that is no silent one has a reply, whatever is exported
-reply_there : (exported : Exported) (datagram : List ℕ) (now : ℕ) (call : Call) → (call ≡ Silent → ⊥) → (reply : Reply) × (reply_to exported datagram now call ≡ Some reply)
+reply_there : (exported : ExportedValues) (datagram : List ℕ) (now : ℕ) (call : Call) → (call ≡ Silent → ⊥) → (reply : Reply) × (reply_to exported datagram now call ≡ Some reply)
 reply_there exported datagram now Silent speaks = absurd (speaks refl)
 reply_there exported datagram now (OldRpc xid) speaks = (_, refl)
 reply_there exported datagram now (NoProgram xid) speaks = (_, refl)
@@ -165,7 +165,7 @@ reply_at_hand : (next : Steps) (from : Outside) (reply : Option Reply) (found : 
 reply_at_hand next from None found is = absurd (cc)
 reply_at_hand next from (Some reply) found is = (_, inl (record { done_none = refl; at_hand = refl; same = refl }))
 
-hand_begun : (exported : Exported) (at_hand : Option Datagram) (calls : ℕ) (files : World) (input : List ℕ) (left : List Datagram) → IfSome at_hand HasReply
+hand_begun : (exported : ExportedValues) (at_hand : Option Datagram) (calls : ℕ) (files : World) (input : List ℕ) (left : List Datagram) → IfSome at_hand HasReply
     → Begun (AnsweringSteps exported (suc calls)) (met files input (option_to_list at_hand ++ left)) [] (met files input left)
 hand_begun exported None calls files input left unsent = ([], inl (record { done_none = refl; at_hand = refl; same = refl }))
 hand_begun exported (Some datagram) calls files input left unsent =
@@ -178,7 +178,7 @@ unfolding replied
 reply_begun None next done hand from now begun = begun
 reply_begun (Some reply) next done hand from now begun = inr (done, from.files, refl, refl, begun)
 
-answered_begun : (exported : Exported) (done : List Datagram) (at_hand : Option Datagram) (calls : ℕ) (files : World) (input : List ℕ) (left : List Datagram) → length done < calls → IfSome at_hand HasReply
+answered_begun : (exported : ExportedValues) (done : List Datagram) (at_hand : Option Datagram) (calls : ℕ) (files : World) (input : List ℕ) (left : List Datagram) → length done < calls → IfSome at_hand HasReply
     → Begun (AnsweringSteps exported calls) (met files input (done ++ (option_to_list at_hand ++ left))) (acts_of exported done) (met files input left)
 answered_begun exported done at_hand zero files input left few unsent = absurd (omega (arith, few))
 answered_begun exported [] at_hand (suc calls) files input left few unsent =
@@ -197,7 +197,7 @@ answered_begun exported (datagram ∷ done) at_hand (suc calls) files input left
       ),
     )
 
-stopped_part : {why : Option Cause} (exported : Exported) (calls : ℕ) (serves : Exported → Type 0) (tells : RunTells) (old : RunSeen) (store : StoreSeen) (link : LinkSeen)
+stopped_part : {why : Option Cause} (exported : ExportedValues) (calls : ℕ) (serves : ExportedValues → Type 0) (tells : RunTells) (old : RunSeen) (store : StoreSeen) (link : LinkSeen)
     → why ≢ Some SinkFault → serves exported → store.files ≡ old.store.files → store.writes ≡ old.store.writes → link.started ≡ old.link.started → Stopped serves calls old.link link
     → IsDoneInPart (AnsweringSteps exported calls) tells why old (with_link old store link)
 unfolding acts_of
@@ -231,7 +231,7 @@ pub record IsServing (old : RunSeen) (store : StoreSeen) (link : LinkSeen) : Typ
   pub link_later : old.link.faults ≤ link.faults
 
 -- all datagrams were answered
-pub served_carried : (exported : Exported) (calls : ℕ) (may : Cause → List ℕ → Type 0) (serves : Exported → Type 0) (tells : RunTells) (old : RunSeen) (store : StoreSeen) (link : LinkSeen)
+pub served_carried : (exported : ExportedValues) (calls : ℕ) (may : Cause → List ℕ → Type 0) (serves : ExportedValues → Type 0) (tells : RunTells) (old : RunSeen) (store : StoreSeen) (link : LinkSeen)
     → IsServing old store link → (IsTrue tells.store → serves exported) → (IsTrue tells.link → Served serves calls old.link link)
     → CarriesOut (AnsweringSteps exported calls) serve_uses may tells old (with_link old store link) (Ok tt)
 served_carried exported calls may serves tells old store link serving is served =
@@ -249,7 +249,7 @@ served_carried exported calls may serves tells old store link serving is served 
     }
 
 -- why not all were
-serve_reason : (fault : ServeFault) (exported : Exported) (serves : Exported → Type 0) (stated : Type 0) (tells : RunTells) (old new : RunSeen)
+serve_reason : (fault : ServeFault) (exported : ExportedValues) (serves : ExportedValues → Type 0) (stated : Type 0) (tells : RunTells) (old new : RunSeen)
     → (IsTrue tells.store → serves exported) → IsServeFault old.store.faults new.store.faults old.link.faults new.link.faults serves fault
     → HasReason serve_uses old new (IsWorldTold tells → stated) (serve_cause fault)
 serve_reason LinkFailed exported serves stated tells old new is cause = (refl, cause)
@@ -270,7 +270,7 @@ all_at : {T : Type 0} (P : T → Type 0) (list : List T) (place : ℕ) (one : T)
 all_at P list place one all at = subst P (get_or_from_slice_get list place one one at) (All-get_or P list place one (slice_get_within list place one at) all)
 
 serve_may : (format : Option Format) (file : List ℕ) (seen : List ExportSeen) (fault : ServeFault) → All (IsAsAsked format) seen → OnFile fault (MayRefuseOne seen)
-    → (store_before store_now link_before link_now : ℕ) (serves : Exported → Type 0) → IsServeFault store_before store_now link_before link_now serves fault
+    → (store_before store_now link_before link_now : ℕ) (serves : ExportedValues → Type 0) → IsServeFault store_before store_now link_before link_now serves fault
     → AnsweringMayRefuse format file (serve_cause fault) file
 serve_may format file seen LinkFailed asked may sb sn lb ln serves cause = tt
 serve_may format file seen (FileFailed CallFailed) asked may sb sn lb ln serves cause = tt
@@ -279,7 +279,7 @@ serve_may format file seen (FileFailed (FileDamaged damage)) asked may sb sn lb 
 serve_may format file seen (FileFailed (NoBlocks blocks limit)) asked may sb sn lb ln serves cause = absurd cause
 serve_may format file seen (FileFailed NoMemory) asked may sb sn lb ln serves cause = absurd cause
 
-pub stopped_carried : (exported : Exported) (calls : ℕ) (format : Option Format) (file : List ℕ) (seen : List ExportSeen) (fault : ServeFault) (serves : Exported → Type 0) (tells : RunTells)
+pub stopped_carried : (exported : ExportedValues) (calls : ℕ) (format : Option Format) (file : List ℕ) (seen : List ExportSeen) (fault : ServeFault) (serves : ExportedValues → Type 0) (tells : RunTells)
     (old : RunSeen) (store : StoreSeen) (link : LinkSeen)
     → IsServing old store link → (IsTrue tells.store → serves exported) → (IsTrue tells.link → Stopped serves calls old.link link)
     → IsServeFault old.store.faults store.faults old.link.faults link.faults serves fault → All (IsAsAsked format) seen → OnFile fault (MayRefuseOne seen)
@@ -297,7 +297,7 @@ stopped_carried exported calls format file seen fault serves tells old store lin
 }
 
 -- the link did not start
-pub unstarted_carried : (exported : Exported) (calls port : ℕ) (format : Option Format) (file : List ℕ) (tells : RunTells) (old : RunSeen) (link : LinkSeen) → link.left ≡ old.link.left → link.answers ≡ old.link.answers
+pub unstarted_carried : (exported : ExportedValues) (calls port : ℕ) (format : Option Format) (file : List ℕ) (tells : RunTells) (old : RunSeen) (link : LinkSeen) → link.left ≡ old.link.left → link.answers ≡ old.link.answers
     → (IsTrue tells.link → link.started ≡ old.link.started) → Rose old.link.faults link.faults → old.link.faults ≤ link.faults
     → CarriesOut (Starting port (AnsweringSteps exported calls)) serve_uses (AnsweringMayRefuse format file) tells old (with_link old old.store link) (Err (refusal_of LinkFault file))
 unstarted_carried exported calls port format file tells old link left sent started rose later = record {
@@ -313,11 +313,11 @@ unstarted_carried exported calls port format file tells old link left sent start
 }
 
 -- no datagram was taken
-answers_nothing : (exported : Exported) → answers_of exported [] ≡ []
+answers_nothing : (exported : ExportedValues) → answers_of exported [] ≡ []
 unfolding answers_of
 answers_nothing exported = refl
 
-pub nothing_stopped : (serves : Exported → Type 0) (calls : ℕ) (old new : LinkSeen) → 0 < calls → new.left ≡ old.left → new.answers ≡ old.answers → Stopped serves calls old new
+pub nothing_stopped : (serves : ExportedValues → Type 0) (calls : ℕ) (old new : LinkSeen) → 0 < calls → new.left ≡ old.left → new.answers ≡ old.answers → Stopped serves calls old new
 nothing_stopped serves calls old new some left sent = record {
   done = [];
   at_hand = None;

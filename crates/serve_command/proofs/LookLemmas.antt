@@ -5,9 +5,9 @@ use Rattle.std.proofs.lemmas.List.Elements.{Contains-append_left, Contains-appen
 use Rattle.quota_types.specs.declared.file_kind.Format.{Format}
 use Rattle.quota_value.specs.QuotaValue.{QuotaValue}
 use Rattle.outside.specs.World.{World}
-use Rattle.option_words.specs.declared.export.Export.{Export}
+use Rattle.option_words.specs.declared.export_option.ExportOption.{ExportOption}
 use Rattle.rquota_xdr.specs.declared.reply.Reply.{Reply}
-use Rattle.rquota_serve.specs.Exported.{Exported, nothing_exported, with_export}
+use Rattle.rquota_serve.specs.ExportedValues.{ExportedValues, nothing_exported, with_export}
 use Rattle.rquota_serve.specs.Serving.{datagram_reply}
 use Rattle.run_steps.specs.Done.{Outside}
 use Rattle.run_steps.specs.SameViews.{FileAsked, LooksAlike, Opens}
@@ -23,39 +23,39 @@ replying_alike : (one other : World) (reply : Option Reply) (next : Steps) → L
 replying_alike one other None next alike = alike
 replying_alike one other (Some reply) next alike = alike
 
-answering_alike : (one other : World) (exported : Exported) (calls : ℕ) → LooksAlike one other (AnsweringSteps exported calls)
+answering_alike : (one other : World) (exported : ExportedValues) (calls : ℕ) → LooksAlike one other (AnsweringSteps exported calls)
 answering_alike one other exported zero = tt
 answering_alike one other exported (suc calls) =
     λ datagram. replying_alike one other (datagram_reply exported datagram) (AnsweringSteps exported calls) (answering_alike one other exported calls)
 
-opening_all_alike : (one other : World) (format : Option Format) (exports : List Export) (before : Exported) (next : Exported → Steps) → ((exported : Exported) → LooksAlike one other (next exported))
+opening_all_alike : (one other : World) (format : Option Format) (exports : List ExportOption) (before : ExportedValues) (next : ExportedValues → Steps) → ((exported : ExportedValues) → LooksAlike one other (next exported))
     → LooksAlike one other (OpeningAll format exports before next)
 opening_all_alike one other format [] before next each = each before
 opening_all_alike one other format (export ∷ exports) before next each =
     λ value. opening_all_alike one other format exports (with_export before export.path export.kind value) next each
 
-pub serve_alike : (one other : World) (format : Option Format) (calls port : ℕ) (exports : List Export) (invocation : Invocation) → LooksAlike one other (ServeSteps format calls port exports invocation)
+pub serve_alike : (one other : World) (format : Option Format) (calls port : ℕ) (exports : List ExportOption) (invocation : Invocation) → LooksAlike one other (ServeSteps format calls port exports invocation)
 serve_alike one other format calls port exports invocation =
-    opening_all_alike one other format exports nothing_exported (λ (exported : Exported). Starting port (AnsweringSteps exported calls)) (λ exported. answering_alike one other exported calls)
+    opening_all_alike one other format exports nothing_exported (λ (exported : ExportedValues). Starting port (AnsweringSteps exported calls)) (λ exported. answering_alike one other exported calls)
 
 -- The files that it opens.
 
 -- the file of an export
-abbrev pub file_of : Option Format → Export → FileAsked
+abbrev pub file_of : Option Format → ExportOption → FileAsked
 file_of format export = record { kind = export.kind; asked = format; name = export.file }
 
 replying_opens : (holds : Type 0) (reply : Option Reply) (next : Steps) (old : Outside) (opened : FileAsked) → (Opens next old opened → holds) → Opens (Replying reply next) old opened → holds
 replying_opens holds None next old opened each opens = each opens
 replying_opens holds (Some reply) next old opened each opens = each opens
 
-answering_opens : (holds : Type 0) (exported : Exported) (calls : ℕ) (old : Outside) (opened : FileAsked) → Opens (AnsweringSteps exported calls) old opened → holds
+answering_opens : (holds : Type 0) (exported : ExportedValues) (calls : ℕ) (old : Outside) (opened : FileAsked) → Opens (AnsweringSteps exported calls) old opened → holds
 answering_opens holds exported zero old opened opens = absurd opens
 answering_opens holds exported (suc calls) old opened (datagram, left, is, opens) =
     replying_opens holds (datagram_reply exported datagram) (AnsweringSteps exported calls) (record old { datagrams = left }) opened
     (answering_opens holds exported calls (record old { datagrams = left }) opened) opens
 
-opening_all_opens : (format : Option Format) (exports : List Export) (before : Exported) (next : Exported → Steps) (old : Outside) (opened : FileAsked)
-    → ((exported : Exported) → Opens (next exported) old opened → Contains (map (file_of format) []) opened) → Opens (OpeningAll format exports before next) old opened → Contains (map (file_of format) exports) opened
+opening_all_opens : (format : Option Format) (exports : List ExportOption) (before : ExportedValues) (next : ExportedValues → Steps) (old : Outside) (opened : FileAsked)
+    → ((exported : ExportedValues) → Opens (next exported) old opened → Contains (map (file_of format) []) opened) → Opens (OpeningAll format exports before next) old opened → Contains (map (file_of format) exports) opened
 opening_all_opens format [] before next old opened each opens = each before opens
 opening_all_opens format (export ∷ exports) before next old opened each opens =
     let rest = map (file_of format) exports in
@@ -63,7 +63,7 @@ opening_all_opens format (export ∷ exports) before next old opened each opens 
     (λ is. subst (λ (f : FileAsked). Contains (file_of format export ∷ rest) f) (sym is) (Contains-append_left (file_of format export ∷ []) rest (file_of format export) (Contains-push [] (file_of format export))))
     (λ value opens. Contains-append_right (file_of format export ∷ []) rest opened (opening_all_opens format exports (with_export before export.path export.kind value) next old opened each opens)) opens
 
-pub serve_opens : (format : Option Format) (calls port : ℕ) (exports : List Export) (invocation : Invocation) (old : Outside) (opened : FileAsked) → Opens (ServeSteps format calls port exports invocation) old opened
+pub serve_opens : (format : Option Format) (calls port : ℕ) (exports : List ExportOption) (invocation : Invocation) (old : Outside) (opened : FileAsked) → Opens (ServeSteps format calls port exports invocation) old opened
     → Contains (map (file_of format) exports) opened
 serve_opens format calls port exports invocation old opened opens =
-    opening_all_opens format exports nothing_exported (λ (exported : Exported). Starting port (AnsweringSteps exported calls)) old opened (λ exported. answering_opens _ exported calls old opened) opens
+    opening_all_opens format exports nothing_exported (λ (exported : ExportedValues). Starting port (AnsweringSteps exported calls)) old opened (λ exported. answering_opens _ exported calls old opened) opens

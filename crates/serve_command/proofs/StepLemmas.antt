@@ -2,9 +2,9 @@
 use Rattle.std.proofs.Common.{Bool, ℕ, zero, suc, true, List, [], ◌∷◌, Option, None, Some, refl, subst}
 use Rattle.quota_types.specs.declared.file_kind.Format.{Format}
 use Rattle.quota_value.specs.QuotaValue.{QuotaValue}
-use Rattle.option_words.specs.declared.export.Export.{Export}
+use Rattle.option_words.specs.declared.export_option.ExportOption.{ExportOption}
 use Rattle.rquota_xdr.specs.declared.reply.Reply.{Reply}
-use Rattle.rquota_serve.specs.Exported.{Exported, with_export}
+use Rattle.rquota_serve.specs.ExportedValues.{ExportedValues, with_export}
 use Rattle.rquota_serve.specs.Serving.{datagram_reply}
 use Rattle.run_steps.specs.Done.{Outside}
 use Rattle.run_steps.specs.Meaning.{IsSure}
@@ -21,11 +21,11 @@ looks_replying : (takes : Bool) (reply : Option Reply) (next : Steps) → LooksF
 looks_replying takes None next looks = looks
 looks_replying takes (Some reply) next looks = looks
 
-pub looks_answering : (takes : Bool) (exported : Exported) (calls : ℕ) → LooksFirst true takes (AnsweringSteps exported calls)
+pub looks_answering : (takes : Bool) (exported : ExportedValues) (calls : ℕ) → LooksFirst true takes (AnsweringSteps exported calls)
 looks_answering takes exported zero = tt
 looks_answering takes exported (suc calls) = λ datagram. looks_replying takes (datagram_reply exported datagram) (AnsweringSteps exported calls) (looks_answering takes exported calls)
 
-pub looks_opening_all : (takes : Bool) (format : Option Format) (exports : List Export) (before : Exported) (next : Exported → Steps) → ((exported : Exported) → LooksFirst true takes (next exported))
+pub looks_opening_all : (takes : Bool) (format : Option Format) (exports : List ExportOption) (before : ExportedValues) (next : ExportedValues → Steps) → ((exported : ExportedValues) → LooksFirst true takes (next exported))
     → LooksFirst true takes (OpeningAll format exports before next)
 looks_opening_all takes format [] before next each = each before
 looks_opening_all takes format (export ∷ exports) before next each =
@@ -37,12 +37,12 @@ receives_replying : (count : ℕ) (reply : Option Reply) (next : Steps) → Rece
 receives_replying count None next receives = receives
 receives_replying count (Some reply) next receives = receives
 
-pub receives_answering : (exported : Exported) (calls : ℕ) → Receives calls (AnsweringSteps exported calls)
+pub receives_answering : (exported : ExportedValues) (calls : ℕ) → Receives calls (AnsweringSteps exported calls)
 receives_answering exported zero = refl
 receives_answering exported (suc calls) =
     (calls, refl, λ datagram. receives_replying calls (datagram_reply exported datagram) (AnsweringSteps exported calls) (receives_answering exported calls))
 
-pub receives_opening_all : (count : ℕ) (format : Option Format) (exports : List Export) (before : Exported) (next : Exported → Steps) → ((exported : Exported) → Receives count (next exported))
+pub receives_opening_all : (count : ℕ) (format : Option Format) (exports : List ExportOption) (before : ExportedValues) (next : ExportedValues → Steps) → ((exported : ExportedValues) → Receives count (next exported))
     → Receives count (OpeningAll format exports before next)
 receives_opening_all count format [] before next each = each before
 receives_opening_all count format (export ∷ exports) before next each =
@@ -54,14 +54,14 @@ sure_replying : (reply : Option Reply) (next : Steps) (old : Outside) → ((from
 sure_replying None next old sure = sure old
 sure_replying (Some reply) next old sure = λ middle follows. sure (record old { files = middle })
 
-pub sure_answering : (exported : Exported) (calls : ℕ) (old : Outside) → IsSure (AnsweringSteps exported calls) old
+pub sure_answering : (exported : ExportedValues) (calls : ℕ) (old : Outside) → IsSure (AnsweringSteps exported calls) old
 sure_answering exported zero old = refl
 sure_answering exported (suc calls) old =
     λ datagram left is. sure_replying (datagram_reply exported datagram) (AnsweringSteps exported calls) (record old { datagrams = left }) (sure_answering exported calls)
 
-pub sure_opening_all : (format : Option Format) (exports : List Export) (before exported : Exported) (next : Exported → Steps) (old : Outside) → AreExported format old.files exports before exported → IsSure (next exported) old
+pub sure_opening_all : (format : Option Format) (exports : List ExportOption) (before exported : ExportedValues) (next : ExportedValues → Steps) (old : Outside) → AreExported format old.files exports before exported → IsSure (next exported) old
     → IsSure (OpeningAll format exports before next) old
-sure_opening_all format [] before exported next old are sure = subst (λ (e : Exported). IsSure (next e) old) are sure
+sure_opening_all format [] before exported next old are sure = subst (λ (e : ExportedValues). IsSure (next e) old) are sure
 sure_opening_all format (export ∷ exports) before exported next old are sure =
     sure_opening export.kind format export.file (λ (value : QuotaValue). OpeningAll format exports (with_export before export.path export.kind value) next) are.0 old are.1
     (sure_opening_all format exports (with_export before export.path export.kind are.0) exported next old are.2 sure)

@@ -16,16 +16,16 @@ use Rattle.quota_types.specs.declared.file_kind.Kind.TheVariants.{User, Group}
 use Rattle.input_text.specs.Numeral.{number_of}
 use Rattle.opened_file.specs.FileSeen.{FileSeen}
 use Rattle.outside.proofs.WorldLemmas.{bytes_eq-true}
-use Rattle.rquota_serve.specs.Exported.{names_eq}
+use Rattle.rquota_serve.specs.ExportedValues.{names_eq}
 use Rattle.rquota_serve.specs.ExportSeen.{ExportSeen, is_exported as is_served, is_named}
 use Rattle.refusals.specs.declared.cause.UsageKind.TheVariants.{BadValue, BadFileName, Repeated}
-use Rattle.option_words.specs.declared.export.Export.{Export}
-use Rattle.option_words.specs.declared.fault.Fault.{Fault}
+use Rattle.option_words.specs.declared.export_option.ExportOption.{ExportOption}
+use Rattle.option_words.specs.declared.word_fault.Fault.{Fault}
 use Rattle.option_words.specs.declared.switch.Setting.{Setting}
 use Rattle.option_words.specs.declared.switch.Setting.TheVariants.{QuotaFormat, Names, Proto, Input, Device, Formats, Calls, Port}
 use Rattle.option_words.specs.Fault.{fault, unless, with_value}
 use Rattle.option_words.specs.FileName.{is_file_name}
-use Rattle.option_words.specs.Given.{Told, has, is_exported, kind_word, nothing_told, put, put_export, with_item, with_items}
+use Rattle.option_words.specs.Given.{GivenOptions, has, is_exported, kind_word, nothing_given, put, put_export, with_item, with_items}
 use Rattle.option_words.specs.Items.{Item, Raised, Set, Exported, Unknown, Unfinished, Plain}
 use Rattle.option_words.specs.Values.{conversion_of, format_of, is_export_path, kind_of, number_within, within}
 use Rattle.command_words.specs.Asked.{command_of}
@@ -48,10 +48,10 @@ few-now : (count : ℕ) → count < 16 → nat_lt count 16 ≡ true
 few-now count less = grind (arith, nat_tests)
 
 -- one of these exports has this path and kind
-abbrev named_so : (path : List ℕ) → Kind → List Export → Bool
-named_so path kind list = list_any (λ (e : Export). names_eq e.path e.kind path kind) list
+abbrev named_so : (path : List ℕ) → Kind → List ExportOption → Bool
+named_so path kind list = list_any (λ (e : ExportOption). names_eq e.path e.kind path kind) list
 
-may_behind : (before : List ExportSeen) (list : List Export) (export : Export) → MayExport before list → length before + length list < 16 → is_served before export.path export.kind ≡ false
+may_behind : (before : List ExportSeen) (list : List ExportOption) (export : ExportOption) → MayExport before list → length before + length list < 16 → is_served before export.path export.kind ≡ false
     → named_so export.path export.kind list ≡ false → MayExport before (list ++ export ∷ [])
 may_behind before [] export may few free others = (may-now _ _ (few-now (length before) (omega (arith, few))) free, λ file. tt)
 may_behind before (first ∷ list) export may few free others = (
@@ -93,7 +93,7 @@ kinds_by one kind = by (bytes_eq (kind_word one) (kind_word kind)) (kinds_eq one
     by false true other same =
         sym other ∙ (bytes_eq-Decides (kind_word one) (kind_word kind)).1 (ap kind_word (kinds_eq-true one kind same))
 
-same_named : (path word : List ℕ) (kind : Kind) (list : List Export) → kind_word kind ≡ word → is_exported path word list ≡ named_so path kind list
+same_named : (path word : List ℕ) (kind : Kind) (list : List ExportOption) → kind_word kind ≡ word → is_exported path word list ≡ named_so path kind list
 same_named path word kind [] is = refl
 same_named path word kind (export ∷ list) is =
     ap (λ (b : Bool). (bytes_eq export.path path && b) || is_exported path word list) (ap (bytes_eq (kind_word export.kind)) (sym is) ∙ kinds_by export.kind kind)
@@ -109,14 +109,14 @@ least_of low high None found is = absurd (cc)
 least_of low high (Some number) found is = least low high number found is
 
 -- one call is asked for at least, where their number is given, and what is exported may be
-record IsGiven (told : Told) : Type 0 where
+record IsGiven (told : GivenOptions) : Type 0 where
   calls : IfSome told.calls (λ (n : ℕ). 0 < n)
   exports : MayExport [] told.exports
 
-given_as : (this told : Told) → ◌≡◌ {A = Result Told Fault} (Ok this) (Ok told) → IsGiven this → IsGiven told
+given_as : (this told : GivenOptions) → ◌≡◌ {A = Result GivenOptions Fault} (Ok this) (Ok told) → IsGiven this → IsGiven told
 given_as this told is given = let same : this ≡ told = cc in subst IsGiven same given
 
-given_put : (setting : Setting) (value : List ℕ) (word : ℕ) (told new : Told) → put setting value word told ≡ Ok new → IsGiven told → IsGiven new
+given_put : (setting : Setting) (value : List ℕ) (word : ℕ) (told new : GivenOptions) → put setting value word told ≡ Ok new → IsGiven told → IsGiven new
 given_put QuotaFormat value word told new is given =
     given_as _ new (with_value_ok (format_of value) (fault BadValue word) (λ f. Ok (record told { format = Some f })) new is).2 (record { calls = given.calls; exports = given.exports })
 given_put Names value word told new is given =
@@ -137,11 +137,11 @@ given_put Port value word told new is given =
 few-before : (count : ℕ) → nat_le 16 count ≡ false → count < 16
 few-before count less = grind (arith, nat_tests)
 
-given_export : (path kind file : List ℕ) (word : ℕ) (told new : Told) → is_exported path kind told.exports ≡ false → put_export path kind file word told ≡ Ok new → IsGiven told → IsGiven new
+given_export : (path kind file : List ℕ) (word : ℕ) (told new : GivenOptions) → is_exported path kind told.exports ≡ false → put_export path kind file word told ≡ Ok new → IsGiven told → IsGiven new
 given_export path kind file word told new free is given =
-    let last : Kind → Result Told Fault = λ k. Ok (record told { exports = told.exports ++ record { path = path; kind = k; file = file } ∷ [] }) in
-    let named : Kind → Result Told Fault = λ k. unless (not (is_file_name file)) (fault BadFileName word) (last k) in
-    let counted : Kind → Result Told Fault = λ k. unless (nat_le 16 (length told.exports)) (fault BadValue word) (named k) in
+    let last : Kind → Result GivenOptions Fault = λ k. Ok (record told { exports = told.exports ++ record { path = path; kind = k; file = file } ∷ [] }) in
+    let named : Kind → Result GivenOptions Fault = λ k. unless (not (is_file_name file)) (fault BadFileName word) (last k) in
+    let counted : Kind → Result GivenOptions Fault = λ k. unless (nat_le 16 (length told.exports)) (fault BadValue word) (named k) in
     let outer = unless_ok (not (is_export_path path)) (fault BadValue word) (with_value (kind_of kind) (fault BadValue word) counted) new is in
     let found = with_value_ok (kind_of kind) (fault BadValue word) counted new outer.1 in
     let few = unless_ok (nat_le 16 (length told.exports)) (fault BadValue word) (named found.0) new found.2 in
@@ -152,7 +152,7 @@ given_export path kind file word told new free is given =
           (sym (same_named path kind found.0 told.exports (kind_words kind found.0 found.1)) ∙ free);
     })
 
-given_item : (item : Item) (told new : Told) → with_item item told ≡ Ok new → IsGiven told → IsGiven new
+given_item : (item : Item) (told new : GivenOptions) → with_item item told ≡ Ok new → IsGiven told → IsGiven new
 given_item (Raised flag) told new is given = given_as _ new is (record { calls = given.calls; exports = given.exports })
 given_item (Set setting value word) told new is given =
     given_put setting value word told new (unless_ok (has setting told) (fault Repeated word) (put setting value word told) new is).1 given
@@ -163,16 +163,16 @@ given_item (Unknown word) told new is given = absurd (cc)
 given_item (Unfinished word) told new is given = absurd (cc)
 given_item (Plain text word) told new is given = given_as told new is given
 
-given_items : (items : List Item) (told new : Told) → with_items items told ≡ Ok new → IsGiven told → IsGiven new
+given_items : (items : List Item) (told new : GivenOptions) → with_items items told ≡ Ok new → IsGiven told → IsGiven new
 given_items [] told new is given = given_as told new is given
 given_items (item ∷ items) told new is given =
-    let one = then_ok (with_item item told) (λ (more : Told). with_items items more) new is in
+    let one = then_ok (with_item item told) (λ (more : GivenOptions). with_items items more) new is in
     given_items items one.0 new one.2 (given_item item told one.0 one.1 given)
 
 -- What is asked for.
 
 -- what a mode forms may be served, where it answers calls
-serves_by : (mode : Mode) (told : Told) → IsGiven told → HoldsOfFormed CanServe mode told
+serves_by : (mode : Mode) (told : GivenOptions) → IsGiven told → HoldsOfFormed CanServe mode told
 serves_by Reporting told given = λ file. tt
 serves_by Limiting told given = λ name limits file. tt
 serves_by Copying told given = λ proto name file. tt
@@ -190,4 +190,4 @@ serves_by Generating told given = λ seed count file few. tt
 -- words that ask for calls to be answered ask for one at least, and for files that may be exported
 pub asked_serves : (in_script : Bool) (words : List (List ℕ)) (command : Command) → command_of in_script words ≡ Ok command → CanServe command
 asked_serves in_script words command = holds_of_asked in_script CanServe words command
-    (λ tool items told given whole. serves_by (mode_of tool told) told (given_items items nothing_told told given (record { calls = tt; exports = tt })))
+    (λ tool items told given whole. serves_by (mode_of tool told) told (given_items items nothing_given told given (record { calls = tt; exports = tt })))

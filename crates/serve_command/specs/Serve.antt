@@ -7,9 +7,9 @@ use Rattle.outside.specs.World.{World}
 use Rattle.rquota_xdr.specs.Reply.{spelling_of}
 use Rattle.rquota_xdr.specs.declared.reply.Reply.{Reply}
 use Rattle.rquota_serve.specs.Adding.{reads_of}
-use Rattle.rquota_serve.specs.Exported.{Exported, nothing_exported}
+use Rattle.rquota_serve.specs.ExportedValues.{ExportedValues, nothing_exported}
 use Rattle.rquota_serve.specs.Serving.{datagram_reply}
-use Rattle.option_words.specs.declared.export.Export.{Export}
+use Rattle.option_words.specs.declared.export_option.ExportOption.{ExportOption}
 use Rattle.refusals.specs.declared.cause.Cause.{Cause}
 use Rattle.run_steps.specs.Act.{Answer}
 use Rattle.run_steps.specs.Steps.{Doing, Finish, Receiving, Starting, Steps}
@@ -24,28 +24,28 @@ Replying None next = next
 Replying (Some reply) next = Doing (Answer (spelling_of reply)) next
 
 -- this many datagrams are received, and the reply to each is sent, at the datagram's own moment
-abbrev pub AnsweringSteps : Exported → (calls : ℕ) → Steps
+abbrev pub AnsweringSteps : ExportedValues → (calls : ℕ) → Steps
 AnsweringSteps exported zero = Finish
 AnsweringSteps exported (suc calls) =
     Receiving (λ (datagram : Datagram).
     Replying (datagram_reply exported datagram) (AnsweringSteps exported calls))
 
 -- the files are exported, then the link is started at the port, once, and then this many datagrams are answered
-abbrev pub ServeSteps : Option Format → (calls port : ℕ) → List Export → Invocation → Steps
+abbrev pub ServeSteps : Option Format → (calls port : ℕ) → List ExportOption → Invocation → Steps
 ServeSteps format calls port exports invocation =
-    OpeningAll format exports nothing_exported (λ (exported : Exported). Starting port (AnsweringSteps exported calls))
+    OpeningAll format exports nothing_exported (λ (exported : ExportedValues). Starting port (AnsweringSteps exported calls))
 
 -- What is exported.
 
 -- How many calls of `read` it takes at most to answer `calls` datagrams out of these files: those of opening each, and five for each
 -- datagram.
-abbrev pub serving_reads : Option Format → (calls : ℕ) → List Export → World → ℕ
+abbrev pub serving_reads : Option Format → (calls : ℕ) → List ExportOption → World → ℕ
 serving_reads format calls exports files = reads_of format files (news_of exports) + 5 * calls
 
 -- What is said.
 
 -- The causes for which `rquotad` may be refused, whatever is told, with the name that is said. What was not seen when the files were
 -- opened is said of the first one.
-abbrev pub ServeMayRefuse : Option Format → List Export → Cause → List ℕ → Type 0
+abbrev pub ServeMayRefuse : Option Format → List ExportOption → Cause → List ℕ → Type 0
 ServeMayRefuse format exports cause name =
     ExportingMayRefuse format exports cause name ⊎ AnsweringMayRefuse format (first_file exports) cause name

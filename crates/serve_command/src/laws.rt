@@ -1,9 +1,9 @@
 //! Laws of the steps of the command.
 
 ghost use Rattle.std.specs.Prelude.{Bool, List, Ok, Option, ℕ, true, false};
-ghost use Rattle.option_words.specs.declared.export.Export.{Export};
+ghost use Rattle.option_words.specs.declared.export_option.ExportOption.{ExportOption};
 ghost use Rattle.quota_types.specs.declared.file_kind.Format.{Format};
-ghost use Rattle.rquota_serve.specs.Exported.{Exported, nothing_exported};
+ghost use Rattle.rquota_serve.specs.ExportedValues.{ExportedValues, nothing_exported};
 ghost use Rattle.run_steps.specs.Act.{Act};
 ghost use Rattle.run_steps.specs.Done.{Outside};
 ghost use Rattle.run_steps.specs.Meaning.{EndsBy, IsSure};
@@ -19,21 +19,21 @@ ghost use Rattle.serve_steps.specs.Exporting.{AreExported};
 
 /// The steps look at files first, and take nothing of the standard input.
 pub fn serving_looks_first()
-    ensures { (format : Option Format) (calls port : ℕ) (exports : List Export) (invocation : Invocation)
+    ensures { (format : Option Format) (calls port : ℕ) (exports : List ExportOption) (invocation : Invocation)
         → LooksFirst true false (ServeSteps format calls port exports invocation) }
 {}
 
 /// Where the steps pass, they received as many datagrams as they were to answer, the first ones.
 pub fn serving_receives_its_calls()
-    ensures receives { (format : Option Format) (calls port : ℕ) (exports : List Export) (invocation : Invocation)
+    ensures receives { (format : Option Format) (calls port : ℕ) (exports : List ExportOption) (invocation : Invocation)
         → Receives calls (ServeSteps format calls port exports invocation) }
-    ensures received { (format : Option Format) (calls port : ℕ) (exports : List Export) (invocation : Invocation) (old new : Outside) (acts : List Act)
+    ensures received { (format : Option Format) (calls port : ℕ) (exports : List ExportOption) (invocation : Invocation) (old new : Outside) (acts : List Act)
         → EndsBy (ServeSteps format calls port exports invocation) old acts new None → AreReceived calls old.datagrams new.datagrams }
 {}
 
 /// The steps are sure where each file is seen as a value: no datagram is refused.
 pub fn serving_is_sure_where_the_files_are_accepted()
-    ensures { (format : Option Format) (calls port : ℕ) (exports : List Export) (invocation : Invocation) (old : Outside) (exported : Exported)
+    ensures { (format : Option Format) (calls port : ℕ) (exports : List ExportOption) (invocation : Invocation) (old : Outside) (exported : ExportedValues)
         → AreExported format old.files exports nothing_exported exported → IsSure (ServeSteps format calls port exports invocation) old }
 {}
 

@@ -9,14 +9,14 @@ ghost use Rattle.run_steps.specs.Received.{AreReceived};
 ghost use Rattle.run_steps.specs.Carrying.{CarriesOut};
 ghost use Rattle.run_steps.specs.Steps.{Starting};
 ghost use Rattle.run_steps.specs.declared.invocation.Invocation.{Invocation};
-ghost use Rattle.rquota_serve.specs.Exported.{Exported, nothing_exported};
+ghost use Rattle.rquota_serve.specs.ExportedValues.{ExportedValues, nothing_exported};
 ghost use Rattle.rquota_serve.specs.Exports.{Serves, exports_seen};
 ghost use Rattle.rquota_serve.specs.Serving.{Stopped};
 ghost use Rattle.serve_command.specs.Serve.{AnsweringSteps, ServeMayRefuse, ServeSteps, serving_reads};
 ghost use Rattle.serve_steps.specs.Exporting.{AnsweringMayRefuse, AreExported, MayExport, serve_uses};
 ghost use Rattle.serve_steps.specs.ServeCauses.{IsAsAsked};
 
-use option_words::ExportList;
+use option_words::ExportOptions;
 use outside::{Link, Store};
 use quota_types::Format;
 use refusals::{Cause, Refusal, Word};
@@ -35,7 +35,7 @@ pub fn serve_files<S: Store, L: Link>(
     format: Option<Format>,
     calls: u32,
     port: u16,
-    exports: ExportList,
+    exports: ExportOptions,
     store: &mut S,
     link: &mut L,
 ) -> Result<(), Refusal>
@@ -82,7 +82,7 @@ fn answer_calls<S: Store, L: Link>(
 ) -> Result<(), Refusal>
     requires some { 0 < calls }
     requires asked { All (IsAsAsked format) (exports_seen opened.old) }
-    ensures carries { (exported : Exported) (input : SourceSeen) (out err : SinkSeen) (input_tells out_tells err_tells : Bool)
+    ensures carries { (exported : ExportedValues) (input : SourceSeen) (out err : SinkSeen) (input_tells out_tells err_tells : Bool)
         → (IsTrue S.tells → Serves S.tells (S.seen store.old).files opened.old exported)
         → CarriesOut (Starting port (AnsweringSteps exported calls)) serve_uses (AnsweringMayRefuse format file)
         (tells_of S.tells input_tells out_tells err_tells L.tells)

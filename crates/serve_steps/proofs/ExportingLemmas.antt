@@ -15,13 +15,13 @@ use Rattle.outside.specs.Seen.{LinkSeen, SinkSeen, SourceSeen, StoreSeen}
 use Rattle.outside.specs.World.{World}
 use Rattle.opened_file.specs.declared.quota_file.OpenFault.{OpenFault}
 use Rattle.quota_map.specs.View.{IsOpenFault, IsView}
-use Rattle.option_words.specs.declared.export.Export.{Export}
+use Rattle.option_words.specs.declared.export_option.ExportOption.{ExportOption}
 use Rattle.rquota_serve.specs.Adding.{NewSeen}
 use Rattle.rquota_serve.specs.Added.{IsRefusedAt, ReadsEach, new_seen, news_seen}
 use Rattle.rquota_serve.specs.declared.new_export.NewExport.{NewExport}
-use Rattle.rquota_serve.specs.Exported.{Exported, nothing_exported, with_export}
+use Rattle.rquota_serve.specs.ExportedValues.{ExportedValues, nothing_exported, with_export}
 use Rattle.rquota_serve.specs.Exports.{IsServed, Serves, kept_in}
-use Rattle.rquota_serve.specs.declared.export.Export.{Export as OpenedExport}
+use Rattle.rquota_serve.specs.declared.export.Export.{Export}
 use Rattle.rquota_serve.specs.declared.exports.Exports.{Exports}
 use Rattle.refusals.specs.Refusals.{refusal_of}
 use Rattle.refusals.specs.declared.cause.Cause.{Cause}
@@ -40,16 +40,16 @@ use Rattle.serve_steps.specs.Exporting.{AnsweringMayRefuse, AreExported, Exporti
 use Rattle.run_steps.proofs.PartLemmas.{part_but_output}
 
 -- the steps behind the first file, by its value
-abbrev pub behind_first : Option Format → Export → List Export → Exported → (Exported → Steps) → QuotaValue → Steps
+abbrev pub behind_first : Option Format → ExportOption → List ExportOption → ExportedValues → (ExportedValues → Steps) → QuotaValue → Steps
 behind_first format export behind before next value = OpeningAll format behind (with_export before export.path export.kind value) next
 
 -- one more file that words name, as it is seen by whoever exports it
-pub named_more : (list : List Export) (at : ℕ) (export : Export) (news pushed : List NewExport) (new : NewExport) → at < length list → export ≡ get_or list at export
+pub named_more : (list : List ExportOption) (at : ℕ) (export : ExportOption) (news pushed : List NewExport) (new : NewExport) → at < length list → export ≡ get_or list at export
     → news_seen news ≡ news_of (take at list) → pushed ≡ news ++ new ∷ []
     → new.path.now ≡ export.path → new.kind ≡ export.kind → new.file.now ≡ export.file → news_seen pushed ≡ news_of (take (at + 1) list)
 named_more list at export news pushed new low is named push path kind file =
     let seen : new_seen new ≡ new_of export = λ i. record { path = path i; kind = kind i; file = file i } in
-    let taken : take (at + 1) list ≡ take at list ++ export ∷ [] = (take_at_read list at export low).1 ∙ ap (λ (e : Export). take at list ++ e ∷ []) (sym is) in
+    let taken : take (at + 1) list ≡ take at list ++ export ∷ [] = (take_at_read list at export low).1 ∙ ap (λ (e : ExportOption). take at list ++ e ∷ []) (sym is) in
     ap news_seen push
     ∙ map-append new_seen news (new ∷ [])
     ∙ ap (λ (l : List NewSeen). l ++ new_seen new ∷ []) named
@@ -57,12 +57,12 @@ named_more list at export news pushed new low is named push path kind file =
     ∙ sym (ap news_of taken ∙ map-append new_of (take at list) (export ∷ []))
 
 -- Files were exported: what is exported then, which the opened files serve, and what is carried out of it is carried out of all steps.
-abbrev pub IsOpened : Option Format → List Export → (tells : Bool) → (old new : StoreSeen) → (serves : Exported → Type 0) → Exported → Type 0
+abbrev pub IsOpened : Option Format → List ExportOption → (tells : Bool) → (old new : StoreSeen) → (serves : ExportedValues → Type 0) → ExportedValues → Type 0
 IsOpened format list tells old new serves before =
-    (exported : Exported)
+    (exported : ExportedValues)
     × (IsTrue tells → AreExported format old.files list before exported)
     × (IsTrue tells → serves exported)
-    × ((next : Exported → Steps) (file : List ℕ) (input : SourceSeen) (out err : SinkSeen) (link : LinkSeen)
+    × ((next : ExportedValues → Steps) (file : List ℕ) (input : SourceSeen) (out err : SinkSeen) (link : LinkSeen)
     (input_tells out_tells err_tells link_tells : Bool) (to : RunSeen) (ended : Result (Unit {0}) Refusal)
     → CarriesOut (next exported) serve_uses (AnsweringMayRefuse format file) (tells_of tells input_tells out_tells err_tells link_tells)
     (seen_of new input out err link) to ended
@@ -79,7 +79,7 @@ some_value true sees seen = let one = seen refl in (one.0, λ told. one.1)
 some_value false sees seen = (nothing_value, λ told. absurd (false≢true told))
 
 -- all files were exported: what is carried out of all that is exported is carried out of all steps
-pub opened_all : (format : Option Format) (list : List Export) (tells : Bool) (old new : StoreSeen) (before exported : Exported) (next : Exported → Steps) (file : List ℕ)
+pub opened_all : (format : Option Format) (list : List ExportOption) (tells : Bool) (old new : StoreSeen) (before exported : ExportedValues) (next : ExportedValues → Steps) (file : List ℕ)
     (input : SourceSeen) (out err : SinkSeen) (link : LinkSeen) (input_tells out_tells err_tells link_tells : Bool) (to : RunSeen) (ended : Result (Unit {0}) Refusal)
     → ReadsEach (news_of list) old new → (IsTrue tells → AreExported format old.files list before exported)
     → CarriesOut (next exported) serve_uses (AnsweringMayRefuse format file) (tells_of tells input_tells out_tells err_tells link_tells) (seen_of new input out err link) to ended
@@ -103,8 +103,8 @@ opened_all format (export ∷ list) tells old new before exported next file inpu
     (λ told. subst (λ (w : World). AreExported format w list middle exported) (sym reads.1.files) (some.1 told).1) carries)
 
 -- Files were exported: what is exported then, which the opened files serve, and what is carried out of it is carried out of all steps.
-pub opened_now : (format : Option Format) (list : List Export) (tells : Bool) (old new : StoreSeen) (serves : Exported → Type 0) (before : Exported) → ReadsEach (news_of list) old new
-    → (IsTrue tells → (exported : Exported) × AreExported format old.files list before exported × serves exported) → IsOpened format list tells old new serves before
+pub opened_now : (format : Option Format) (list : List ExportOption) (tells : Bool) (old new : StoreSeen) (serves : ExportedValues → Type 0) (before : ExportedValues) → ReadsEach (news_of list) old new
+    → (IsTrue tells → (exported : ExportedValues) × AreExported format old.files list before exported × serves exported) → IsOpened format list tells old new serves before
 opened_now format list true old new serves before reads is =
     let some = is refl in (
       some.0,
@@ -143,7 +143,7 @@ refused_carried steps may tells old new stated said (inr is) allowed carries =
     subst (λ (r : Refusal). CarriesOut steps serve_uses may tells old new (Err r)) (sym is) (unnamed steps may tells old new stated allowed carries)
 
 -- the first file was not exported
-pub unopened_first : {done : Bool} (format : Option Format) (export : Export) (behind list : List Export) (old store : StoreSeen) (before : Exported) (next : Exported → Steps)
+pub unopened_first : {done : Bool} (format : Option Format) (export : ExportOption) (behind list : List ExportOption) (old store : StoreSeen) (before : ExportedValues) (next : ExportedValues → Steps)
     (input : SourceSeen) (out err : SinkSeen) (link : LinkSeen) (tells input_tells out_tells err_tells link_tells : Bool) (fault : OpenFault) (said : Refusal)
     → list ≡ export ∷ behind → IsOpenFault old.faults store.faults tells (old.files export.file) export.kind format fault → OnlyReads done export.file old store
     → (said ≡ refusal_of (opening_cause fault) export.file) ⊎ (said ≡ refusal_of Memory [])
@@ -152,12 +152,12 @@ unopened_first format export behind list old store before next input out err lin
     let told = tells_of tells input_tells out_tells err_tells link_tells in
     let from = seen_of old input out err link in
     let to = seen_of store input out err link in
-    subst (λ (l : List Export). CarriesOut (OpeningAll format l before next) serve_uses (ExportingMayRefuse format l) told from to (Err said)) (sym is)
+    subst (λ (l : List ExportOption). CarriesOut (OpeningAll format l before next) serve_uses (ExportingMayRefuse format l) told from to (Err said)) (sym is)
     (refused_carried (OpeningAll format (export ∷ behind) before next) (ExportingMayRefuse format (export ∷ behind)) told from to (refusal_of (opening_cause fault) export.file) said says (inl tt)
     (not_opened export.kind format export.file (behind_first format export behind before next) serve_uses (ExportingMayRefuse format (export ∷ behind)) told from store fault cause reads (λ cause may. inl may)))
 
 -- the file at a place was not exported, and those before it were
-pub unopened_all : (format : Option Format) (list : List Export) (place : ℕ) (export : Export) (tells : Bool) (old new : StoreSeen) (before : Exported) (next : Exported → Steps)
+pub unopened_all : (format : Option Format) (list : List ExportOption) (place : ℕ) (export : ExportOption) (tells : Bool) (old new : StoreSeen) (before : ExportedValues) (next : ExportedValues → Steps)
     (input : SourceSeen) (out err : SinkSeen) (link : LinkSeen) (input_tells out_tells err_tells link_tells : Bool) (fault : OpenFault) (said : Refusal)
     → IsRefusedAt tells format place (news_of list) fault old new → (IsTrue tells → AllSeen format old.files (take place (news_of list)))
     → export ≡ get_or list place export → (said ≡ refusal_of (opening_cause fault) export.file) ⊎ (said ≡ refusal_of Memory [])
@@ -165,7 +165,7 @@ pub unopened_all : (format : Option Format) (list : List Export) (place : ℕ) (
 unopened_all format [] place export tells old new before next input out err link input_tells out_tells err_tells link_tells fault said refused seen at says = absurd refused
 unopened_all format (first ∷ list) zero export tells old new before next input out err link input_tells out_tells err_tells link_tells fault said refused seen at says =
     unopened_first format first list (first ∷ list) old new before next input out err link tells input_tells out_tells err_tells link_tells fault said refl refused.1 refused.0
-    (subst (λ (e : Export). (said ≡ refusal_of (opening_cause fault) e.file) ⊎ (said ≡ refusal_of Memory [])) at says)
+    (subst (λ (e : ExportOption). (said ≡ refusal_of (opening_cause fault) e.file) ⊎ (said ≡ refusal_of Memory [])) at says)
 unopened_all format (first ∷ list) (suc place) export tells old new before next input out err link input_tells out_tells err_tells link_tells fault said refused seen at says =
     carries_opening first.file first.kind format (behind_first format first list before next) serve_uses (ExportingMayRefuse format list) (ExportingMayRefuse format (first ∷ list))
     (tells_of tells input_tells out_tells err_tells link_tells) (seen_of old input out err link) refused.0 (seen_of new input out err link) (Err said)
@@ -176,12 +176,12 @@ unopened_all format (first ∷ list) (suc place) export tells old new before nex
 -- where nothing is kept nothing is exported
 pub serves_nothing : (tells : Bool) (files : World) (exports : Exports) → kept_in exports ≡ [] → Serves tells files exports nothing_exported
 serves_nothing tells files exports none = record {
-  each = subst (λ (l : List OpenedExport). All (IsServed tells files nothing_exported) l) (sym none) (All-nil (IsServed tells files nothing_exported));
+  each = subst (λ (l : List Export). All (IsServed tells files nothing_exported) l) (sym none) (All-nil (IsServed tells files nothing_exported));
   others = λ path kind no. refl;
 }
 
 -- files are exported as one thing at most
-pub exported_once : (format : Option Format) (files : World) (list : List Export) (before one other : Exported) → AreExported format files list before one → AreExported format files list before other → one ≡ other
+pub exported_once : (format : Option Format) (files : World) (list : List ExportOption) (before one other : ExportedValues) → AreExported format files list before one → AreExported format files list before other → one ≡ other
 exported_once format files [] before one other is also = is ∙ sym also
 exported_once format files (export ∷ list) before one other is also =
     exported_once format files list (with_export before export.path export.kind is.0) one other is.2

@@ -6,9 +6,9 @@ use Rattle.quota_value.specs.QuotaValue.{QuotaValue}
 use Rattle.outside.specs.World.{World}
 use Rattle.quota_map.specs.View.{IsDamageAs}
 use Rattle.rquota_serve.specs.Adding.{AreToldOf, MayAddAll, NewSeen}
-use Rattle.rquota_serve.specs.Exported.{Exported, with_export}
+use Rattle.rquota_serve.specs.ExportedValues.{ExportedValues, with_export}
 use Rattle.rquota_serve.specs.ExportSeen.{ExportSeen}
-use Rattle.option_words.specs.declared.export.Export.{Export}
+use Rattle.option_words.specs.declared.export_option.ExportOption.{ExportOption}
 use Rattle.refusals.specs.declared.cause.Cause.{Cause}
 use Rattle.refusals.specs.declared.cause.Cause.TheVariants.{StoreFault, LinkFault, Memory, Damaged}
 use Rattle.run_steps.specs.Opening.{MayRefuseOpening}
@@ -19,7 +19,7 @@ use Rattle.run_steps.specs.Steps.{Opening, Steps}
 
 -- quota files are opened in order, each value is exported under its path for its kind, and then comes what the next steps say of all
 -- that is exported
-abbrev pub OpeningAll : Option Format → List Export → Exported → (Exported → Steps) → Steps
+abbrev pub OpeningAll : Option Format → List ExportOption → ExportedValues → (ExportedValues → Steps) → Steps
 OpeningAll format [] exported next = next exported
 OpeningAll format (export ∷ exports) exported next =
     Opening export.kind format export.file (λ (value : QuotaValue).
@@ -32,31 +32,31 @@ serve_uses = record { input = false; out = false; link = true; changes = false; 
 -- What is exported.
 
 -- a file that words name, as it is seen by whoever exports it
-abbrev pub new_of : Export → NewSeen
+abbrev pub new_of : ExportOption → NewSeen
 new_of export = record { path = export.path; kind = export.kind; file = export.file }
 
 -- all of them
-abbrev pub news_of : List Export → List NewSeen
+abbrev pub news_of : List ExportOption → List NewSeen
 news_of exports = map new_of exports
 
 -- These files are exported beside what is exported before: each is seen as a value, which is exported under its path for its kind.
-abbrev pub AreExported : Option Format → World → List Export → (before exported : Exported) → Type 0
+abbrev pub AreExported : Option Format → World → List ExportOption → (before exported : ExportedValues) → Type 0
 AreExported format files exports before exported = AreToldOf format files (news_of exports) before exported
 
 -- These files may be exported one after another behind those that are exported before: there are 16 at most, and no two have the same
 -- path and kind.
-abbrev pub MayExport : (before : List ExportSeen) → List Export → Type 0
+abbrev pub MayExport : (before : List ExportSeen) → List ExportOption → Type 0
 MayExport before exports = MayAddAll before (news_of exports)
 
 -- What is said.
 
 -- the name of the first file
-abbrev pub first_file : List Export → List ℕ
+abbrev pub first_file : List ExportOption → List ℕ
 first_file [] = []
 first_file (export ∷ exports) = export.file
 
 -- the causes for which one of the files may not be exported, whatever is told, with the name that is said
-abbrev pub ExportingMayRefuse : Option Format → List Export → Cause → List ℕ → Type 0
+abbrev pub ExportingMayRefuse : Option Format → List ExportOption → Cause → List ℕ → Type 0
 ExportingMayRefuse format [] cause name = ⊥
 ExportingMayRefuse format (export ∷ exports) cause name =
     MayRefuseOpening format export.file cause name ⊎ ExportingMayRefuse format exports cause name

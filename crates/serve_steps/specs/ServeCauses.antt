@@ -3,8 +3,8 @@ use Rattle.std.specs.Prelude.{Option}
 use Rattle.quota_types.specs.declared.file_kind.Format.{Format}
 use Rattle.quota_map.specs.View.{IsOpenedAs}
 use Rattle.rquota_serve.specs.ExportSeen.{ExportSeen}
-use Rattle.rquota_serve.specs.declared.fault.ServeFault.{ServeFault}
-use Rattle.rquota_serve.specs.declared.fault.ServeFault.TheVariants.{Link as LinkFailed, File as FileFailed}
+use Rattle.rquota_serve.specs.declared.serve_fault.ServeFault.{ServeFault}
+use Rattle.rquota_serve.specs.declared.serve_fault.ServeFault.TheVariants.{Link as LinkFailed, File as FileFailed}
 use Rattle.refusals.specs.declared.cause.Cause.{Cause}
 use Rattle.refusals.specs.declared.cause.Cause.TheVariants.{LinkFault}
 use Rattle.run_steps.specs.Opening.{file_cause}

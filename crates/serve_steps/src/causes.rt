@@ -4,7 +4,7 @@ ghost use Rattle.refusals.specs.declared.cause.Cause.TheVariants.{Memory};
 ghost use Rattle.serve_steps.specs.Exporting.{first_file};
 ghost use Rattle.serve_steps.specs.ServeCauses.{serve_cause};
 
-use option_words::Export;
+use option_words::ExportOption;
 use refusals::{Cause, Refusal, Word};
 use rquota_serve::ServeFault;
 use run_steps::file_cause;
@@ -15,7 +15,7 @@ use std::alloc::Global;
 /// # Errors
 ///
 /// There is not enough memory.
-pub fn first_file(alloc: Global, exports: &[Export]) -> Result<Word, Refusal>
+pub fn first_file(alloc: Global, exports: &[ExportOption]) -> Result<Word, Refusal>
     ensures copied { IfOk result (λ file. file ≡ first_file exports.now) }
     ensures wanting { IfErr result (λ refusal. refusal ≡ refusal_of Memory []) }
 {

@@ -10,13 +10,13 @@ ghost use Rattle.run_steps.specs.Carrying.{CarriesOut};
 ghost use Rattle.run_steps.specs.Steps.{Steps};
 ghost use Rattle.rquota_serve.specs.Adding.{reads_of};
 ghost use Rattle.rquota_serve.specs.Added.{news_seen};
-ghost use Rattle.rquota_serve.specs.Exported.{Exported};
+ghost use Rattle.rquota_serve.specs.ExportedValues.{ExportedValues};
 ghost use Rattle.rquota_serve.specs.Exports.{Serves, exports_seen};
 ghost use Rattle.serve_steps.specs.Exporting.{AnsweringMayRefuse, AreExported, ExportingMayRefuse, MayExport, OpeningAll, news_of, serve_uses};
 ghost use Rattle.serve_steps.specs.ServeCauses.{IsAsAsked};
 
 use arrayvec::ArrayVec;
-use option_words::Export;
+use option_words::ExportOption;
 use outside::Store;
 use quota_types::Format;
 use refusals::{Cause, Refusal, Word};
@@ -32,24 +32,24 @@ use std::alloc::Global;
 pub fn add_all<S: Store>(
     alloc: Global,
     format: Option<Format>,
-    list: &[Export],
+    list: &[ExportOption],
     exports: &mut Exports,
     store: &mut S,
 ) -> Result<(), Refusal>
     requires may { MayExport (exports_seen exports.old) list.now }
     requires asked { All (IsAsAsked format) (exports_seen exports.old) }
     // What is exported then is what the files are seen as, and whatever is carried out of it is carried out of them.
-    ensures opened { OnOk result ((before : Exported) → (IsTrue S.tells → Serves S.tells (S.seen store.old).files exports.old before)
-        → (exported : Exported)
+    ensures opened { OnOk result ((before : ExportedValues) → (IsTrue S.tells → Serves S.tells (S.seen store.old).files exports.old before)
+        → (exported : ExportedValues)
         × (IsTrue S.tells → AreExported format (S.seen store.old).files list.now before exported)
         × (IsTrue S.tells → Serves S.tells (S.seen store.new).files exports.new exported)
-        × ((next : Exported → Steps) (file : List ℕ) (input : SourceSeen) (out err : SinkSeen) (link : LinkSeen)
+        × ((next : ExportedValues → Steps) (file : List ℕ) (input : SourceSeen) (out err : SinkSeen) (link : LinkSeen)
         (input_tells out_tells err_tells link_tells : Bool) (new : RunSeen) (ended : Result (Unit {0}) Refusal)
         → CarriesOut (next exported) serve_uses (AnsweringMayRefuse format file) (tells_of S.tells input_tells out_tells err_tells link_tells)
         (seen_of (S.seen store.new) input out err link) new ended
         → CarriesOut (OpeningAll format list.now before next) serve_uses (AnsweringMayRefuse format file) (tells_of S.tells input_tells out_tells err_tells link_tells)
         (seen_of (S.seen store.old) input out err link) new ended)) }
-    ensures unopened { OnErr result ((before : Exported) (next : Exported → Steps) (input : SourceSeen) (out err : SinkSeen) (link : LinkSeen)
+    ensures unopened { OnErr result ((before : ExportedValues) (next : ExportedValues → Steps) (input : SourceSeen) (out err : SinkSeen) (link : LinkSeen)
         (input_tells out_tells err_tells link_tells : Bool)
         → (IsTrue S.tells → Serves S.tells (S.seen store.old).files exports.old before)
         → CarriesOut (OpeningAll format list.now before next) serve_uses (ExportingMayRefuse format list.now)
@@ -73,7 +73,7 @@ pub fn add_all<S: Store>(
 }
 
 /// The files that words name, as `Exports` takes them.
-fn news_of(list: &[Export]) -> ArrayVec<NewExport<'_>, MOST_EXPORTS>
+fn news_of(list: &[ExportOption]) -> ArrayVec<NewExport<'_>, MOST_EXPORTS>
     requires { length list.now ≤ 16 }
     ensures { news_seen result.items ≡ news_of list.now }
 {

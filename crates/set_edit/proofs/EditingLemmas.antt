@@ -20,8 +20,8 @@ use Rattle.outside.proofs.FrameLemmas.{are_synced, only_reads-then, syncs-all, s
 use Rattle.opened_file.proofs.EditsOneLemmas.{edits_one-read}
 use Rattle.opened_file.proofs.SyncedLemmas.{syncs-refused}
 use Rattle.opened_file.proofs.LookupLemmas.{IsLookedUp, IsSameAt, edits_value-after, is_answer-itself}
-use Rattle.set_edit.specs.declared.fault.EditFault.{EditFault}
-use Rattle.set_edit.specs.declared.fault.EditFault.TheVariants.{File, NoRoom as Unfit}
+use Rattle.set_edit.specs.declared.edit_fault.EditFault.{EditFault}
+use Rattle.set_edit.specs.declared.edit_fault.EditFault.TheVariants.{File, NoRoom as Unfit}
 use Rattle.set_edit.specs.EditFault.{IfNoRoom, file_fault}
 use Rattle.set_edit.specs.Editing.{Edit}
 use Rattle.set_edit.specs.EditCalls.{Edits, LacksField, ReadsOnce, value_edit}

@@ -8,7 +8,7 @@ use Rattle.outside.specs.Frame.{OnlyReads}
 use Rattle.opened_file.specs.Changes.{EditsValue, FileAt, FileLaws}
 use Rattle.opened_file.specs.FileChange.{FileChange, Put, Remove, changed_value}
 use Rattle.opened_file.specs.ValueEdits.{ValueEdit}
-use Rattle.set_edit.specs.declared.fault.EditFault.{EditFault}
+use Rattle.set_edit.specs.declared.edit_fault.EditFault.{EditFault}
 use Rattle.set_edit.specs.EditFault.{IfNoRoom, file_fault}
 use Rattle.set_edit.specs.Editing.{Edit}
 

@@ -2,8 +2,8 @@
 use Rattle.std.specs.Prelude.{Option, None, Some, ⊤}
 use Rattle.quota_types.specs.declared.field.NoRoom.{NoRoom}
 use Rattle.opened_file.specs.declared.quota_file.FileFault.{FileFault}
-use Rattle.set_edit.specs.declared.fault.EditFault.{EditFault}
-use Rattle.set_edit.specs.declared.fault.EditFault.TheVariants.{File, NoRoom as Unfit}
+use Rattle.set_edit.specs.declared.edit_fault.EditFault.{EditFault}
+use Rattle.set_edit.specs.declared.edit_fault.EditFault.TheVariants.{File, NoRoom as Unfit}
 
 -- the file's fault, where an edit was refused by one
 abbrev pub file_fault : EditFault → Option FileFault

@@ -9,7 +9,7 @@
 
 mod copying;
 mod edit;
-mod fault;
+mod edit_fault;
 mod form;
 mod form_reading;
 mod grace_periods;
@@ -21,7 +21,7 @@ mod times;
 
 pub use copying::copy_limits;
 pub use edit::set_limits;
-pub use fault::EditFault;
+pub use edit_fault::EditFault;
 pub use form::print_form;
 pub use form_reading::{FormFault, read_form};
 pub use grace_periods::set_grace_periods;

@@ -7,7 +7,7 @@ use std::io;
 use std::io::ErrorKind;
 use std::net::{Ipv4Addr, Net, OpenListener, TcpListener};
 use std::time::Clock;
-use system_streams::{Failure, moment};
+use system_streams::{LinkFailure, moment};
 
 /// A socket that listens, with its port.
 #[derive(Drop)]
@@ -27,7 +27,7 @@ pub struct TcpConns<'a, R: Net> {
     current: Option<OpenConnection<R::Stream>>,
     listener_faults: u64,
     connection_faults: u64,
-    failure: Option<Failure>,
+    failure: Option<LinkFailure>,
 }
 
 impl<'a, R: Net + Clock> TcpConns<'a, R> {
@@ -48,7 +48,7 @@ impl<'a, R: Net + Clock> TcpConns<'a, R> {
     }
 
     /// The last call that failed; none where none did.
-    pub fn failure(&self) -> Option<Failure> {
+    pub fn failure(&self) -> Option<LinkFailure> {
         self.failure
     }
 
@@ -93,7 +93,7 @@ impl<'a, R: Net + Clock> TcpConns<'a, R> {
         ensures connection_faults { self.new.connection_faults ≡ self.old.connection_faults }
         ensures current { is_some self.new.current ≡ is_some self.old.current }
     {
-        self.failure = Some(Failure { port, error });
+        self.failure = Some(LinkFailure { port, error });
         self.listener_faults = self.listener_faults.saturating_add(1);
         ConnFault
     }
@@ -106,7 +106,7 @@ impl<'a, R: Net + Clock> TcpConns<'a, R> {
         ensures current { is_some self.new.current ≡ is_some self.old.current }
     {
         let port = self.port();
-        self.failure = Some(Failure { port, error });
+        self.failure = Some(LinkFailure { port, error });
         self.connection_faults = self.connection_faults.saturating_add(1);
         ConnFault
     }

@@ -6,7 +6,7 @@ use std::io;
 use std::io::ErrorKind;
 use std::net::{Ipv4Addr, Net, SocketAddr, UdpSocket};
 use std::time::{Clock, Duration, Instant};
-use system_streams::Failure;
+use system_streams::LinkFailure;
 
 /// For how long no datagram of the server comes where there is a quiet, in seconds.
 const QUIET: u64 = 2;
@@ -26,7 +26,7 @@ pub struct UdpPeer<'a, R> {
     system: &'a R,
     asking: Option<Asking>,
     faults: u64,
-    failure: Option<Failure>,
+    failure: Option<LinkFailure>,
 }
 
 impl<'a, R: Net + Clock> UdpPeer<'a, R> {
@@ -43,7 +43,7 @@ impl<'a, R: Net + Clock> UdpPeer<'a, R> {
     }
 
     /// The last call that failed, with the port of the server; none where none did.
-    pub fn failure(&self) -> Option<Failure> {
+    pub fn failure(&self) -> Option<LinkFailure> {
         self.failure
     }
 
@@ -99,7 +99,7 @@ impl<'a, R: Net + Clock> UdpPeer<'a, R> {
         match answer {
             Ok(value) => Ok(value),
             Err(error) => {
-                self.failure = Some(Failure { port, error });
+                self.failure = Some(LinkFailure { port, error });
                 self.faults = self.faults.saturating_add(1);
                 Err(PeerFault)
             }

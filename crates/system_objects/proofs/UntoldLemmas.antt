@@ -1,7 +1,7 @@
 -- A disk that tells nothing takes each step by changing nothing.
 use Rattle.std.proofs.Common.{◌≤◌, ℕ, List, inl, refl, arith}
 use Rattle.disk.specs.DiskSeen.{ChangesNothing, TakesStep}
-use Rattle.disk.specs.Steps.{CutsShort, MayBeRenamed, Shortens, TearsRange}
+use Rattle.disk.specs.DiskCalls.{CutsShort, MayBeRenamed, Shortens, TearsRange}
 use Rattle.disk.proofs.TakesStepLemmas.{cuts_nothing, renames_nothing, shortens_nothing, tears_nothing}
 use Rattle.system_objects.specs.Untold.{untold}
 

@@ -13,7 +13,7 @@ use undo_trust::undo::{UNDO, plain_name, shown_undo, undone_file};
 
 /// A call on a disk that the system refused.
 #[derive(Drop)]
-pub struct Failure {
+pub struct DiskFailure {
     /// The name of the file at which it failed: that by which it was made, of a rename the new one, or one of a file beside it.
     pub name: String,
     /// Why it was refused.
@@ -70,7 +70,7 @@ fn failed_name<R: Files<File = File>>(
 pub struct FileDisk<'a, R> {
     open: OpenFiles<'a, R>,
     faults: u64,
-    failure: Option<Failure>,
+    failure: Option<DiskFailure>,
 }
 
 impl<'a, R: Files<File = File>> FileDisk<'a, R> {
@@ -86,7 +86,7 @@ impl<'a, R: Files<File = File>> FileDisk<'a, R> {
     }
 
     /// The last call that failed; none where none did, or where there was not enough memory for its name.
-    pub fn failure(&self) -> Option<&Failure> {
+    pub fn failure(&self) -> Option<&DiskFailure> {
         self.failure.as_ref()
     }
 
@@ -126,7 +126,7 @@ impl<'a, R: Files<File = File>> FileDisk<'a, R> {
         let at = self.open.failed_at;
         self.open.failed_at = FailedAt::Name;
         let found = failed_name(self.open.alloc, self.open.files, name, at);
-        self.failure = found.ok().map(|name| Failure {
+        self.failure = found.ok().map(|name| DiskFailure {
             name,
             error,
             distrust,

@@ -11,5 +11,5 @@ mod open_files;
 mod sharing;
 mod undo_files;
 
-pub use file_disk::{Failure, FileDisk};
+pub use file_disk::{DiskFailure, FileDisk};
 pub use sharing::{Lock, Sharing};

@@ -3,7 +3,7 @@ ghost use Rattle.std.specs.Prelude.{◌≡◌, ◌≤◌, length, IfOk};
 use crate::held::HeldFiles;
 use crate::locks::lock_made;
 use crate::sharing::{Lock, Sharing};
-use file_names::looks::Looks;
+use file_names::looks::FirstLooks;
 use file_names::names::{NEW, itself_at, make_anew, metadata_at, rename_present, sync_folder};
 use file_names::new_names::NewNames;
 use file_names::slots::{Slot, Slots};
@@ -70,7 +70,7 @@ pub(crate) struct OpenFiles<'a, R> {
     pub slots: Slots,
     pub made: Option<Made>,
     pub held: HeldFiles,
-    pub looks: Looks,
+    pub looks: FirstLooks,
     pub new_names: NewNames,
     pub synced: SyncedFiles,
     pub whole: WholeFiles,
@@ -97,7 +97,7 @@ impl<'a, R: Files<File = File>> OpenFiles<'a, R> {
             slots: Slots::new(),
             made: None,
             held: HeldFiles::new(alloc),
-            looks: Looks::new(alloc),
+            looks: FirstLooks::new(alloc),
             new_names: NewNames::new(alloc),
             synced: SyncedFiles::new(alloc),
             whole: WholeFiles::new(alloc),

@@ -11,4 +11,4 @@ mod udp_link;
 pub use clock::moment;
 pub use stream_sink::StreamSink;
 pub use stream_source::StreamSource;
-pub use udp_link::{Failure, UdpLink};
+pub use udp_link::{LinkFailure, UdpLink};

@@ -18,7 +18,7 @@ struct Bound {
 
 /// A call on a link that the system refused.
 #[derive(Clone, Copy)]
-pub struct Failure {
+pub struct LinkFailure {
     /// The port that was asked for, or that the socket is bound to.
     pub port: u16,
     /// Why it was refused.
@@ -31,7 +31,7 @@ pub struct UdpLink<'a, R> {
     system: &'a R,
     bound: Option<Bound>,
     faults: u64,
-    failure: Option<Failure>,
+    failure: Option<LinkFailure>,
 }
 
 impl<'a, R: Net + Clock> UdpLink<'a, R> {
@@ -48,7 +48,7 @@ impl<'a, R: Net + Clock> UdpLink<'a, R> {
     }
 
     /// The last call that failed; none where none did.
-    pub fn failure(&self) -> Option<Failure> {
+    pub fn failure(&self) -> Option<LinkFailure> {
         self.failure
     }
 
@@ -115,7 +115,7 @@ impl<'a, R: Net + Clock> UdpLink<'a, R> {
         match answer {
             Ok(value) => Ok(value),
             Err(error) => {
-                self.failure = Some(Failure { port, error });
+                self.failure = Some(LinkFailure { port, error });
                 self.faults = self.faults.saturating_add(1);
                 Err(LinkFault)
             }

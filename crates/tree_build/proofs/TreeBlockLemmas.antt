@@ -7,7 +7,7 @@ use Rattle.std.specs.List.Sorted.{IsStrictlyIncreasing}
 use Rattle.quota_types.proofs.AscendsLemmas.{Ascends, Ascends-apart, Ascends-of}
 use Rattle.quota_types.proofs.ListLemmas.{AllByRecursion-weaker}
 use Rattle.quota_types.proofs.BytesLemmas.{number_at-zeros, number_same}
-use Rattle.quota_types.specs.Span.{KeepsOutside}
+use Rattle.quota_types.specs.KeptBytes.{KeepsOutside}
 use Rattle.quota_radix.specs.declared.tree_path.TreePath.{TreePath}
 use Rattle.file_blocks.specs.Block.{block_of, leads}
 use Rattle.tree_build.specs.NewFile.{AllLead, AreSiblings}

@@ -24,7 +24,7 @@ use Rattle.tree_meaning.specs.Loose.{Loose, loose_of}
 use Rattle.tree_meaning.specs.Roles.{data_with, has_room}
 use Rattle.tree_meaning.proofs.BlankLemmas.{blank_unused}
 use Rattle.tree_meaning.proofs.ListedLemmas.{entered}
-use Rattle.tree_steps.specs.EntrySteps.{WritesEntry}
+use Rattle.block_changes.specs.EntryChanges.{WritesEntry}
 use Rattle.tree_change.specs.ChangeFault.{of_chain_fault}
 use Rattle.tree_change.specs.Enters.{EntersRecord}
 use Rattle.tree_change.specs.Fresh.{HasFresh, IsTakeFault, TakesFresh}

@@ -4,7 +4,7 @@ use Rattle.std.specs.Prelude.{◌==◌}
 use Rattle.std.proofs.lemmas.Bool.{cond_both}
 use Rattle.quota_types.specs.Bytes.{number_at}
 use Rattle.quota_types.specs.Times.{StandsIn, times}
-use Rattle.quota_types.specs.Span.{KeepsOutside}
+use Rattle.quota_types.specs.KeptBytes.{KeepsOutside}
 use Rattle.quota_types.proofs.BytesLemmas.{number_same}
 use Rattle.std.proofs.lemmas.List.{length-take}
 use Rattle.quota_types.proofs.TimesLemmas.{stands_either, times-append, times-cons}

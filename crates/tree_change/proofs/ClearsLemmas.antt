@@ -2,7 +2,7 @@
 use Rattle.std.proofs.Common.{◌≡◌, ℕ, ◌<◌, true, List, [], ◌∷◌, length, sym, ap, subst, ◌∙◌, arith}
 use Rattle.std.specs.Prelude.{IsSome}
 use Rattle.quota_types.specs.Bytes.{number_at}
-use Rattle.quota_types.specs.Span.{KeepsOutside}
+use Rattle.quota_types.specs.KeptBytes.{KeepsOutside}
 use Rattle.quota_types.specs.declared.file_kind.Format.{Format}
 use Rattle.file_blocks.specs.Block.{block_of}
 use Rattle.entry_codec.specs.Entry.{entries_per_block, is_unused}
@@ -13,7 +13,7 @@ use Rattle.tree_meaning.specs.Entries.{entry_bytes, stated_count, used_ids}
 use Rattle.tree_meaning.specs.EntryRecords.{record_by}
 use Rattle.tree_meaning.specs.EntryPlaces.{ClearsEntry, HasSameEntries, KeepsOtherEntries, KeepsOutsideEntry}
 use Rattle.tree_meaning.proofs.EntryPlaceLemmas.{before_entries, ids_kept, outside_entry}
-use Rattle.tree_steps.specs.EntrySteps.{LosesEntry}
+use Rattle.block_changes.specs.EntryChanges.{LosesEntry}
 use Rattle.tree_change.specs.Clears.{IsCleared}
 use Rattle.tree_change.specs.declared.clearing.Cleared.{Cleared}
 
@@ -31,17 +31,17 @@ others_stay format place old new was now low keeps =
 
 module _ (format : Format) (place : ℕ) (old middle new : List ℕ) (was : length old ≡ 1024) (between : length middle ≡ 1024) (now : length new ≡ 1024)
     (low : place < entries_per_block format) (entry : KeepsOutsideEntry format place old middle) (count : KeepsOutside 8 10 middle new) where
-  same : HasSameEntries format middle new
-  same = before_entries format 8 10 middle new (omega arith) (now ∙ sym between) count
+  same_entries : HasSameEntries format middle new
+  same_entries = before_entries format 8 10 middle new (omega arith) (now ∙ sym between) count
 
   others : KeepsOtherEntries format place old new
   others =
       let first = others_stay format place old middle was between low entry in
-      record { low = low; others = λ at within other. same at within ∙ first.others at within other }
+      record { low = low; others = λ at within other. same_entries at within ∙ first.others at within other }
 
   -- an entry was cleared, and then that number written
   pub clears : (id : ℕ) → IsSome (record_by format old id place) → is_unused (entry_bytes format middle place) ≡ true → ClearsEntry format place id old new
-  clears id used is = record { others = others; was = used; is = ap is_unused (same place low) ∙ is }
+  clears id used is = record { others = others; was = used; is = ap is_unused (same_entries place low) ∙ is }
 
 -- a block that was lent for writing is as it was left
 pub left_as : (number : ℕ) (bytes old new : List ℕ) → length bytes ≡ 1024 → new ≡ with_block old number bytes → block_of new number ≡ bytes

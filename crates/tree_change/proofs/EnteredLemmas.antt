@@ -26,7 +26,7 @@ use Rattle.tree_meaning.specs.Loose.{Loose, loose_of}
 use Rattle.tree_meaning.specs.Roles.{counts_as_data, data_with, has_room}
 use Rattle.tree_meaning.proofs.ListedLemmas.{left_list}
 use Rattle.tree_meaning.proofs.MovedLemmas.{times-data_with}
-use Rattle.tree_steps.specs.EntrySteps.{WritesEntry}
+use Rattle.block_changes.specs.EntryChanges.{WritesEntry}
 use Rattle.tree_change.specs.declared.change_fault.ChangeFault.{ChangeFault}
 use Rattle.tree_change.specs.ChangeFault.{IsStepFault, of_chain_fault}
 use Rattle.tree_change.specs.Enters.{EntersRecord}

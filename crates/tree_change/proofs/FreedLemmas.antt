@@ -23,7 +23,7 @@ use Rattle.free_chains.proofs.ChainLemmas.{chain_is_met, few_of_chain}
 use Rattle.free_chains.proofs.SpliceLemmas.{chain-stays}
 use Rattle.tree_meaning.specs.Loose.{Loose, loose_of}
 use Rattle.tree_meaning.proofs.MovedLemmas.{times-roles}
-use Rattle.tree_steps.proofs.OneBlockLemmas.{one_role}
+use Rattle.block_changes.proofs.OneBlockLemmas.{one_role}
 use Rattle.tree_change.specs.Freed.{FreesBlocks, HasLinkAlone, free_blocks, unnamed_of}
 use Rattle.tree_change.specs.FreedTree.{FreesBeside}
 use Rattle.tree_change.specs.Shows.{IsWholeTree}
@@ -62,8 +62,8 @@ module _ (loose : Loose) (format : Format) (old new : List ℕ) (heads : Heads) 
 module _ (loose : Loose) (format : Format) (old new : List ℕ) (heads : Heads) (records : Records) (numbers : List ℕ)
     (tree : IsWholeTree loose format old heads records) (keeps : KeepsBlocksBut numbers old new)
     (apart : (number : ℕ) → StandsIn numbers number → times (tree_blocks old heads.blocks) number ≡ 0) where
-  words : KeepsReferences old new heads.blocks (tree_blocks old heads.blocks)
-  words = record {
+  keeps_references : KeepsReferences old new heads.blocks (tree_blocks old heads.blocks)
+  keeps_references = record {
     inside = tree.roles.references;
     same = λ number stands digit low. ap (λ (bytes : List ℕ). number_at 4 bytes (4 * digit))
         (keeps.others number (elim (cases_lt 0 (times numbers number)) [
@@ -73,11 +73,11 @@ module _ (loose : Loose) (format : Format) (old new : List ℕ) (heads : Heads) 
   }
 
   pub ways_apart : (other : ℕ) → other < 2 ^ 32 → blocks_on_way new heads.blocks other ≡ blocks_on_way old heads.blocks other
-  ways_apart other small = way-among_more old new heads.blocks heads.blocks other (omega arith) small words
+  ways_apart other small = way-among_more old new heads.blocks heads.blocks other (omega arith) small keeps_references
 
   pub named_apart : data_blocks new heads.blocks ≡ data_blocks old heads.blocks
   named_apart =
-      let same : leaves new heads.blocks ≡ leaves old heads.blocks = leaves-among_more old new heads.blocks heads.blocks (omega arith) words in
+      let same : leaves new heads.blocks ≡ leaves old heads.blocks = leaves-among_more old new heads.blocks heads.blocks (omega arith) keeps_references in
       λ i. filter (λ (block : ℕ). nat_le 1 (times (blocks_of (same i)) block)) (range_with_len 0 heads.blocks)
 
 -- A block that was held was given.

@@ -67,14 +67,14 @@ module _ (held : List ℕ) (awaited : Option TreePath) (format : Format) (old ne
             omega (arith, tree.roles.once block, role_below heads.blocks block within.1, all, ap (λ (free : List ℕ). times free block) some.1, times-cons-same block some.0)
       ]
 
-  fewer : heads.blocks ≤ now.blocks
-  fewer = elim (cases_eq heads.free 0) [
+  no_fewer_blocks : heads.blocks ≤ now.blocks
+  no_fewer_blocks = elim (cases_eq heads.free 0) [
     | inl none ↦ omega (arith, (head.none none).blocks)
     | inr some ↦ omega (arith, (head.some some).blocks)
   ]
 
-  words : KeepsReferences old new heads.blocks (tree_blocks old heads.blocks)
-  words = record {
+  keeps_references : KeepsReferences old new heads.blocks (tree_blocks old heads.blocks)
+  keeps_references = record {
     inside = tree.roles.references;
     same = λ number stands digit low. ap (λ (bytes : List ℕ). number_at 4 bytes (4 * digit))
         (keeps.others number (none_of_one block number (other_than (tree_blocks old heads.blocks) block number was_no_tree stands)));
@@ -95,10 +95,10 @@ module _ (held : List ℕ) (awaited : Option TreePath) (format : Format) (old ne
           | inl same ↦ omega (arith, times-cons-same block [], ap (times (block ∷ [])) same)
           | inr other ↦ omega (arith, none_of_one block number (λ same. other (sym same)))
         ];
-        ways = λ id small. way-among_more old new heads.blocks now.blocks id fewer small words;
+        ways = λ id small. way-among_more old new heads.blocks now.blocks id no_fewer_blocks small keeps_references;
         same_data = λ number.
             times-data_with (loose_of (block ∷ held) awaited None) new now.blocks number with_it.awaited
-            ∙ ap (named number) (leaves-among_more old new heads.blocks now.blocks fewer words)
+            ∙ ap (named number) (leaves-among_more old new heads.blocks now.blocks no_fewer_blocks keeps_references)
             ∙ sym (times-data_with (loose_of held awaited None) old heads.blocks number tree.awaited);
         header = keeps.others 0 (omega (arith, (header_apart (loose_of (block ∷ held) awaited None) new now.blocks now.free with_it.roles).0, times-append (block ∷ []) held 0));
       }

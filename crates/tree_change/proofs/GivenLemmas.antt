@@ -8,7 +8,7 @@ use Rattle.quota_value.specs.QuotaValue.{Records}
 use Rattle.outside.specs.Seen.{StoreSeen}
 use Rattle.quota_pages.specs.Page.{is_buffered}
 use Rattle.quota_pages.specs.Pages.{pages_of}
-use Rattle.quota_pages.specs.Used.{Uses, missing}
+use Rattle.quota_pages.specs.Used.{UsesPages, missing}
 use Rattle.quota_pages.specs.KeptBlocks.{KeepsBlocksBut}
 use Rattle.quota_pages.specs.declared.page_buffer.Pages.{Pages}
 use Rattle.quota_pages.proofs.UsedLemmas.{missing-there}
@@ -24,7 +24,7 @@ use Rattle.tree_meaning.specs.Roles.{counted_leaves, data_with}
 use Rattle.tree_meaning.proofs.FrameLemmas.{data_kept}
 use Rattle.tree_meaning.proofs.MovedLemmas.{keeps_entries, times-data_with, times-roles}
 use Rattle.tree_meaning.proofs.TakenLemmas.{given}
-use Rattle.tree_steps.proofs.OneBlockLemmas.{one_role}
+use Rattle.block_changes.proofs.OneBlockLemmas.{one_role}
 use Rattle.tree_change.specs.FreedTree.{FreesBeside}
 use Rattle.tree_change.specs.Shows.{IsWholeTree}
 use Rattle.tree_change.specs.Unlinked.{GivesHeld, TreeStays}
@@ -115,11 +115,11 @@ gives_all blocks place old new heads now end gives =
     (subst (λ (left : List ℕ). GivesBut blocks left (reverse (take place blocks)) old new heads now) (drop_all place blocks end) gives)
 
 -- a block of some that were buffered still is
-pub still_there : {tells ok : Bool} {count : ℕ} {before now : StoreSeen} (old new : Pages) (blocks : List ℕ) (place : ℕ) → Uses tells ok count before now old new → AreBuffered (pages_of old) blocks
+pub still_there : {tells ok : Bool} {count : ℕ} {before now : StoreSeen} (old new : Pages) (blocks : List ℕ) (place : ℕ) → UsesPages tells ok count before now old new → AreBuffered (pages_of old) blocks
     → place < length blocks → is_buffered (pages_of new) (get_or blocks place 0) ≡ true
 still_there old new blocks place uses there low = uses.stay (get_or blocks place 0) (there (get_or blocks place 0) (StandsIn-get_or blocks place low))
 
 -- a call for one more block that is buffered uses no further page
 pub uses_there : {tells ok : Bool} {count : ℕ} {before between now : StoreSeen} {old middle new : Pages} (block : ℕ) → is_buffered (pages_of middle) block ≡ true
-    → Uses tells true count before between old middle → Uses tells ok (missing (pages_of middle) block) between now middle new → Uses tells ok count before now old new
+    → UsesPages tells true count before between old middle → UsesPages tells ok (missing (pages_of middle) block) between now middle new → UsesPages tells ok count before now old new
 uses_there {count = count} {middle = middle} block there first second = uses_more count (omega (arith, missing-there (pages_of middle) block there)) (uses_then first second)

@@ -8,7 +8,7 @@ use Rattle.quota_radix.specs.declared.tree_path.TreePath.{TreePath}
 use Rattle.tree_meaning.specs.Loose.{Loose, loose_of}
 use Rattle.tree_meaning.specs.Roles.{OneRole, data_with}
 use Rattle.tree_meaning.proofs.MovedLemmas.{times-roles}
-use Rattle.tree_steps.proofs.OneBlockLemmas.{one_role}
+use Rattle.block_changes.proofs.OneBlockLemmas.{one_role}
 
 -- Block 0 is not held, and is none of the tree, and no data block.
 pub header_apart : (loose : Loose) (file : List ℕ) (blocks head : ℕ) → OneRole loose file blocks head

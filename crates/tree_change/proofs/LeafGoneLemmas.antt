@@ -16,8 +16,8 @@ use Rattle.tree_meaning.specs.Loose.{loose_of}
 use Rattle.tree_meaning.specs.Roles.{data_with}
 use Rattle.tree_meaning.proofs.AwaitedLemmas.{times-blocks}
 use Rattle.tree_meaning.proofs.MovedLemmas.{times-roles}
-use Rattle.tree_steps.proofs.OneBlockLemmas.{one_role}
-use Rattle.tree_steps.proofs.UnlinkedLemmas.{changed_old, unlinkable, unlinked}
+use Rattle.block_changes.proofs.OneBlockLemmas.{one_role}
+use Rattle.block_changes.proofs.UnlinkedLemmas.{changed_old, unlinkable, unlinked}
 use Rattle.tree_change.specs.Freed.{FreesBlocks, lost_blocks}
 use Rattle.tree_change.specs.Unlinked.{GivesHeld, UnlinksLeaf}
 use Rattle.tree_change.proofs.FreedLemmas.{frees_none, frees_then}

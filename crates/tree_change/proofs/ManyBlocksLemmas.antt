@@ -16,7 +16,7 @@ use Rattle.free_chains.specs.declared.heads.Heads.{Heads}
 use Rattle.tree_meaning.specs.Loose.{Loose, loose_of}
 use Rattle.tree_meaning.specs.Roles.{data_with}
 use Rattle.tree_meaning.proofs.MovedLemmas.{times-roles}
-use Rattle.tree_steps.proofs.OneBlockLemmas.{one_role}
+use Rattle.block_changes.proofs.OneBlockLemmas.{one_role}
 use Rattle.tree_change.specs.Shows.{IsWholeTree}
 use Rattle.tree_change.proofs.AbsentLemmas.{absent_by_way, fifth}
 use Rattle.tree_change.proofs.FreshLemmas.{role_low}

@@ -20,7 +20,7 @@ use Rattle.tree_meaning.specs.Roles.{data_with}
 use Rattle.tree_meaning.specs.TreeFile.{record_in}
 use Rattle.tree_meaning.proofs.MovedLemmas.{times-data_with}
 use Rattle.tree_meaning.proofs.ValueLemmas.{found_used}
-use Rattle.tree_steps.specs.EntrySteps.{RewritesEntry}
+use Rattle.block_changes.specs.EntryChanges.{RewritesEntry}
 use Rattle.tree_change.specs.declared.change_fault.ChangeFault.{ChangeFault}
 use Rattle.tree_change.specs.ChangeFault.{IsStepFault}
 use Rattle.tree_change.specs.Overwrites.{OverwritesRecord}

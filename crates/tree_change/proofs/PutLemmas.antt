@@ -3,7 +3,7 @@ use Rattle.std.proofs.Common.{Bool, true, ◌≡◌, ℕ, ◌<◌, List, [], ◌
 use Rattle.std.specs.Prelude.{IsSome}
 use Rattle.std.proofs.lemmas.List.{get_or_past}
 use Rattle.quota_types.specs.Bytes.{number_at}
-use Rattle.quota_types.specs.Span.{KeepsOutside}
+use Rattle.quota_types.specs.KeptBytes.{KeepsOutside}
 use Rattle.quota_types.specs.declared.file_kind.Format.{Format}
 use Rattle.quota_types.specs.declared.record.Entry.{Entry}
 use Rattle.entry_codec.specs.Entry.{entries_per_block, is_unused}
@@ -15,7 +15,7 @@ use Rattle.tree_meaning.specs.Entries.{entry_bytes, entry_of, has_unused, used_i
 use Rattle.tree_meaning.specs.EntryRecords.{record_by}
 use Rattle.tree_meaning.specs.EntryPlaces.{HasSameEntries, KeepsOutsideEntry}
 use Rattle.tree_meaning.proofs.EntryPlaceLemmas.{before_entries, ids_kept, outside_entry}
-use Rattle.tree_steps.specs.EntrySteps.{RewritesEntry, WritesEntry}
+use Rattle.block_changes.specs.EntryChanges.{RewritesEntry, WritesEntry}
 use Rattle.tree_change.specs.Put.{PutsCounted, PutsOver}
 
 -- An entry was put at a place, and the number of used ones was written.

@@ -7,7 +7,7 @@ use Rattle.quota_types.specs.Times.{StandsIn, times}
 use Rattle.quota_types.proofs.TimesLemmas.{only_one, stands_cons, times-cons-other}
 use Rattle.quota_types.specs.declared.file_kind.Format.{Format}
 use Rattle.quota_types.specs.declared.record.Rec.{Rec}
-use Rattle.quota_types.specs.Span.{KeepsOutside}
+use Rattle.quota_types.specs.KeptBytes.{KeepsOutside}
 use Rattle.file_blocks.specs.Block.{block_of}
 use Rattle.file_blocks.proofs.LeadsLemmas.{leads_within}
 use Rattle.entry_codec.specs.Header.{HeaderNumbers, header_of}
@@ -26,7 +26,7 @@ use Rattle.tree_meaning.specs.TreeFile.{TreeStandsFor}
 use Rattle.tree_meaning.proofs.AsideLemmas.{header_changed}
 use Rattle.tree_meaning.proofs.FrameLemmas.{data_kept, data_leads}
 use Rattle.tree_meaning.proofs.MovedLemmas.{keeps_entries}
-use Rattle.tree_steps.proofs.OneLeafLemmas.{inserted_own}
+use Rattle.block_changes.proofs.OneLeafLemmas.{inserted_own}
 use Rattle.tree_change.specs.Freed.{free_blocks}
 use Rattle.tree_change.specs.HeaderHeads.{SetsHeads, with_heads}
 use Rattle.tree_change.specs.Putting.{PutsIn, PutsRecord, TakesCounted}

@@ -4,7 +4,7 @@ use Rattle.std.specs.FinMap.{remove}
 use Rattle.quota_types.specs.Times.{StandsIn, times}
 use Rattle.quota_types.specs.declared.file_kind.Format.{Format}
 use Rattle.quota_types.proofs.TimesLemmas.{only_one, times-cons-same}
-use Rattle.quota_types.specs.Span.{KeepsOutside}
+use Rattle.quota_types.specs.KeptBytes.{KeepsOutside}
 use Rattle.file_blocks.specs.Block.{block_of}
 use Rattle.entry_codec.specs.Header.{HeaderNumbers, header_of}
 use Rattle.entry_codec.specs.Spelling.{AreOf}
@@ -19,7 +19,7 @@ use Rattle.tree_meaning.specs.Loose.{Loose, loose_of}
 use Rattle.tree_meaning.specs.TreeFile.{TreeStandsFor}
 use Rattle.tree_meaning.proofs.AsideLemmas.{header_changed}
 use Rattle.tree_meaning.proofs.MovedLemmas.{times-roles}
-use Rattle.tree_steps.proofs.OneBlockLemmas.{one_role}
+use Rattle.block_changes.proofs.OneBlockLemmas.{one_role}
 use Rattle.tree_change.specs.Freed.{FreesBlocks, freed_blocks, lost_blocks, unnamed_of}
 use Rattle.tree_change.specs.Removes.{AwaitsInNoTree, RemovesEntry}
 use Rattle.tree_change.specs.HeaderHeads.{SetsHeads, with_heads}

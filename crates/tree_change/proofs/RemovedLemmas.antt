@@ -18,10 +18,10 @@ use Rattle.tree_meaning.specs.Roles.{data_with}
 use Rattle.tree_meaning.proofs.ListedLemmas.{entered}
 use Rattle.tree_meaning.proofs.MovedLemmas.{times-roles}
 use Rattle.tree_meaning.proofs.TakenLemmas.{given}
-use Rattle.tree_steps.specs.EntrySteps.{LosesEntry}
-use Rattle.tree_steps.proofs.ClearedLemmas.{cleared_of_full, cleared_with_room, last_cleared, last_room, room_now}
-use Rattle.tree_steps.proofs.KeptLemmas.{awaited_data}
-use Rattle.tree_steps.proofs.OneBlockLemmas.{one_role}
+use Rattle.block_changes.specs.EntryChanges.{LosesEntry}
+use Rattle.block_changes.proofs.ClearedLemmas.{cleared_of_full, cleared_with_room, last_cleared, last_room, room_now}
+use Rattle.block_changes.proofs.KeptLemmas.{awaited_data}
+use Rattle.block_changes.proofs.OneBlockLemmas.{one_role}
 use Rattle.tree_change.specs.declared.clearing.Cleared.TheVariants.{Last, WasFull, HadRoom}
 use Rattle.tree_change.specs.Removes.{AwaitsInNoTree, EntersTree, GivesTree, IsNoTreeMisplacing, IsNoTreeOf, LeavesTree, RemovesEntry}
 use Rattle.tree_change.specs.Clears.{LosesRecord}

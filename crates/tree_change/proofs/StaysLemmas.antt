@@ -17,7 +17,7 @@ use Rattle.tree_meaning.specs.Loose.{Loose, but_misplaced, loose_of}
 use Rattle.tree_meaning.specs.Roles.{counts_as_data, data_with, has_room}
 use Rattle.tree_meaning.proofs.ListedLemmas.{misplaced-other}
 use Rattle.tree_meaning.proofs.MovedLemmas.{times-data_with, times-roles}
-use Rattle.tree_steps.proofs.KeptLemmas.{held_or_data_stay}
+use Rattle.block_changes.proofs.KeptLemmas.{held_or_data_stay}
 use Rattle.tree_change.specs.FreedTree.{FreesBeside}
 use Rattle.tree_change.specs.Putting.{TakesCounted}
 use Rattle.tree_change.specs.Shows.{IsWholeTree}

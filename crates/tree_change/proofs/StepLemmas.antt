@@ -12,9 +12,9 @@ use Rattle.free_chains.specs.declared.heads.Heads.{Heads}
 use Rattle.tree_meaning.specs.Entries.{has_unused}
 use Rattle.tree_meaning.specs.Loose.{loose_of}
 use Rattle.tree_meaning.specs.Roles.{data_with, has_room}
-use Rattle.tree_steps.specs.EntrySteps.{RewritesEntry, WritesEntry}
-use Rattle.tree_steps.proofs.EntryWrittenLemmas.{first_room, first_written as first_tree, written_full, written_with_room}
-use Rattle.tree_steps.proofs.OverwrittenLemmas.{overwritten}
+use Rattle.block_changes.specs.EntryChanges.{RewritesEntry, WritesEntry}
+use Rattle.block_changes.proofs.EntryWrittenLemmas.{first_room, first_written as first_tree, written_full, written_with_room}
+use Rattle.block_changes.proofs.OverwrittenLemmas.{overwritten}
 use Rattle.tree_change.specs.Shows.{IsWholeTree}
 
 module _ (held : List ℕ) (format : Format) (old new : List ℕ) (heads : Heads) (records : Records) (block place id : ℕ) (rec : Rec)

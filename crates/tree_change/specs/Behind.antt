@@ -1,6 +1,6 @@
 -- What a change leaves of the bytes behind the last block of a file, which may be longer than its blocks.
 use Rattle.std.specs.Prelude.{ℕ, ◌*◌, ◌≤◌, max, List, length}
-use Rattle.quota_types.specs.Span.{KeepsOutside}
+use Rattle.quota_types.specs.KeptBytes.{KeepsOutside}
 
 -- A file of `was` blocks became one of `now`, no fewer: all bytes behind the last block are as before, and the file is no shorter
 -- than it was, and no longer than it was or than up to the end of the last block.

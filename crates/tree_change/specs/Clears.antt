@@ -3,7 +3,7 @@ use Rattle.std.specs.Prelude.{◌≡◌, ◌≢◌, ℕ, true, false, List, []}
 use Rattle.quota_types.specs.declared.file_kind.Format.{Format}
 use Rattle.file_blocks.specs.Block.{block_of}
 use Rattle.tree_meaning.specs.Entries.{has_unused, used_ids}
-use Rattle.tree_steps.specs.EntrySteps.{LosesEntry}
+use Rattle.block_changes.specs.EntryChanges.{LosesEntry}
 use Rattle.tree_change.specs.declared.clearing.Cleared.{Cleared}
 use Rattle.tree_change.specs.declared.clearing.Cleared.TheVariants.{Last, WasFull, HadRoom}
 

@@ -1,6 +1,6 @@
 -- The heads of a tree file in its header.
 use Rattle.std.specs.Prelude.{◌≡◌, ℕ, List}
-use Rattle.quota_types.specs.Span.{KeepsOutside}
+use Rattle.quota_types.specs.KeptBytes.{KeepsOutside}
 use Rattle.file_blocks.specs.Block.{block_of}
 use Rattle.entry_codec.specs.Header.{HeaderNumbers, header_of}
 use Rattle.entry_codec.specs.declared.header.Header.{Header}

@@ -1,7 +1,7 @@
 -- An entry that is put in a data block.
 use Rattle.std.specs.Prelude.{◌≡◌, ℕ, List, length, Some}
 use Rattle.quota_types.specs.Bytes.{number_at}
-use Rattle.quota_types.specs.Span.{KeepsOutside}
+use Rattle.quota_types.specs.KeptBytes.{KeepsOutside}
 use Rattle.quota_types.specs.declared.file_kind.Format.{Format}
 use Rattle.quota_types.specs.declared.record.Entry.{Entry}
 use Rattle.tree_meaning.specs.Entries.{entry_bytes, entry_of, used_ids}

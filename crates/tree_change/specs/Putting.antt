@@ -1,7 +1,7 @@
 -- A record that is put into a tree file.
 use Rattle.std.specs.Prelude.{◌≡◌, ◌≢◌, ℕ, ◌+◌, ◌*◌, ◌-◌, ◌<◌, ◌≤◌, max, List, length, None}
 use Rattle.std.specs.FinMap.{insert}
-use Rattle.quota_types.specs.Span.{KeepsOutside}
+use Rattle.quota_types.specs.KeptBytes.{KeepsOutside}
 use Rattle.quota_types.specs.Times.{StandsIn, times}
 use Rattle.quota_types.specs.declared.record.Rec.{Rec}
 use Rattle.quota_types.specs.declared.file_kind.Format.{Format}
@@ -29,7 +29,7 @@ use Rattle.tree_change.specs.Shows.{IsNoCompleteTree, IsNoTree, IsWholeTree}
 use Rattle.tree_change.specs.BlocksWanted.{blocks_taken, blocks_with}
 
 -- The way of an identifier ends before it leads to a data block: these blocks are on it, and no more.
-pub record EndsEarly (file : List ℕ) (blocks id : ℕ) (found : List ℕ) : Type 0 where
+pub record WayEndsEarly (file : List ℕ) (blocks id : ℕ) (found : List ℕ) : Type 0 where
   pub way : found ≡ blocks_on_way file blocks id
   pub none : leaf_block file blocks id ≡ None
 

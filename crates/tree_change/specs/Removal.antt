@@ -1,7 +1,7 @@
 -- A record that is removed from a tree file in place.
 use Rattle.std.specs.Prelude.{◌≡◌, ℕ, List, length, None, []}
 use Rattle.std.specs.FinMap.{remove}
-use Rattle.quota_types.specs.Span.{KeepsOutside}
+use Rattle.quota_types.specs.KeptBytes.{KeepsOutside}
 use Rattle.quota_types.specs.declared.file_kind.Format.{Format}
 use Rattle.file_blocks.specs.Block.{block_of}
 use Rattle.quota_value.specs.QuotaValue.{QuotaValue, Records, without_record}

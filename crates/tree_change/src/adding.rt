@@ -4,7 +4,7 @@ ghost use Rattle.std.specs.Prelude.{◌≡◌, ◌+◌, ◌≤◌, length, IfErr
 ghost use Rattle.quota_types.specs.Format.{IsTreeFormat};
 ghost use Rattle.quota_types.specs.Kept.{IsKept};
 ghost use Rattle.quota_pages.specs.Pages.{pages_of};
-ghost use Rattle.quota_pages.specs.Used.{IsKnown, Uses, shown_over};
+ghost use Rattle.quota_pages.specs.Used.{IsKnown, UsesPages, shown_over};
 ghost use Rattle.tree_change.specs.Enters.{EntersEachTree};
 ghost use Rattle.tree_change.specs.Fresh.{IsTakeFault};
 ghost use Rattle.tree_change.specs.Putting.{TakesWithin};
@@ -40,7 +40,7 @@ pub fn add_block<S: Store>(
     ensures added { IfOk result (λ block. OfChange S.tells (S.seen store.old) (S.seen store.new) pages.old pages.new
         (λ before after. EntersEachTree block id rec.now 1 format before after heads.old heads.new)) }
     ensures takes { OnOk result (TakesWithin limit ⊤ heads.old heads.new pages.old pages.new) }
-    ensures uses { Uses S.tells (is_ok result) 3 (S.seen store.old) (S.seen store.new) pages.old pages.new }
+    ensures uses { UsesPages S.tells (is_ok result) 3 (S.seen store.old) (S.seen store.new) pages.old pages.new }
     ensures stays { OnErr result (heads.new ≡ heads.old) }
     ensures refused { IfErr result (IsTakeFault (S.seen store.old).faults (S.seen store.new).faults
         (IsKnown S.tells (S.seen store.old) pages.old) (shown_over (S.seen store.old) pages.old) heads.old limit 1) }

@@ -3,7 +3,7 @@
 ghost use Rattle.std.specs.Prelude.{◌≡◌, ℕ, ◌<◌, ◌∷◌, [], length, true, false, IsSome, IfErr, IfOk, OnErr, OnOk, None};
 ghost use Rattle.quota_types.specs.Bytes.{number_at};
 ghost use Rattle.quota_types.specs.Format.{IsTreeFormat};
-ghost use Rattle.quota_types.specs.Span.{KeepsOutside};
+ghost use Rattle.quota_types.specs.KeptBytes.{KeepsOutside};
 ghost use Rattle.outside.specs.Count.{Rose};
 ghost use Rattle.file_blocks.specs.Block.{block_of};
 ghost use Rattle.entry_codec.specs.Entry.{entries_per_block};
@@ -14,7 +14,7 @@ ghost use Rattle.tree_meaning.specs.Entries.{used_ids};
 ghost use Rattle.tree_meaning.specs.EntryRecords.{record_by};
 ghost use Rattle.tree_meaning.specs.EntryPlaces.{ClearsEntry};
 ghost use Rattle.tree_meaning.specs.TreeFile.{record_in};
-ghost use Rattle.tree_steps.specs.EntrySteps.{LosesEntry};
+ghost use Rattle.block_changes.specs.EntryChanges.{LosesEntry};
 ghost use Rattle.tree_change.specs.ChangeFault.{IsStepFault};
 ghost use Rattle.tree_change.specs.Clears.{IsCleared, LosesRecord};
 ghost use Rattle.tree_change.specs.Shows.{LendsOne, LooksAtOne, OfChange, OfShown};

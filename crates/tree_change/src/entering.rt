@@ -7,7 +7,7 @@ ghost use Rattle.entry_codec.specs.Entry.{entries_per_block, is_unused};
 ghost use Rattle.file_blocks.specs.Block.{block_of};
 ghost use Rattle.quota_pages.specs.Page.{is_buffered, is_lent};
 ghost use Rattle.quota_pages.specs.Pages.{pages_of};
-ghost use Rattle.quota_pages.specs.Used.{LooksAtSome, Uses};
+ghost use Rattle.quota_pages.specs.Used.{LooksAtSome, UsesPages};
 ghost use Rattle.tree_meaning.specs.Entries.{entry_bytes, has_unused};
 ghost use Rattle.tree_change.specs.ChangeFault.{IsStepFault};
 ghost use Rattle.tree_change.specs.Enters.{EntersEachTree};
@@ -78,7 +78,7 @@ pub fn enter_record<S: Store>(
         (λ before after. EntersEachTree block id rec.now 0 format before after heads.old heads.new)) }
     ensures blocks { OnOk result (heads.new.blocks ≡ heads.old.blocks) }
     ensures header { OnOk result (is_lent (pages_of pages.new) 0 ≡ is_lent (pages_of pages.old) 0) }
-    ensures uses { Uses S.tells (is_ok result) 4 (S.seen store.old) (S.seen store.new) pages.old pages.new }
+    ensures uses { UsesPages S.tells (is_ok result) 4 (S.seen store.old) (S.seen store.new) pages.old pages.new }
     ensures stays { OnErr result (heads.new ≡ heads.old) }
     ensures refused { IfErr result (IsStepFault (S.seen store.old).faults (S.seen store.new).faults
         (OfShown S.tells (S.seen store.old) pages.old (λ file. IsNoTree format file heads.old))) }

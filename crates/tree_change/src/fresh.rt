@@ -5,7 +5,7 @@ ghost use Rattle.quota_types.specs.Times.{times};
 ghost use Rattle.arrayvec.specs.ArrayVec.{array_vec_len};
 ghost use Rattle.quota_pages.specs.Page.{is_buffered};
 ghost use Rattle.quota_pages.specs.Pages.{pages_of};
-ghost use Rattle.quota_pages.specs.Used.{IsKnown, LendsSome, LooksAtSome, Uses, shown_over};
+ghost use Rattle.quota_pages.specs.Used.{IsKnown, LendsSome, LooksAtSome, UsesPages, shown_over};
 ghost use Rattle.quota_radix.specs.Link.{AreBuffered};
 ghost use Rattle.tree_change.specs.Fresh.{IsTakeFault, TakesFresh, TellsOneMore};
 ghost use Rattle.tree_change.specs.Putting.{TakesWithin};
@@ -81,7 +81,7 @@ pub fn take_fresh<S: Store>(
     ensures takes { OnOk result (TakesWithin limit ⊤ heads.old heads.new pages.old pages.new) }
     ensures beside { IfOk result (λ fresh. heads.old.blocks ≢ 0 → times fresh.items 0 ≡ 0) }
     ensures brought { IfOk result (λ fresh. AreBuffered (pages_of pages.new) fresh.items) }
-    ensures uses { Uses S.tells (is_ok result) count (S.seen store.old) (S.seen store.new) pages.old pages.new }
+    ensures uses { UsesPages S.tells (is_ok result) count (S.seen store.old) (S.seen store.new) pages.old pages.new }
     ensures stays { OnErr result (heads.new ≡ heads.old) }
     ensures refused { IfErr result (IsTakeFault (S.seen store.old).faults (S.seen store.new).faults
         (IsKnown S.tells (S.seen store.old) pages.old) (shown_over (S.seen store.old) pages.old) heads.old limit count) }

@@ -3,11 +3,11 @@
 ghost use Rattle.std.specs.Prelude.{◌≡◌, ◌↔◌, ◌+◌, ◌≤◌, ◌∷◌, [], length, true, is_ok, IsTrue, OnErr, OnOk};
 ghost use Rattle.entry_codec.specs.Header.{header_of};
 ghost use Rattle.entry_codec.specs.Spelling.{AreOf};
-ghost use Rattle.quota_types.specs.Span.{KeepsOutside};
+ghost use Rattle.quota_types.specs.KeptBytes.{KeepsOutside};
 ghost use Rattle.outside.specs.Count.{Rose};
 ghost use Rattle.quota_pages.specs.Page.{HasRoomFor};
 ghost use Rattle.quota_pages.specs.Pages.{pages_of};
-ghost use Rattle.quota_pages.specs.Used.{LendsSome, Uses, shown_over};
+ghost use Rattle.quota_pages.specs.Used.{LendsSome, UsesPages, shown_over};
 ghost use Rattle.quota_pages.specs.KeptBlocks.{KeepsBlocksBut};
 ghost use Rattle.tree_change.specs.HeaderHeads.{HasHeads, SetsHeads, with_heads};
 ghost use Rattle.tree_change.specs.Shows.{LendsOne, LooksAtOne, OfChange};
@@ -96,7 +96,7 @@ pub(crate) fn renew_heads<S: Store>(
         (λ before after. AreOf header.now (header_of before) → SetsHeads heads.now before after)) }
     ensures lends { OnOk result (LendsSome S.tells true 1 (0 ∷ []) (S.seen store.old) (S.seen store.new) pages.old pages.new) }
     ensures idle { HasHeads header.now heads.now → pages_of pages.new ≡ pages_of pages.old }
-    ensures uses { Uses S.tells (is_ok result) 1 (S.seen store.old) (S.seen store.new) pages.old pages.new }
+    ensures uses { UsesPages S.tells (is_ok result) 1 (S.seen store.old) (S.seen store.new) pages.old pages.new }
     ensures cause { OnErr result (Rose (S.seen store.old).faults (S.seen store.new).faults) }
     ensures commits { S.commits [] store.old store.new }
 {

@@ -3,7 +3,7 @@
 ghost use Rattle.std.specs.Prelude.{◌≡◌, ◌≢◌, ◌+◌, ◌-◌, ◌≤◌, length, slice_index, IfErr, OnErr, OnOk, is_ok, []};
 ghost use Rattle.arrayvec.specs.ArrayVec.{array_vec_len};
 ghost use Rattle.quota_pages.specs.Pages.{pages_of};
-ghost use Rattle.quota_pages.specs.Used.{IsKnown, Uses, shown_over};
+ghost use Rattle.quota_pages.specs.Used.{IsKnown, UsesPages, shown_over};
 ghost use Rattle.quota_radix.specs.Link.{AreBuffered};
 ghost use Rattle.tree_change.specs.Fresh.{IsTakeFault};
 ghost use Rattle.tree_change.specs.Leads.{LeadsEachTree};
@@ -44,7 +44,7 @@ pub fn lead_to<S: Store>(
     ensures first { OnOk result (heads.new.first ≡ heads.old.first) }
     ensures takes { OnOk result (TakesWithin limit
         (slice_index path.now.found.items (array_vec_len path.now.found - 1) ≢ 0) heads.old heads.new pages.old pages.new) }
-    ensures uses { Uses S.tells (is_ok result) (4 - array_vec_len path.now.found)
+    ensures uses { UsesPages S.tells (is_ok result) (4 - array_vec_len path.now.found)
         (S.seen store.old) (S.seen store.new) pages.old pages.new }
     ensures stays { OnErr result (heads.new ≡ heads.old) }
     ensures refused { IfErr result (IsTakeFault (S.seen store.old).faults (S.seen store.new).faults

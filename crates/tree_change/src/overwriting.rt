@@ -8,12 +8,12 @@ ghost use Rattle.file_blocks.specs.Block.{block_of};
 ghost use Rattle.outside.specs.Count.{Rose};
 ghost use Rattle.quota_pages.specs.Page.{HasRoomFor, is_buffered, is_lent, lent_count};
 ghost use Rattle.quota_pages.specs.Pages.{pages_of};
-ghost use Rattle.quota_pages.specs.Used.{LooksAtSome, Uses};
+ghost use Rattle.quota_pages.specs.Used.{LooksAtSome, UsesPages};
 ghost use Rattle.quota_radix.specs.Descent.{leaf_block};
 ghost use Rattle.free_chains.specs.declared.heads.Heads.{Heads};
 ghost use Rattle.tree_meaning.specs.EntryRecords.{record_by};
 ghost use Rattle.tree_meaning.specs.TreeFile.{record_in};
-ghost use Rattle.tree_steps.specs.EntrySteps.{RewritesEntry};
+ghost use Rattle.block_changes.specs.EntryChanges.{RewritesEntry};
 ghost use Rattle.tree_change.specs.ChangeFault.{IsStepFault};
 ghost use Rattle.tree_change.specs.Overwrites.{OverwritesEachTree};
 ghost use Rattle.tree_change.specs.Put.{PutsOver};
@@ -120,7 +120,7 @@ pub fn overwrite_record<S: Store>(
     requires room { length (pages_of pages.old) < 12 }
     ensures overwritten { OnOk result (OfChange S.tells (S.seen store.old) (S.seen store.new) pages.old pages.new
         (λ before after. OverwritesEachTree block id rec.now format before after)) }
-    ensures uses { Uses S.tells (is_ok result) 1 (S.seen store.old) (S.seen store.new) pages.old pages.new }
+    ensures uses { UsesPages S.tells (is_ok result) 1 (S.seen store.old) (S.seen store.new) pages.old pages.new }
     ensures lends { lent_count (pages_of pages.new) ≤ lent_count (pages_of pages.old) + 1 }
     ensures header { OnOk result (block ≢ 0 → is_lent (pages_of pages.new) 0 ≡ is_lent (pages_of pages.old) 0) }
     ensures refused { IfErr result (IsStepFault (S.seen store.old).faults (S.seen store.new).faults

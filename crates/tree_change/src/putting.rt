@@ -7,11 +7,11 @@ ghost use Rattle.quota_types.specs.Format.{IsTreeFormat};
 ghost use Rattle.quota_types.specs.Kept.{IsKept};
 ghost use Rattle.quota_pages.specs.Page.{lent_count};
 ghost use Rattle.quota_pages.specs.Pages.{pages_of};
-ghost use Rattle.quota_pages.specs.Used.{IsKnown, Uses, shown_over};
+ghost use Rattle.quota_pages.specs.Used.{IsKnown, UsesPages, shown_over};
 ghost use Rattle.quota_radix.specs.Link.{AreBuffered};
 ghost use Rattle.tree_change.specs.ChangeFault.{IfFull};
 ghost use Rattle.tree_change.specs.Enters.{EntersEachTree};
-ghost use Rattle.tree_change.specs.Putting.{EndsEarly, IsEnterFault, IsPutFault, IsPutInFault, PutsInEachTree, PutsOverOne, TakesWithin};
+ghost use Rattle.tree_change.specs.Putting.{WayEndsEarly, IsEnterFault, IsPutFault, IsPutInFault, PutsInEachTree, PutsOverOne, TakesWithin};
 ghost use Rattle.tree_change.specs.BlocksWanted.{data_wanted};
 ghost use Rattle.tree_change.specs.Shows.{OfChange, OfEachTree};
 
@@ -56,7 +56,7 @@ fn enter_data<S: Store>(
     ensures entered { IfOk result (λ block. OfChange S.tells (S.seen store.old) (S.seen store.new) pages.old pages.new
         (λ before after. EntersEachTree block id rec.now (data_wanted heads.old) format before after heads.old heads.new)) }
     ensures takes { OnOk result (TakesWithin limit ⊤ heads.old heads.new pages.old pages.new) }
-    ensures uses { Uses S.tells (is_ok result) (4 - data_wanted heads.old)
+    ensures uses { UsesPages S.tells (is_ok result) (4 - data_wanted heads.old)
         (S.seen store.old) (S.seen store.new) pages.old pages.new }
     ensures stays { OnErr result (heads.new ≡ heads.old) }
     ensures refused { IfErr result (IsEnterFault (S.seen store.old).faults (S.seen store.new).faults
@@ -94,20 +94,20 @@ fn put_new<S: Store>(
     requires few { array_vec_len path.now.found ≤ 4 }
     requires brought { AreBuffered (pages_of pages.old) path.now.found.items }
     requires room { length (pages_of pages.old) + (2 * (4 - array_vec_len path.now.found) + 4) ≤ 12 }
-    ensures put { OnOk result (EndsEarly (shown_over (S.seen store.old) pages.old) heads.old.blocks id path.now.found.items
+    ensures put { OnOk result (WayEndsEarly (shown_over (S.seen store.old) pages.old) heads.old.blocks id path.now.found.items
         → OfChange S.tells (S.seen store.old) (S.seen store.new) pages.old pages.new
         (λ before after. PutsInEachTree id rec.now format before after heads.old heads.new)) }
     ensures takes { OnOk result (TakesWithin limit
         (slice_index path.now.found.items (array_vec_len path.now.found - 1) ≢ 0) heads.old heads.new pages.old pages.new) }
-    ensures uses { Uses S.tells (is_ok result) (2 * (4 - array_vec_len path.now.found) + 4)
+    ensures uses { UsesPages S.tells (is_ok result) (2 * (4 - array_vec_len path.now.found) + 4)
         (S.seen store.old) (S.seen store.new) pages.old pages.new }
     ensures stays { OnErr result (heads.new ≡ heads.old) }
     ensures refused { IfErr result (IsPutFault (S.seen store.old).faults (S.seen store.new).faults
         (IsKnown S.tells (S.seen store.old) pages.old
-        × EndsEarly (shown_over (S.seen store.old) pages.old) heads.old.blocks id path.now.found.items)
+        × WayEndsEarly (shown_over (S.seen store.old) pages.old) heads.old.blocks id path.now.found.items)
         format (shown_over (S.seen store.old) pages.old) heads.old limit
         ((4 - array_vec_len path.now.found) + data_wanted heads.old)) }
-    ensures full { IfErr result (IfFull (EndsEarly (shown_over (S.seen store.old) pages.old) heads.old.blocks id path.now.found.items
+    ensures full { IfErr result (IfFull (WayEndsEarly (shown_over (S.seen store.old) pages.old) heads.old.blocks id path.now.found.items
         → OfEachTree S.tells format (S.seen store.old) pages.old heads.old (λ _ _.
         lent_count (pages_of pages.new) ≡ lent_count (pages_of pages.old)))) }
     ensures commits { S.commits [] store.old store.new }
@@ -150,7 +150,7 @@ pub fn put_in<S: Store>(
         (λ before after. PutsInEachTree id rec.now format before after heads.old heads.new)) }
     ensures takes { OnOk result (TakesWithin limit (IsKnown S.tells (S.seen store.old) pages.old)
         heads.old heads.new pages.old pages.new) }
-    ensures uses { Uses S.tells (is_ok result) 11 (S.seen store.old) (S.seen store.new) pages.old pages.new }
+    ensures uses { UsesPages S.tells (is_ok result) 11 (S.seen store.old) (S.seen store.new) pages.old pages.new }
     ensures stays { OnErr result (heads.new ≡ heads.old) }
     ensures refused { IfErr result (IsPutInFault (S.seen store.old).faults (S.seen store.new).faults
         (IsKnown S.tells (S.seen store.old) pages.old) format (shown_over (S.seen store.old) pages.old) heads.old limit id) }

@@ -7,7 +7,7 @@ ghost use Rattle.quota_types.specs.Format.{IsTreeFormat};
 ghost use Rattle.quota_types.specs.Kept.{IsKept};
 ghost use Rattle.quota_pages.specs.Page.{is_lent, lent_count};
 ghost use Rattle.quota_pages.specs.Pages.{pages_of};
-ghost use Rattle.quota_pages.specs.Used.{IsKnown, Uses, shown_over};
+ghost use Rattle.quota_pages.specs.Used.{IsKnown, UsesPages, shown_over};
 ghost use Rattle.tree_meaning.specs.TreeHeads.{heads_of};
 ghost use Rattle.tree_change.specs.ChangeFault.{IfFull, IsChangeFault};
 ghost use Rattle.tree_change.specs.HeaderHeads.{HasHeads};
@@ -62,7 +62,7 @@ pub fn put_record<S: Store>(
         (heads_of (header_of (shown_over (S.seen store.old) pages.old))) id))) }
     ensures full { IfErr result (IfFull (OfEachValue S.tells (S.seen store.old) pages.old header.now (λ _.
         lent_count (pages_of pages.new) ≡ 0))) }
-    ensures uses { Uses S.tells (is_ok result) 12 (S.seen store.old) (S.seen store.new) pages.old pages.new }
+    ensures uses { UsesPages S.tells (is_ok result) 12 (S.seen store.old) (S.seen store.new) pages.old pages.new }
     ensures commits { S.commits [] store.old store.new }
 {
     let mut heads = heads_in(header);

@@ -6,7 +6,7 @@ ghost use Rattle.arrayvec.specs.ArrayVec.{array_vec_len};
 ghost use Rattle.quota_types.specs.Format.{IsTreeFormat};
 ghost use Rattle.quota_pages.specs.Page.{lent_count};
 ghost use Rattle.quota_pages.specs.Pages.{pages_of};
-ghost use Rattle.quota_pages.specs.Used.{LooksAtSome, Uses, shown_over};
+ghost use Rattle.quota_pages.specs.Used.{LooksAtSome, UsesPages, shown_over};
 ghost use Rattle.quota_radix.specs.Link.{AreBuffered};
 ghost use Rattle.quota_radix.specs.OnWay.{blocks_on_way};
 ghost use Rattle.tree_change.specs.Beside.{LendsBeside, LendsForRemoval};
@@ -48,7 +48,7 @@ fn take_out<S: Store>(
     ensures blocks { OnOk result (heads.new.blocks ≡ heads.old.blocks) }
     ensures beside { OnOk result (LendsBeside (take 4 path.now.found.items) (slice_index path.now.found.items 4) heads.old.first S.tells 4
         (S.seen store.old) (S.seen store.new) pages.old pages.new) }
-    ensures uses { Uses S.tells (is_ok result) 4 (S.seen store.old) (S.seen store.new) pages.old pages.new }
+    ensures uses { UsesPages S.tells (is_ok result) 4 (S.seen store.old) (S.seen store.new) pages.old pages.new }
     ensures stays { OnErr result (heads.new ≡ heads.old) }
     ensures refused { IfErr result (IsChangeFault (S.seen store.old).faults (S.seen store.new).faults
         (OfShown S.tells (S.seen store.old) pages.old (λ file. HasNoWay format path.now.found.items id file heads.old))
@@ -87,7 +87,7 @@ fn remove_found<S: Store>(
     ensures blocks { IfOk result (λ heads. heads.blocks ≡ header.now.blocks) }
     ensures beside { OnOk result (LendsBeside (0 ∷ take 4 path.now.found.items) (slice_index path.now.found.items 4) header.now.first S.tells 5
         (S.seen store.old) (S.seen store.new) pages.old pages.new) }
-    ensures uses { Uses S.tells (is_ok result) 5 (S.seen store.old) (S.seen store.new) pages.old pages.new }
+    ensures uses { UsesPages S.tells (is_ok result) 5 (S.seen store.old) (S.seen store.new) pages.old pages.new }
     ensures refused { IfErr result (IsChangeFault (S.seen store.old).faults (S.seen store.new).faults
         (path.now.found.items ≡ blocks_on_way (shown_over (S.seen store.old) pages.old) header.now.blocks id
         → OfEachValue S.tells (S.seen store.old) pages.old header.now (λ _. ⊥)) (λ _ _. ⊥)) }
@@ -131,7 +131,7 @@ pub fn remove_record<S: Store>(
         → LooksAtSome S.tells true 12 (S.seen store.old) (S.seen store.new) pages.old pages.new) }
     ensures refused { IfErr result (IsChangeFault (S.seen store.old).faults (S.seen store.new).faults
         (OfEachValue S.tells (S.seen store.old) pages.old header.now (λ _. ⊥)) (λ _ _. ⊥)) }
-    ensures uses { Uses S.tells (is_ok result) 12 (S.seen store.old) (S.seen store.new) pages.old pages.new }
+    ensures uses { UsesPages S.tells (is_ok result) 12 (S.seen store.old) (S.seen store.new) pages.old pages.new }
     ensures commits { S.commits [] store.old store.new }
 {
     let path = find_path(pages, store, header.blocks, id)?;

@@ -5,7 +5,7 @@ ghost use Rattle.quota_types.specs.Format.{IsTreeFormat};
 ghost use Rattle.quota_types.specs.declared.file_kind.Format.{Format as QuotaFormat};
 ghost use Rattle.quota_pages.specs.Page.{is_buffered};
 ghost use Rattle.quota_pages.specs.Pages.{pages_of};
-ghost use Rattle.quota_pages.specs.Used.{Uses};
+ghost use Rattle.quota_pages.specs.Used.{UsesPages};
 ghost use Rattle.tree_change.specs.Beside.{LendsBeside};
 ghost use Rattle.tree_change.specs.ChangeFault.{IsStepFault};
 ghost use Rattle.tree_change.specs.Removes.{AwaitsInNoTree, EntersTree, GivesTree, IsNoTreeMisplacing, IsNoTreeOf, LeavesTree, RemovesEntry};
@@ -36,7 +36,7 @@ fn leave_list<S: Store>(
     ensures free { OnOk result (heads.new.free ≡ heads.old.free) }
     ensures beside { OnOk result (LendsBeside [] block heads.old.first S.tells 3
         (S.seen store.old) (S.seen store.new) pages.old pages.new) }
-    ensures uses { Uses S.tells (is_ok result) 3 (S.seen store.old) (S.seen store.new) pages.old pages.new }
+    ensures uses { UsesPages S.tells (is_ok result) 3 (S.seen store.old) (S.seen store.new) pages.old pages.new }
     ensures stays { OnErr result (heads.new ≡ heads.old) }
     ensures refused { IfErr result (IsStepFault (S.seen store.old).faults (S.seen store.new).faults
         (OfShown S.tells (S.seen store.old) pages.old (λ file. (format : QuotaFormat)
@@ -64,7 +64,7 @@ fn enter_list<S: Store>(
     ensures blocks { OnOk result (heads.new.blocks ≡ heads.old.blocks) }
     ensures beside { OnOk result (LendsBeside [] block heads.old.first S.tells 2
         (S.seen store.old) (S.seen store.new) pages.old pages.new) }
-    ensures uses { Uses S.tells (is_ok result) 2 (S.seen store.old) (S.seen store.new) pages.old pages.new }
+    ensures uses { UsesPages S.tells (is_ok result) 2 (S.seen store.old) (S.seen store.new) pages.old pages.new }
     ensures stays { OnErr result (heads.new ≡ heads.old) }
     ensures refused { IfErr result (IsStepFault (S.seen store.old).faults (S.seen store.new).faults
         (OfShown S.tells (S.seen store.old) pages.old (λ file. (format : QuotaFormat)
@@ -94,7 +94,7 @@ fn give_up<S: Store>(
     ensures blocks { OnOk result (heads.new.blocks ≡ heads.old.blocks) }
     ensures beside { OnOk result (LendsBeside [] block heads.old.first S.tells 3
         (S.seen store.old) (S.seen store.new) pages.old pages.new) }
-    ensures uses { Uses S.tells (is_ok result) 3 (S.seen store.old) (S.seen store.new) pages.old pages.new }
+    ensures uses { UsesPages S.tells (is_ok result) 3 (S.seen store.old) (S.seen store.new) pages.old pages.new }
     ensures stays { OnErr result (heads.new ≡ heads.old) }
     ensures refused { IfErr result (IsStepFault (S.seen store.old).faults (S.seen store.new).faults
         (OfShown S.tells (S.seen store.old) pages.old (λ file. (format : QuotaFormat)
@@ -130,7 +130,7 @@ pub fn remove_entry<S: Store>(
     ensures blocks { OnOk result (heads.new.blocks ≡ heads.old.blocks) }
     ensures beside { OnOk result (LendsBeside [] block heads.old.first S.tells 4
         (S.seen store.old) (S.seen store.new) pages.old pages.new) }
-    ensures uses { Uses S.tells (is_ok result) 4 (S.seen store.old) (S.seen store.new) pages.old pages.new }
+    ensures uses { UsesPages S.tells (is_ok result) 4 (S.seen store.old) (S.seen store.new) pages.old pages.new }
     ensures stays { OnErr result (heads.new ≡ heads.old) }
     ensures refused { IfErr result (IsStepFault (S.seen store.old).faults (S.seen store.new).faults
         (OfShown S.tells (S.seen store.old) pages.old (λ file. AwaitsInNoTree format file heads.old id block))) }

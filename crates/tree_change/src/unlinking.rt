@@ -4,7 +4,7 @@ ghost use Rattle.std.specs.Prelude.{◌≡◌, ◌+◌, ◌≤◌, length, take,
 ghost use Rattle.arrayvec.specs.ArrayVec.{array_vec_len};
 ghost use Rattle.outside.specs.Count.{Rose};
 ghost use Rattle.quota_pages.specs.Pages.{pages_of};
-ghost use Rattle.quota_pages.specs.Used.{LendsSome, Uses, missing_among};
+ghost use Rattle.quota_pages.specs.Used.{LendsSome, UsesPages, missing_among};
 ghost use Rattle.quota_radix.specs.Link.{AreBuffered};
 ghost use Rattle.tree_change.specs.Shows.{OfChange};
 ghost use Rattle.tree_change.specs.Unlinked.{GivesHeld, UnlinksLeaf};
@@ -40,7 +40,7 @@ pub fn unlink_leaf<S: Store>(
     ensures brought { OnOk result (AreBuffered (pages_of pages.new) (take 4 path.now.found.items)) }
     ensures lends { OnOk result (LendsSome S.tells true (missing_among (pages_of pages.old) (take 4 path.now.found.items))
         (take 4 path.now.found.items) (S.seen store.old) (S.seen store.new) pages.old pages.new) }
-    ensures uses { Uses S.tells (is_ok result) (missing_among (pages_of pages.old) (take 4 path.now.found.items))
+    ensures uses { UsesPages S.tells (is_ok result) (missing_among (pages_of pages.old) (take 4 path.now.found.items))
         (S.seen store.old) (S.seen store.new) pages.old pages.new }
     ensures stays { OnErr result (heads.new ≡ heads.old) }
     ensures cause { OnErr result (Rose (S.seen store.old).faults (S.seen store.new).faults) }
@@ -67,7 +67,7 @@ pub(crate) fn give_all<S: Store>(
     ensures blocks { heads.new.blocks ≡ heads.old.blocks }
     ensures first { heads.new.first ≡ heads.old.first }
     ensures lends { OnOk result (LendsSome S.tells true 0 given.now (S.seen store.old) (S.seen store.new) pages.old pages.new) }
-    ensures uses { Uses S.tells (is_ok result) 0 (S.seen store.old) (S.seen store.new) pages.old pages.new }
+    ensures uses { UsesPages S.tells (is_ok result) 0 (S.seen store.old) (S.seen store.new) pages.old pages.new }
     ensures stays { OnErr result (heads.new ≡ heads.old) }
     ensures cause { OnErr result (Rose (S.seen store.old).faults (S.seen store.new).faults) }
     ensures commits { S.commits [] store.old store.new }

@@ -9,7 +9,7 @@ ghost use Rattle.outside.specs.Count.{Rose};
 ghost use Rattle.quota_pages.specs.Page.{HasRoomFor, is_buffered};
 ghost use Rattle.quota_pages.specs.Pages.{pages_of};
 ghost use Rattle.tree_meaning.specs.Entries.{entry_bytes, has_unused};
-ghost use Rattle.tree_steps.specs.EntrySteps.{WritesEntry};
+ghost use Rattle.block_changes.specs.EntryChanges.{WritesEntry};
 ghost use Rattle.tree_change.specs.Put.{PutsCounted};
 ghost use Rattle.tree_change.specs.Shows.{LendsOne, LooksAtOne, OfChange};
 

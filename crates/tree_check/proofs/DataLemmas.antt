@@ -6,7 +6,7 @@ use Rattle.std.proofs.lemmas.List.{drop_more, get_or-map, length-map, map-append
 use Rattle.std.proofs.lemmas.List.Elements.{filter-append}
 use Rattle.std.specs.List.{last_or, range_with_len}
 use Rattle.quota_types.specs.declared.file_kind.Format.{Format}
-use Rattle.free_chains.specs.declared.link.Link.{Link}
+use Rattle.free_chains.specs.declared.chain_link.ChainLink.{ChainLink}
 use Rattle.file_blocks.specs.Block.{block_of}
 use Rattle.file_blocks.specs.BlockSet.{AreFlagsOf}
 use Rattle.tree_meaning.specs.Compared.{HasEntriesOf, leading_ids, is_room, rooms}
@@ -44,34 +44,34 @@ map-take f [] (suc i) = refl
 map-take f (x ∷ xs) (suc i) = ap (λ (ns : List ℕ). f x ∷ ns) (map-take f xs i)
 
 -- a link that does not name the block before it
-pub names_other : (links : List Link) (i : ℕ) (d : Link) (before : ℕ) → i < length links → before ≡ get_or (0 ∷ linked_blocks links) i 0
+pub names_other : (links : List ChainLink) (i : ℕ) (d : ChainLink) (before : ℕ) → i < length links → before ≡ get_or (0 ∷ linked_blocks links) i 0
     → (get_or links i d).previous ≢ before → NamesOther (linked_blocks links) (previous_in links) (get_or links i d).block
 names_other links i d before low is other =
     let front : List ℕ = linked_blocks (take i links) in
-    let long : length front ≡ i = length-map (take i links) (λ (l : Link). l.block) ∙ length-take-le i links (omega arith) in
+    let long : length front ≡ i = length-map (take i links) (λ (l : ChainLink). l.block) ∙ length-take-le i links (omega arith) in
     record {
       before = front;
       behind = linked_blocks (drop (i + 1) links);
-      split = ap linked_blocks (sym (take-append-drop i links)) ∙ map-append (λ (l : Link). l.block) (take i links) (drop i links)
-          ∙ ap (λ (ls : List Link). front ++ linked_blocks ls) (drop_more links i d low);
+      split = ap linked_blocks (sym (take-append-drop i links)) ∙ map-append (λ (l : ChainLink). l.block) (take i links) (drop i links)
+          ∙ ap (λ (ls : List ChainLink). front ++ linked_blocks ls) (drop_more links i d low);
       other = λ e. other (
-          sym (get_or-map (λ (l : Link). l.previous) links i d 0 low) ∙ ap (λ (n : ℕ). get_or (previous_in links) n 0) (sym long) ∙ e
-          ∙ ap (λ (ns : List ℕ). unwrap_or (last_or (Some 0) ns) 0) (map-take (λ (l : Link). l.block) links i)
-          ∙ last_before 0 (linked_blocks links) i (omega (arith, length-map links (λ (l : Link). l.block))) ∙ sym is);
+          sym (get_or-map (λ (l : ChainLink). l.previous) links i d 0 low) ∙ ap (λ (n : ℕ). get_or (previous_in links) n 0) (sym long) ∙ e
+          ∙ ap (λ (ns : List ℕ). unwrap_or (last_or (Some 0) ns) 0) (map-take (λ (l : ChainLink). l.block) links i)
+          ∙ last_before 0 (linked_blocks links) i (omega (arith, length-map links (λ (l : ChainLink). l.block))) ∙ sym is);
     }
 
 -- one more link that names the block before it
-pub in_order_more : (links : List Link) (i : ℕ) (d : Link) (before : ℕ) → i < length links → before ≡ get_or (0 ∷ linked_blocks links) i 0 → (get_or links i d).previous ≡ before
+pub in_order_more : (links : List ChainLink) (i : ℕ) (d : ChainLink) (before : ℕ) → i < length links → before ≡ get_or (0 ∷ linked_blocks links) i 0 → (get_or links i d).previous ≡ before
     → previous_in (take i links) ≡ take i (0 ∷ linked_blocks links) → previous_in (take (i + 1) links) ≡ take (i + 1) (0 ∷ linked_blocks links)
 in_order_more links i d before low is same so_far =
-    map_more (λ (l : Link). l.previous) links i d low
+    map_more (λ (l : ChainLink). l.previous) links i d low
     ∙ ap (λ (ns : List ℕ). ns ++ (get_or links i d).previous ∷ []) so_far
     ∙ ap (λ (n : ℕ). take i (0 ∷ linked_blocks links) ++ n ∷ []) (same ∙ is)
-    ∙ sym (take_more (0 ∷ linked_blocks links) i 0 (omega (arith, length-map links (λ (l : Link). l.block))))
+    ∙ sym (take_more (0 ∷ linked_blocks links) i 0 (omega (arith, length-map links (λ (l : ChainLink). l.block))))
 
 -- the block behind which the list goes on
-pub before_more : (links : List Link) (i : ℕ) (d : Link) → i < length links → (get_or links i d).block ≡ get_or (0 ∷ linked_blocks links) (i + 1) 0
-before_more links i d low = rw add-one (sym (get_or-map (λ (l : Link). l.block) links i d 0 low))
+pub before_more : (links : List ChainLink) (i : ℕ) (d : ChainLink) → i < length links → (get_or links i d).block ≡ get_or (0 ∷ linked_blocks links) (i + 1) 0
+before_more links i d low = rw add-one (sym (get_or-map (λ (l : ChainLink). l.block) links i d 0 low))
 
 -- the data blocks with room before a block do not have it
 pub not_before : (test : ℕ → Bool) (block : ℕ) → times (filter test (range_with_len 0 block)) block ≡ 0

@@ -11,7 +11,7 @@ use Rattle.quota_types.specs.declared.damage.DamageKind.TheVariants.{BadCount, B
 use Rattle.quota_types.specs.declared.file_kind.Format.{Format}
 use Rattle.file_blocks.specs.declared.check_fault.CheckFault.{CheckFault}
 use Rattle.file_blocks.specs.declared.check_fault.CheckFault.TheVariants.{Store, Damage as Damaged, Memory}
-use Rattle.free_chains.specs.declared.link.Link.{Link}
+use Rattle.free_chains.specs.declared.chain_link.ChainLink.{ChainLink}
 use Rattle.quota_radix.specs.declared.tree_path.TreePath.{TreePath}
 use Rattle.file_blocks.specs.Block.{block_of, previous_of, bytes_of, leads}
 use Rattle.free_chains.specs.Chain.{IsChain}
@@ -88,7 +88,7 @@ times_rooms format file blocks groups block are = elim (cases_lt block blocks) [
       ]
 ]
 
-pub chained : (format : Format) (file : List ℕ) (blocks first : ℕ) (groups : List (List ℕ)) (links : List Link) → AreGroupsOf blocks (leaves file blocks) groups
+pub chained : (format : Format) (file : List ℕ) (blocks first : ℕ) (groups : List (List ℕ)) (links : List ChainLink) → AreGroupsOf blocks (leaves file blocks) groups
     → IsChain file blocks first (linked_blocks links) 0 → AreLinksTo file first links 0
     → AreListed (rooms format file groups blocks) (linked_blocks links) (previous_in links) → Chained nothing_loose format file blocks first
 chained format file blocks first groups links are is_chain linked listed = record {
@@ -214,7 +214,7 @@ list_defect_of format file numbers groups chain previous block id StrayEntry are
 list_defect_of format file numbers groups chain previous block id DoubleEntry are is_chain e no_id is = absurd is
 list_defect_of format file numbers groups chain previous block id PartialRecord are is_chain e no_id is = absurd is
 
-pub list_defect : (format : Format) (file : List ℕ) (numbers : HeaderNumbers) (blocks first : ℕ) (groups : List (List ℕ)) (links : List Link) (damage : Damage)
+pub list_defect : (format : Format) (file : List ℕ) (numbers : HeaderNumbers) (blocks first : ℕ) (groups : List (List ℕ)) (links : List ChainLink) (damage : Damage)
     → numbers.blocks ≡ blocks → numbers.first ≡ first
     → AreGroupsOf blocks (leaves file blocks) groups → IsChain file blocks first (linked_blocks links) 0 → AreLinksTo file first links 0
     → IsListDefect (rooms format file groups blocks) (linked_blocks links) (previous_in links) damage → IsTreeDefect format file numbers damage

@@ -4,7 +4,7 @@ use Rattle.std.proofs.lemmas.List.{length-map, take-append-drop}
 use Rattle.std.proofs.lemmas.List.Sums.{length-filter, sum_by-append, sum_by-cons}
 use Rattle.std.proofs.lemmas.List.Filters.{length-filter_more}
 use Rattle.std.specs.List.{count_by, range_with_len}
-use Rattle.free_chains.specs.declared.link.Link.{Link}
+use Rattle.free_chains.specs.declared.chain_link.ChainLink.{ChainLink}
 use Rattle.quota_radix.specs.declared.tree_path.TreePath.{TreePath}
 use Rattle.file_blocks.specs.BlockSet.{AreFlagsOf}
 use Rattle.quota_types.specs.Times.{times}
@@ -52,7 +52,7 @@ led_named blocks leaves groups are =
     ap led_blocks are ∙ led_from leaves 0 blocks ∙ sym (length-filter (λ (block : ℕ). nat_le 1 (times (blocks_of leaves) block)) (range_with_len 0 blocks))
 
 -- the blocks that were read for their roles, and the data blocks, which are not read yet, are no more than there are
-pub roles_few : (blocks : ℕ) (found flags : List Bool) (leaves : List TreePath) (groups : List (List ℕ)) (links : List Link) (before between now : ℕ)
+pub roles_few : (blocks : ℕ) (found flags : List Bool) (leaves : List TreePath) (groups : List (List ℕ)) (links : List ChainLink) (before between now : ℕ)
     → (so_far : AreMarkedReads blocks found (0 ∷ []) before between) → now ≤ between + length links → AreGroupsOf blocks leaves groups
     → AreFlagsOf blocks flags ((((0 ∷ []) ++ so_far.more) ++ named_blocks blocks leaves) ++ linked_blocks links)
     → now + led_blocks groups ≤ before + blocks
@@ -66,5 +66,5 @@ roles_few blocks found flags leaves groups links before between now so_far few a
       marked_fit blocks flags ((tree ++ named_blocks blocks leaves) ++ linked_blocks links) marked,
       length-append (tree ++ named_blocks blocks leaves) (linked_blocks links),
       length-append tree (named_blocks blocks leaves),
-      length-map links (λ (link : Link). link.block),
+      length-map links (λ (link : ChainLink). link.block),
     )

@@ -8,7 +8,7 @@ use Rattle.quota_types.specs.declared.damage.DamageKind.TheVariants.{BadCount, B
 use Rattle.quota_types.specs.declared.file_kind.Format.{Format}
 use Rattle.file_blocks.specs.declared.check_fault.CheckFault.{CheckFault}
 use Rattle.file_blocks.specs.declared.check_fault.CheckFault.TheVariants.{Store, Damage as Damaged, Memory}
-use Rattle.free_chains.specs.declared.link.Link.{Link}
+use Rattle.free_chains.specs.declared.chain_link.ChainLink.{ChainLink}
 use Rattle.quota_radix.specs.declared.tree_path.TreePath.{TreePath}
 use Rattle.file_blocks.specs.BlockSet.{AreFlagsOf}
 use Rattle.free_chains.specs.Chain.{IsChain}
@@ -201,16 +201,16 @@ data_marked_refused tells file blocks free_head flags found groups damage are is
     (is (leaves file blocks) (0 ∷ tree_blocks file blocks) (subst (λ (ps : List TreePath). AreGroupsOf blocks ps groups) (are.are_leaves told) are.groups) (are.marked told))
 
 -- what follows of the blocks of a list once they are marked, or are not
-pub links_marked : (R : ℕ → List ℕ → Type 0) (blocks : ℕ) (flags : List Bool) (numbers : List ℕ) (links given : List Link) → given ≡ links
+pub links_marked : (R : ℕ → List ℕ → Type 0) (blocks : ℕ) (flags : List Bool) (numbers : List ℕ) (links given : List ChainLink) → given ≡ links
     → ((n : ℕ) → StandsIn (linked_blocks links) n → IsTrue (leads blocks n)) → AreFlagsOf blocks flags numbers
     → ((all : ℕ) (ns : List ℕ) → AreFlagsOf all flags ns → ((n : ℕ) → StandsIn (linked_blocks given) n → n < all) → R all (ns ++ linked_blocks given))
     → R blocks (numbers ++ linked_blocks links)
 links_marked R blocks flags numbers links given same inside are marks =
-    subst (λ (ls : List Link). R blocks (numbers ++ linked_blocks ls)) same
-    (marks blocks numbers are (λ n stands. (leads_within blocks n (inside n (subst (λ (ls : List Link). StandsIn (linked_blocks ls) n) same stands))).1))
+    subst (λ (ls : List ChainLink). R blocks (numbers ++ linked_blocks ls)) same
+    (marks blocks numbers are (λ n stands. (leads_within blocks n (inside n (subst (λ (ls : List ChainLink). StandsIn (linked_blocks ls) n) same stands))).1))
 
 -- what follows of all roles once the data blocks and the blocks of the free list are marked, or are not
-pub roles_marked : (R : ℕ → List ℕ → Type 0) (tells : Bool) (file : List ℕ) (blocks : ℕ) (flags now : List Bool) (found : List TreePath) (groups : List (List ℕ)) (links given : List Link)
+pub roles_marked : (R : ℕ → List ℕ → Type 0) (tells : Bool) (file : List ℕ) (blocks : ℕ) (flags now : List Bool) (found : List TreePath) (groups : List (List ℕ)) (links given : List ChainLink)
     → AreFound tells file blocks flags found groups → IsTrue tells
     → ((led : List TreePath) (numbers : List ℕ) → AreGroupsOf blocks led groups → AreFlagsOf blocks flags numbers → AreFlagsOf blocks now (numbers ++ named_blocks blocks led))
     → given ≡ links → ((n : ℕ) → StandsIn (linked_blocks links) n → IsTrue (leads blocks n))

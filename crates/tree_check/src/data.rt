@@ -16,7 +16,7 @@ ghost use Rattle.free_chains.specs.Walk.{IsWalk, linked_blocks, previous_in};
 use crate::block_check::check_block;
 use crate::groups::{list_numbers, part};
 use file_blocks::{BLOCK, BlockSet, CheckFault};
-use free_chains::{Link, Walk};
+use free_chains::{ChainLink, Walk};
 use outside::Store;
 use quota_radix::TreePath;
 use quota_types::{Damage, DamageKind, Format, damage_at};
@@ -105,7 +105,7 @@ fn check_group<S: Store>(
 }
 
 /// The first block of a list that a set does not have.
-fn first_foreign(links: &[Link], room: &BlockSet) -> Option<u32>
+fn first_foreign(links: &[ChainLink], room: &BlockSet) -> Option<u32>
     ensures { (blocks : ℕ) → (numbers : List ℕ) → AreFlagsOf blocks room.now.flags.items numbers
         → ((number : ℕ) → StandsIn (linked_blocks links.now) number → number < blocks)
         → MatchOption result ((number : ℕ) → StandsIn (linked_blocks links.now) number → StandsIn numbers number)
@@ -120,7 +120,7 @@ fn first_foreign(links: &[Link], room: &BlockSet) -> Option<u32>
 }
 
 /// The first block of a list that does not name the block before it, or 0 where it is the first.
-fn first_bad_previous(links: &[Link]) -> Option<u32>
+fn first_bad_previous(links: &[ChainLink]) -> Option<u32>
     ensures { MatchOption result
         (previous_in links.now ≡ take (length (linked_blocks links.now)) (0 ∷ linked_blocks links.now))
         (NamesOther (linked_blocks links.now) (previous_in links.now)) }

@@ -6,11 +6,11 @@ ghost use Rattle.quota_radix.specs.Levels.{IsSecondRole};
 ghost use Rattle.free_chains.specs.Walk.{linked_blocks};
 
 use file_blocks::BlockSet;
-use free_chains::Link;
+use free_chains::ChainLink;
 use quota_types::{Damage, DamageKind, damage_at};
 
 /// Adds the blocks of a list to a set, each of which is to be new.
-pub(crate) fn mark_links(met: &mut BlockSet, links: &[Link]) -> Result<(), Damage>
+pub(crate) fn mark_links(met: &mut BlockSet, links: &[ChainLink]) -> Result<(), Damage>
     ensures marked { OnOk result ((blocks : ℕ) → (numbers : List ℕ) → AreFlagsOf blocks met.old.flags.items numbers
         → ((number : ℕ) → StandsIn (linked_blocks links.now) number → number < blocks)
         → AreFlagsOf blocks met.new.flags.items (numbers ++ linked_blocks links.now)) }

@@ -2,7 +2,7 @@
 use Rattle.std.proofs.Common.{◌≡◌, ℕ, ◌*◌, ◌^◌, ◌-◌, ◌<◌, ◌≤◌, false, List, length, refl, sym, ap, subst, ◌∙◌, arith}
 use Rattle.std.specs.Prelude.{is_none, max}
 use Rattle.std.specs.FinMap.{get}
-use Rattle.quota_types.specs.Span.{KeepsOutside}
+use Rattle.quota_types.specs.KeptBytes.{KeepsOutside}
 use Rattle.quota_types.specs.Times.{StandsIn}
 use Rattle.quota_types.specs.declared.record.Rec.{Rec}
 use Rattle.opened_file.specs.FileChange.{Put, Remove}

@@ -10,7 +10,7 @@ use Rattle.outside.proofs.WorldLemmas.{KeepsOthers-with_file, with_file-at}
 use Rattle.quota_pages.specs.Flushed.{IsPartlyFlushed, flushed_files}
 use Rattle.quota_pages.specs.Page.{Page, is_some_lent, shown}
 use Rattle.quota_pages.specs.Pages.{name_of, pages_of}
-use Rattle.quota_pages.specs.Used.{IsKnown, Uses, shown_over}
+use Rattle.quota_pages.specs.Used.{IsKnown, UsesPages, shown_over}
 use Rattle.quota_pages.specs.declared.page_buffer.Pages.{Pages}
 use Rattle.quota_pages.proofs.FlushLemmas.{bytes_flushed}
 use Rattle.entry_codec.specs.Header.{header_of}
@@ -44,7 +44,7 @@ there_flushed files name pages there = elim (cases_Bool (is_some_lent pages)) [
   | inr none ↦ subst IsSome (sym (ap (λ (f : World). f name) (flushed_not files name pages none))) there
 ]
 
-module _ (tells ok : Bool) (count : ℕ) (before between : StoreSeen) (old lent : Pages) (empty : pages_of old ≡ []) (uses : Uses tells ok count before between old lent) where
+module _ (tells ok : Bool) (count : ℕ) (before between : StoreSeen) (old lent : Pages) (empty : pages_of old ≡ []) (uses : UsesPages tells ok count before between old lent) where
   abbrev made : World
   made = flushed_files before.files (name_of old) (pages_of lent)
 

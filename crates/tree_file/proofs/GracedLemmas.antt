@@ -5,7 +5,7 @@ use Rattle.std.proofs.lemmas.List.{ext_get_or}
 use Rattle.quota_types.specs.Bytes.{byte_at, number_at}
 use Rattle.quota_types.specs.declared.record.Grace.{Grace}
 use Rattle.quota_value.specs.QuotaValue.{QuotaValue, with_grace}
-use Rattle.quota_types.specs.Span.{KeepsOutside}
+use Rattle.quota_types.specs.KeptBytes.{KeepsOutside}
 use Rattle.entry_codec.specs.declared.header.Header.{Header}
 use Rattle.entry_codec.specs.Header.{format_of, header_of}
 use Rattle.entry_codec.specs.Spelling.{AreOf}

@@ -33,7 +33,7 @@ use Rattle.tree_file.specs.Coming.{HoldsComing}
 use Rattle.tree_file.specs.Faults.{file_fault}
 use Rattle.tree_file.specs.InPlace.{ChangesTree, EndsEarly, IsLeftSo, IsNoFileOf, MayChange, WritesSo}
 use Rattle.tree_file.specs.Opened.{HoldsTree, with_heads}
-use Rattle.tree_file.specs.Room.{blocks_wanted}
+use Rattle.tree_file.specs.BlocksWanted.{blocks_wanted}
 use Rattle.tree_file.specs.TreeChange.{MakesFew, TreeChanged, TreeMakes}
 use Rattle.tree_file.specs.TreeCalls.{tree_at, tree_done_writes, tree_laws}
 use Rattle.tree_file.specs.declared.coming.Coming.{Coming}

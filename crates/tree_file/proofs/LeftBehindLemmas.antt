@@ -2,7 +2,7 @@
 use Rattle.std.proofs.Common.{◌≡◌, ℕ, ◌*◌, ◌/◌, ◌%◌, ◌≤◌, List, length, inl, inr, subst, ◌∙◌, arith}
 use Rattle.std.specs.Prelude.{max}
 use Rattle.quota_types.specs.Bytes.{byte_at}
-use Rattle.quota_types.specs.Span.{KeepsOutside}
+use Rattle.quota_types.specs.KeptBytes.{KeepsOutside}
 use Rattle.quota_types.specs.declared.record.Grace.{Grace}
 use Rattle.entry_codec.specs.Header.{header_of}
 use Rattle.tree_change.specs.Behind.{KeepsBehind}

@@ -17,7 +17,7 @@ use Rattle.tree_meaning.specs.TreeHeads.{heads_of}
 use Rattle.tree_meaning.specs.Ids.{ids_in}
 use Rattle.tree_meaning.specs.TreeFile.{TreeStandsFor}
 use Rattle.tree_file.specs.Opened.{HoldsTree}
-use Rattle.tree_file.specs.Room.{blocks_wanted}
+use Rattle.tree_file.specs.BlocksWanted.{blocks_wanted}
 use Rattle.tree_change.specs.BlocksWanted.{blocks_with}
 use Rattle.tree_file.specs.TreeCalls.{blocks_put, tree_at, tree_laws}
 use Rattle.tree_file.specs.declared.coming.Coming.{Coming}

@@ -25,7 +25,7 @@ use Rattle.tree_meaning.specs.Ids.{ids_in}
 use Rattle.tree_meaning.specs.TreeFile.{TreeStandsFor, record_in}
 use Rattle.tree_meaning.proofs.MeaningLemmas.{one_meaning}
 use Rattle.tree_meaning.proofs.ValueLemmas.{sound_value, sound_value_ids}
-use Rattle.tree_file.specs.Room.{blocks_wanted, blocks_with_new, has_no_leaf, tree_blocks_wanted}
+use Rattle.tree_file.specs.BlocksWanted.{blocks_wanted, blocks_with_new, has_no_leaf, tree_blocks_wanted}
 use Rattle.tree_change.specs.BlocksWanted.{blocks_taken, blocks_with}
 
 -- where a test passes none of some numbers, none is found

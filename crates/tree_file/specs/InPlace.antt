@@ -16,7 +16,7 @@ use Rattle.tree_meaning.specs.Ids.{ids_in}
 use Rattle.tree_meaning.specs.TreeFile.{TreeStandsFor}
 use Rattle.tree_change.specs.declared.change_fault.ChangeFault.{ChangeFault}
 use Rattle.tree_change.specs.declared.change_fault.ChangeFault.TheVariants.{Store}
-use Rattle.tree_file.specs.Room.{blocks_wanted}
+use Rattle.tree_file.specs.BlocksWanted.{blocks_wanted}
 use Rattle.tree_file.specs.TreeChange.{TreeChanged, TreeLeaves}
 
 -- A file of a value became one of the changed value, with these heads, of which there are no more blocks than it may have: those that

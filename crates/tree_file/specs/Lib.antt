@@ -5,7 +5,7 @@ pub mod InPlace
 pub mod Leaf
 pub mod Opened
 pub mod Rests
-pub mod Room
+pub mod BlocksWanted
 pub mod TreeCalls
 pub mod TreeChange
 pub mod View

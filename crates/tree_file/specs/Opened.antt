@@ -15,7 +15,7 @@ use Rattle.tree_meaning.specs.Defect.{IsTreeDefect}
 use Rattle.tree_meaning.specs.Ids.{ids_in}
 use Rattle.tree_meaning.specs.TreeFile.{TreeStandsFor}
 use Rattle.tree_file.specs.Coming.{HoldsComing}
-use Rattle.tree_file.specs.Room.{blocks_wanted}
+use Rattle.tree_file.specs.BlocksWanted.{blocks_wanted}
 use Rattle.tree_file.specs.declared.coming.Coming.{Coming}
 
 -- The store tells its files, the named file stands for the value and has no more blocks than it may have, the header that is

@@ -4,7 +4,7 @@ use Rattle.quota_types.specs.declared.record.Grace.{Grace}
 use Rattle.quota_types.specs.Bytes.{number_at}
 use Rattle.quota_types.specs.Times.{StandsIn, times}
 use Rattle.opened_file.specs.FileChange.{FileChange, Put, Remove, SetGrace}
-use Rattle.quota_types.specs.Span.{KeepsOutside}
+use Rattle.quota_types.specs.KeptBytes.{KeepsOutside}
 use Rattle.outside.specs.World.{KeepsOthers, World}
 use Rattle.file_blocks.specs.Block.{block_of, bytes_of}
 use Rattle.entry_codec.specs.Header.{header_of}

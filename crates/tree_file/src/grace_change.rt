@@ -6,7 +6,7 @@ ghost use Rattle.opened_file.specs.EditsOne.{EditsOne};
 ghost use Rattle.outside.specs.World.{KeepsOthers};
 ghost use Rattle.file_blocks.specs.Block.{file_of};
 ghost use Rattle.opened_file.specs.QuotaFile.{ChangesBlocks};
-ghost use Rattle.quota_types.specs.Span.{KeepsOutside};
+ghost use Rattle.quota_types.specs.KeptBytes.{KeepsOutside};
 ghost use Rattle.quota_pages.specs.Page.{is_lent};
 ghost use Rattle.quota_pages.specs.Pages.{name_of, pages_of};
 ghost use Rattle.quota_pages.specs.Used.{IsKnown, LendsSome, LooksAtSome, shown_over};

@@ -1,7 +1,7 @@
 //! Laws of opened tree files, and of what tree files mean.
 
 ghost use Rattle.std.specs.Prelude.{◌≡◌, ◌*◌, ◌≤◌, ℕ, Bool, List, Option, length, max};
-ghost use Rattle.quota_types.specs.Span.{KeepsOutside};
+ghost use Rattle.quota_types.specs.KeptBytes.{KeepsOutside};
 ghost use Rattle.quota_types.specs.declared.record.Grace.{Grace};
 ghost use Rattle.entry_codec.specs.Header.{header_of};
 ghost use Rattle.entry_codec.specs.declared.header.Header.{Header};

@@ -35,12 +35,12 @@ rec_of-append id [] ys = refl
 rec_of-append id (x ∷ xs) ys =
     found_or_later id (Some x) (xs ++ ys)
     ∙ ap (option_or (used_by id x)) (rec_of-append id xs ys)
-    ∙ both (used_by id x) (rec_of id xs) (rec_of id ys)
+    ∙ option_or_twice (used_by id x) (rec_of id xs) (rec_of id ys)
     ∙ sym (ap (λ (o : Option Rec). option_or o (rec_of id ys)) (found_or_later id (Some x) xs))
   where
-    both : (a b c : Option Rec) → option_or a (option_or b c) ≡ option_or (option_or a b) c
-    both None b c = refl
-    both (Some r) b c = refl
+    option_or_twice : (a b c : Option Rec) → option_or a (option_or b c) ≡ option_or (option_or a b) c
+    option_or_twice None b c = refl
+    option_or_twice (Some r) b c = refl
 
 -- an identifier that no entry has gets no record
 no_rec : (id : ℕ) (entries : List Entry) → times (ids_in entries) id ≡ 0 → rec_of id entries ≡ None

@@ -97,13 +97,13 @@ pub used_ids-entries : (format : Format) (block : List ℕ) → used_ids format 
 unfolding used_ids used_entries
 used_ids-entries format block = each (λ place. entry_bytes format block place) (range_with_len 0 (entries_per_block format))
   where
-    one : (unused : Bool) (entry : Entry) (entries : List Entry) → cond unused [] (entry.id ∷ []) ++ map (λ (entry : Entry). entry.id) entries ≡ map (λ (entry : Entry). entry.id) (cons_option (cond unused None (Some entry)) entries)
-    one true entry entries = refl
-    one false entry entries = refl
+    one_used : (unused : Bool) (entry : Entry) (entries : List Entry) → cond unused [] (entry.id ∷ []) ++ map (λ (entry : Entry). entry.id) entries ≡ map (λ (entry : Entry). entry.id) (cons_option (cond unused None (Some entry)) entries)
+    one_used true entry entries = refl
+    one_used false entry entries = refl
 
     each : (f : ℕ → List ℕ) (places : List ℕ) → flat_map (λ place. id_in format (f place)) places ≡ map (λ (entry : Entry). entry.id) (filter_map (λ place. entry_of format (f place)) places)
     each f [] = refl
     each f (place ∷ places) =
         ap (λ (ids : List ℕ). id_in format (f place) ++ ids) (each f places)
-        ∙ one (is_unused (f place)) (record { id = stored_id (f place); rec = without_marker (stored_id (f place)) (stored_record format (f place)) })
+        ∙ one_used (is_unused (f place)) (record { id = stored_id (f place); rec = without_marker (stored_id (f place)) (stored_record format (f place)) })
         (filter_map (λ place. entry_of format (f place)) places)

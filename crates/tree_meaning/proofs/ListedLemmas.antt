@@ -7,7 +7,7 @@ use Rattle.quota_types.specs.Times.{StandsIn, times}
 use Rattle.quota_types.proofs.TimesLemmas.{found_in, only_one, stands_cons, stands_either, stands_right, times-append, times-cons-other, times-cons-same}
 use Rattle.file_blocks.specs.Block.{block_of, leads, next_of, previous_of}
 use Rattle.quota_value.specs.QuotaValue.{Records}
-use Rattle.quota_types.specs.Span.{KeepsOutside}
+use Rattle.quota_types.specs.KeptBytes.{KeepsOutside}
 use Rattle.file_blocks.proofs.LeadsLemmas.{leads_within}
 use Rattle.quota_pages.specs.KeptBlocks.{KeepsBlocksBut}
 use Rattle.free_chains.specs.Chain.{IsChain}

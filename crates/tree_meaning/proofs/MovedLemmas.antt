@@ -10,7 +10,7 @@ use Rattle.quota_types.specs.Times.{StandsIn, times}
 use Rattle.quota_types.proofs.TimesLemmas.{only_one, times-append, times-filter-no, times-filter-yes, times-range-within}
 use Rattle.file_blocks.specs.Block.{block_of}
 use Rattle.quota_value.specs.QuotaValue.{Records}
-use Rattle.quota_types.specs.Span.{KeepsOutside}
+use Rattle.quota_types.specs.KeptBytes.{KeepsOutside}
 use Rattle.file_blocks.proofs.LeadsLemmas.{leads_from, leads_within}
 use Rattle.file_blocks.proofs.WordLemmas.{length-block_of, same_part}
 use Rattle.quota_types.proofs.BytesLemmas.{number_same}

@@ -67,9 +67,9 @@ unfolding leaf_records
 length-leaf_records format file [] all = refl
 length-leaf_records format file (p ∷ ps) all = ap suc (length-leaf_records format file ps all.1)
 
-both : (a b : Bool) → T a → T b → T (a && b)
-both true b p q = q
-both false b p q = p
+both_true : (a b : Bool) → T a → T b → T (a && b)
+both_true true b p q = q
+both_true false b p q = p
 
 below_records : (format : Format) (file : List ℕ) (low high : ℕ) (ps : List TreePath) (all : AllByRecursion (HasRecord format file) ps) (n : ℕ) → Rises low ps high → n < low
     → T (below_all nat_cmp n (leaf_records format file ps all))
@@ -78,7 +78,7 @@ below_records format file low high [] all n r h = tt
 below_records format file low high (p ∷ ps) all n r h =
     let from : low ≤ p.number = r.0 in
     let less : Less ≡ nat_cmp n p.number = nat_cmp_is n p.number Less (omega arith) in
-    both (is_lt (nat_cmp n p.number)) (below_all nat_cmp n (leaf_records format file ps all.1)) (subst (λ o. T (is_lt o)) less tt)
+    both_true (is_lt (nat_cmp n p.number)) (below_all nat_cmp n (leaf_records format file ps all.1)) (subst (λ o. T (is_lt o)) less tt)
     (below_records format file (suc p.number) high ps all.1 n r.1 (omega arith))
 
 sorted_records : (format : Format) (file : List ℕ) (low high : ℕ) (ps : List TreePath) (all : AllByRecursion (HasRecord format file) ps) → Rises low ps high
@@ -86,7 +86,7 @@ sorted_records : (format : Format) (file : List ℕ) (low high : ℕ) (ps : List
 unfolding leaf_records
 sorted_records format file low high [] all r = tt
 sorted_records format file low high (p ∷ ps) all r =
-    both (below_all nat_cmp p.number (leaf_records format file ps all.1)) (is_sorted nat_cmp (leaf_records format file ps all.1))
+    both_true (below_all nat_cmp p.number (leaf_records format file ps all.1)) (is_sorted nat_cmp (leaf_records format file ps all.1))
     (below_records format file (suc p.number) high ps all.1 p.number r.1 (omega arith)) (sorted_records format file (suc p.number) high ps all.1 r.1)
 
 -- the record of an identifier among those of the leaves

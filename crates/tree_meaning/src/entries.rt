@@ -20,14 +20,14 @@ use quota_types::{Damage, DamageKind, Format, Rec, damage_at};
 
 /// What the entries of a data block are used for.
 #[derive(Drop)]
-struct Used {
+struct UsedEntries {
     /// The identifiers of those that are used, in order.
     ids: ArrayVec<u32, 21>,
     /// Whether some entry is unused.
     has_unused: bool,
 }
 
-impl Used {
+impl UsedEntries {
     /// Counts an entry, by its bytes.
     fn add(&mut self, format: Format, bytes: &[u8])
         requires tree { IsTreeFormat format }
@@ -57,12 +57,12 @@ pub(crate) fn entry_bytes(format: Format, block: &[u8; 1024], place: usize) -> &
 }
 
 /// What the entries of a block are used for.
-fn read_used(format: Format, block: &[u8; 1024]) -> Used
+fn read_used(format: Format, block: &[u8; 1024]) -> UsedEntries
     requires tree { IsTreeFormat format }
     ensures ids { result.ids.items ≡ used_ids format block.now }
     ensures unused { result.has_unused ≡ has_unused format block.now }
 {
-    let mut used = Used {
+    let mut used = UsedEntries {
         ids: ArrayVec::new(),
         has_unused: false,
     };

@@ -5,7 +5,7 @@ ghost use Rattle.quota_types.specs.Times.{StandsIn, times};
 ghost use Rattle.quota_types.specs.declared.file_kind.Format.{Format};
 ghost use Rattle.file_blocks.specs.Block.{block_of, next_of, previous_of};
 ghost use Rattle.quota_value.specs.QuotaValue.{Records};
-ghost use Rattle.quota_types.specs.Span.{KeepsOutside};
+ghost use Rattle.quota_types.specs.KeptBytes.{KeepsOutside};
 ghost use Rattle.quota_pages.specs.KeptBlocks.{KeepsBlocksBut};
 ghost use Rattle.quota_radix.specs.Link.{GainsBlocks, IsLinkable, LeadsAlong, changed_blocks, whole_way, with_path};
 ghost use Rattle.quota_radix.specs.Tree.{leaves, tree_blocks};

@@ -12,7 +12,7 @@ enum OpenedBy {
 
 /// What came of a gate that was found open.
 #[derive(Clone, Copy, Debug, PartialEq, Eq)]
-pub enum Outcome {
+pub enum GateOutcome {
     /// It is open still, since the command ended before.
     Open,
     /// The file was mended by what the undo file saves, and the gate is closed.
@@ -44,15 +44,15 @@ impl Gate {
     }
 
     /// What came of the gate; none where it was not found open.
-    pub fn outcome(&self) -> Option<Outcome> {
+    pub fn outcome(&self) -> Option<GateOutcome> {
         if !self.is_found {
             None
         } else if matches!(self.open, Some((_, OpenedBy::Another))) {
-            Some(Outcome::Open)
+            Some(GateOutcome::Open)
         } else if self.is_mended {
-            Some(Outcome::Mended)
+            Some(GateOutcome::Mended)
         } else {
-            Some(Outcome::Unusable)
+            Some(GateOutcome::Unusable)
         }
     }
 }

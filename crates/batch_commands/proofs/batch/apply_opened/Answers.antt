@@ -9,8 +9,8 @@ use Rattle.quota_map.specs.AnyFile.{HoldsAny}
 use Rattle.quota_map.specs.View.{IsView}
 use Rattle.refusals.specs.declared.reason.Refusal.{Refusal}
 use Rattle.run_steps.specs.Taking.{Lines, input_name}
-use Rattle.batch_commands.specs.Batch.{Applying, Asked, LineEditMayRefuse, is_to_end, line_reads, line_uses}
-use Rattle.batch_commands.specs.BatchReading.{IsOfLine}
+use Rattle.batch_commands.specs.Batch.{Applying, AskedEdits, LineEditMayRefuse, is_to_end, line_reads, line_uses}
+use Rattle.batch_commands.specs.BatchReading.{IsOfInputLine}
 use Rattle.batch_commands.proofs.BatchLemmas.{ends_none, then_ended, then_refused, then_stopped}
 use Rattle.run_steps.proofs.OpeningLemmas.{unwritten}
 use Rattle.run_steps.proofs.PhaseLemmas.{placed_nowhere}
@@ -23,8 +23,8 @@ use Rattle.batch_commands.proofs.batch.apply_opened.Goals as goal
 pub returns-in-Some-clause-carries : goal.returns-in-Some-clause-carries
 returns-in-Some-clause-carries g c = λ as_asked value held seen out err link out_tells err_tells link_tells.
     let took = c.in-Ok.ensures in
-    let asked : Asked = record { edits = c.in-Ok.batch.edits.items; refusal = c.in-Ok.batch.refusal } in
-    let may = subst (λ (o : Option Refusal). IfSome o (IsOfLine c.args.names.now (input_name c.args.from))) c.in-Some.is took.may_ask in
+    let asked : AskedEdits = record { edits = c.in-Ok.batch.edits.items; refusal = c.in-Ok.batch.refusal } in
+    let may = subst (λ (o : Option Refusal). IfSome o (IsOfInputLine c.args.names.now (input_name c.args.from))) c.in-Some.is took.may_ask in
     carries_taking _ c.args.from is_to_end _ (Applying c.args.file c.args.now value) asked line_uses _ _ _ _ _ _ _ _
     took.leaves took.later (λ told. took.read told.store told.input)
     (λ told. has_taken c.args.from (is_to_end asked) _ _ (took.behind told.input)
@@ -40,7 +40,7 @@ returns-in-Some-clause-carries g c = λ as_asked value held seen out err link ou
 pub returns-in-Ok-edit_lines-clause-carries : goal.returns-in-Ok-edit_lines-clause-carries
 returns-in-Ok-edit_lines-clause-carries g c = λ as_asked value held seen out err link out_tells err_tells link_tells.
     let took = c.in-Ok.ensures in
-    let asked : Asked = record { edits = c.in-Ok.batch.edits.items; refusal = c.in-Ok.batch.refusal } in
+    let asked : AskedEdits = record { edits = c.in-Ok.batch.edits.items; refusal = c.in-Ok.batch.refusal } in
     carries_taking _ c.args.from is_to_end _ (Applying c.args.file c.args.now value) asked line_uses _ _ _ _ _ _ _ _
     took.leaves took.later (λ told. took.read told.store told.input)
     (λ told. has_taken c.args.from (is_to_end asked) _ _ (took.behind told.input)
@@ -71,7 +71,7 @@ returns-clause-synced g c = λ told. syncs-less _ _ (syncs-read _ _ _ c.in-Err.e
 pub returns-in-Ok-clause-carries : goal.returns-in-Ok-clause-carries
 returns-in-Ok-clause-carries g c = λ as_asked value held seen out err link out_tells err_tells link_tells.
     let took = c.in-Ok.ensures in
-    let asked : Asked = record { edits = c.in-Ok.batch.edits.items; refusal = c.in-Ok.batch.refusal } in
+    let asked : AskedEdits = record { edits = c.in-Ok.batch.edits.items; refusal = c.in-Ok.batch.refusal } in
     carries_taking _ c.args.from is_to_end _ (Applying c.args.file c.args.now value) asked line_uses _ _ _ _ _ _ _ _
     took.leaves took.later (λ told. took.read told.store told.input)
     (λ told. has_taken c.args.from (is_to_end asked) _ _ (took.behind told.input)
@@ -108,7 +108,7 @@ pub returns-in-Ok-edit_lines-clause-reads : goal.returns-in-Ok-edit_lines-clause
 returns-in-Ok-edit_lines-clause-reads g c = λ as_asked value held seen none told input_told.
     let S = g.S.Store in
     let took = c.in-Ok.ensures in
-    let asked : Asked = record { edits = c.in-Ok.batch.edits.items; refusal = c.in-Ok.batch.refusal } in
+    let asked : AskedEdits = record { edits = c.in-Ok.batch.edits.items; refusal = c.in-Ok.batch.refusal } in
     let unread = ap S.seen (took.unread none) in
     let files = took.leaves.files in
     asked_reads c.args.format c.args.names.now c.args.from (S.seen c.args.store.now).files _ asked (S.seen c.args.store.now).reads (S.seen c.take_batch.new.store).reads _
@@ -120,7 +120,7 @@ returns-in-Ok-edit_lines-clause-reads g c = λ as_asked value held seen none tol
 
 pub returns-in-Some-clause-wanting : goal.returns-in-Some-clause-wanting
 returns-in-Some-clause-wanting g c =
-    let may = subst (λ (o : Option Refusal). IfSome o (IsOfLine c.args.names.now (input_name c.args.from))) c.in-Some.is c.in-Ok.ensures.may_ask in
+    let may = subst (λ (o : Option Refusal). IfSome o (IsOfInputLine c.args.names.now (input_name c.args.from))) c.in-Some.is c.in-Ok.ensures.may_ask in
     λ is. absurd (line_wants c.args.names.now (input_name c.args.from) c.in-Some.refusal.cause c.in-Some.refusal.name may.may is)
 
 pub returns-in-Ok-clause-wanting : goal.returns-in-Ok-clause-wanting

@@ -1,7 +1,7 @@
 use Rattle.std.proofs.Common.{◌≡◌, ◌+◌, None, Some, arith}
 use Rattle.input_text.proofs.InputLinesLemmas.{input_lines-long, input_lines-past, lines_left-next}
 use Rattle.refusals.specs.declared.cause.Cause.TheVariants.{TooLarge, LongLine}
-use Rattle.batch_commands.specs.declared.batch_line.LineRead.TheVariants.{Refused as Faulty}
+use Rattle.batch_commands.specs.declared.batch_line.BatchLineRead.TheVariants.{Refused as Faulty}
 use Rattle.batch_commands.specs.Batch.{ends_with}
 use Rattle.refusals.specs.Refusals.{refusal_of}
 use Rattle.batch_commands.proofs.BatchInputLemmas.{end_taken, line_may, line_taken, long_taken, past_taken, refused_taken}

@@ -1,6 +1,6 @@
 use Rattle.std.proofs.Common.{◌≡◌, take}
-use Rattle.option_words.specs.Given.{exports_told}
+use Rattle.option_words.specs.Given.{exports_given}
 use Rattle.command_words.proofs.copies.exports_of.Given as goal
 
 abbrev pub invariant-loop-export : goal.invariant-loop-export
-invariant-loop-export l = l.list.items ≡ exports_told (take l.export-index l.exports)
+invariant-loop-export l = l.list.items ≡ exports_given (take l.export-index l.exports)

@@ -5,7 +5,7 @@ use Rattle.quota_value.specs.Listed.{ids_of}
 use Rattle.outside.proofs.FrameLemmas.{are_synced-read, are_synced-then, syncs-after_read, syncs-less, syncs-read}
 use Rattle.outside.proofs.UnsyncedLemmas.{replaced-named}
 use Rattle.quota_map.proofs.ReplacedLemmas.{replaced-refused, replaced-synced}
-use Rattle.convert.specs.Convert.{Asked, HasNoTarget, asked_for}
+use Rattle.convert.specs.Convert.{AskedConversion, HasNoTarget, asked_for}
 use Rattle.convert.specs.Listing.{kept_list}
 use Rattle.convert.proofs.ConvertLemmas.{absent_of, converted_of, made_of, not_made_of, source_refused, unfit_of}
 use Rattle.convert.proofs.ValueLemmas.{kept_ascends}
@@ -14,7 +14,7 @@ use Rattle.convert.proofs.converting.convert.Goals as goal
 pub returns-in-Err-read_source-clause-refused : goal.returns-in-Err-read_source-clause-refused
 returns-in-Err-read_source-clause-refused g c =
     let S = g.S.Store in
-    let asked : Asked = asked_for c.args.from.now c.args.to.now c.args.old c.args.new c.args.kind c.args.limit in
+    let asked : AskedConversion = asked_for c.args.from.now c.args.to.now c.args.old c.args.new c.args.kind c.args.limit in
     let apart : c.args.from.now ≢ c.args.to.now = search rules in
     let none : c.in-Ok-None.field-0 ≡ None = search rules in
     let looked = c.in-Ok-None.ensures in
@@ -25,7 +25,7 @@ returns-in-Err-read_source-clause-refused g c =
 pub returns-in-Err-keep_entries-clause-refused : goal.returns-in-Err-keep_entries-clause-refused
 returns-in-Err-keep_entries-clause-refused g c =
     let S = g.S.Store in
-    let asked : Asked = asked_for c.args.from.now c.args.to.now c.args.old c.args.new c.args.kind c.args.limit in
+    let asked : AskedConversion = asked_for c.args.from.now c.args.to.now c.args.old c.args.new c.args.kind c.args.limit in
     let apart : c.args.from.now ≢ c.args.to.now = search rules in
     let none : c.in-Ok-None.field-0 ≡ None = search rules in
     let looked = c.in-Ok-None.ensures in
@@ -43,7 +43,7 @@ replace_file-requires-clause-ascending g c =
 pub returns-in-Ok-replace_file-clause-made : goal.returns-in-Ok-replace_file-clause-made
 returns-in-Ok-replace_file-clause-made g c =
     let S = g.S.Store in
-    let asked : Asked = asked_for c.args.from.now c.args.to.now c.args.old c.args.new c.args.kind c.args.limit in
+    let asked : AskedConversion = asked_for c.args.from.now c.args.to.now c.args.old c.args.new c.args.kind c.args.limit in
     let apart : c.args.from.now ≢ c.args.to.now = search rules in
     let none : c.in-Ok-None.field-0 ≡ None = search rules in
     let looked = c.in-Ok-None.ensures in
@@ -70,7 +70,7 @@ returns-in-Ok-replace_file-clause-synced g c = λ told.
 pub returns-clause-refused : goal.returns-clause-refused
 returns-clause-refused g c =
     let S = g.S.Store in
-    let asked : Asked = asked_for c.args.from.now c.args.to.now c.args.old c.args.new c.args.kind c.args.limit in
+    let asked : AskedConversion = asked_for c.args.from.now c.args.to.now c.args.old c.args.new c.args.kind c.args.limit in
     let apart : c.args.from.now ≢ c.args.to.now = search rules in
     let none : c.in-Ok-None.field-0 ≡ None = search rules in
     let looked = c.in-Ok-None.ensures in

@@ -1,5 +1,5 @@
 use Rattle.std.proofs.Common.{IsTrue}
-use Rattle.disk.specs.Steps.{ChangesFile, IsOutside, TearsRange, Torn}
+use Rattle.disk.specs.DiskCalls.{ChangesFile, IsOutside, TearsRange, Torn}
 use Rattle.disk.proofs.StepLemmas.{torn-less}
 use Rattle.disk.proofs.StopLemmas.{passes-step, passes-wider}
 use Rattle.disk.proofs.laws.changes_pass_on.Goals as goal

@@ -1,6 +1,6 @@
 use Rattle.std.proofs.Common.{◌≡◌, Some, replicate, ap, ◌∙◌}
 use Rattle.outside.specs.World.{World}
-use Rattle.disk.specs.Steps.{CutShort, IsOutside, Torn}
+use Rattle.disk.specs.DiskCalls.{CutShort, IsOutside, Torn}
 use Rattle.edit_journal.proofs.MakeLemmas.{made-written, makes-call, makes-more, makes-name, makes-nothing, named-kept, named-made}
 use Rattle.edit_journal.proofs.new_undo.make_undo.Goals as goal
 

@@ -1,14 +1,14 @@
 use Rattle.std.proofs.Common.{◌≡◌, ◌≤◌, ◌+◌, [], List, ℕ, unwrap_or, ap, ◌∙◌, arith, length-take}
 use Rattle.quota_types.specs.Bytes.{number_at}
-use Rattle.edit_journal.specs.Undo.{range_at, saved_span}
-use Rattle.edit_journal.proofs.LayLemmas.{laid-looks, span-parts, tears-looks}
+use Rattle.edit_journal.specs.Undo.{range_at, saved_range}
+use Rattle.edit_journal.proofs.LayBackLemmas.{laid-looks, range-parts, tears-looks}
 use Rattle.edit_journal.proofs.SavedLemmas.{length-bytes_at}
 use Rattle.edit_journal.proofs.recovery.lay_span.Goals as goal
 
 pub returns-in_err-lay_through-clause-passes : goal.returns-in_err-lay_through-clause-passes
 returns-in_err-lay_through-clause-passes g c told old_length fit =
     let undo : List ℕ = unwrap_or ((g.D.Disk.seen c.args.disk.now).files c.args.undo.now) [] in
-    let parts = span-parts old_length (saved_span undo c.args.k) fit in
+    let parts = range-parts old_length (saved_range undo c.args.k) fit in
     let place = c.in_ok-found.ensures.place told in
     let number = c.in_ok-found.ensures.number told in
     let long = length-bytes_at undo (range_at c.args.k + 16) (number_at 2 undo (range_at c.args.k + 8)) in
@@ -20,7 +20,7 @@ returns-in_err-lay_through-clause-passes g c told old_length fit =
 pub returns-clause-laid : goal.returns-clause-laid
 returns-clause-laid g c told old_length fit =
     let undo : List ℕ = unwrap_or ((g.D.Disk.seen c.args.disk.now).files c.args.undo.now) [] in
-    let parts = span-parts old_length (saved_span undo c.args.k) fit in
+    let parts = range-parts old_length (saved_range undo c.args.k) fit in
     let place = c.in_ok-found.ensures.place told in
     let number = c.in_ok-found.ensures.number told in
     let long = length-bytes_at undo (range_at c.args.k + 16) (number_at 2 undo (range_at c.args.k + 8)) in
@@ -32,7 +32,7 @@ returns-clause-laid g c told old_length fit =
 pub returns-clause-passes : goal.returns-clause-passes
 returns-clause-passes g c told old_length fit =
     let undo : List ℕ = unwrap_or ((g.D.Disk.seen c.args.disk.now).files c.args.undo.now) [] in
-    let parts = span-parts old_length (saved_span undo c.args.k) fit in
+    let parts = range-parts old_length (saved_range undo c.args.k) fit in
     let place = c.in_ok-found.ensures.place told in
     let number = c.in_ok-found.ensures.number told in
     let long = length-bytes_at undo (range_at c.args.k + 16) (number_at 2 undo (range_at c.args.k + 8)) in

@@ -1,6 +1,6 @@
 use Rattle.std.proofs.Common.{List, ℕ, [], length, unwrap_or, ap, ◌∙◌}
 use Rattle.outside.specs.World.{World}
-use Rattle.edit_journal.specs.Spans.{with_laid}
+use Rattle.edit_journal.specs.ByteRanges.{with_laid}
 use Rattle.edit_journal.proofs.ReadLemmas.{padded-bytes}
 use Rattle.edit_journal.proofs.recovery.lay_through.Goals as goal
 

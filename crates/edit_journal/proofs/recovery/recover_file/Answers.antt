@@ -1,5 +1,5 @@
 use Rattle.edit_journal.proofs.ReadLemmas.{looks-kept, looks-then}
-use Rattle.edit_journal.proofs.RecoverLemmas.{as_before, begins-read, is_recovered-read, is_recovered-same, recovers-looks, recovers-restores, restores-looks}
+use Rattle.edit_journal.proofs.RecoveryCallLemmas.{as_before, begins-read, is_recovered-read, is_recovered-same, recovers-looks, recovers-restores, restores-looks}
 use Rattle.edit_journal.proofs.recovery.recover_file.Goals as goal
 
 pub returns-in_err-keep_both-clause-passes : goal.returns-in_err-keep_both-clause-passes

@@ -1,5 +1,5 @@
 use Rattle.std.proofs.Common.{sym, ◌∙◌}
-use Rattle.edit_journal.proofs.RecoverLemmas.{recovers-closed, recovers-in_place, recovers-restores}
+use Rattle.edit_journal.proofs.RecoveryCallLemmas.{recovers-closed, recovers-in_place, recovers-restores}
 use Rattle.edit_journal.proofs.recovery.recover_kept.Goals as goal
 
 pub returns-in_err-restore-clause-passes : goal.returns-in_err-restore-clause-passes

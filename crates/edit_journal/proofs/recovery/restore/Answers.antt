@@ -1,4 +1,4 @@
-use Rattle.edit_journal.proofs.RecoverLemmas.{restores-checked}
+use Rattle.edit_journal.proofs.RecoveryCallLemmas.{restores-checked}
 use Rattle.edit_journal.proofs.recovery.restore.Goals as goal
 
 pub returns-in_err-mend-clause-passes : goal.returns-in_err-mend-clause-passes

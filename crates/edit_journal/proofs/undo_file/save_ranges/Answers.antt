@@ -2,9 +2,9 @@ use Rattle.outside.proofs.FrameLemmas.{keeps_others-then}
 use Rattle.std.proofs.Common.{◌≤◌, ◌∙◌, ap, sym, subst, List, ℕ, Option, [], length, unwrap_or, inl, arith}
 use Rattle.std.proofs.lemmas.List.{length-map}
 use Rattle.outside.specs.World.{World}
-use Rattle.edit_journal.specs.Spans.{Span, span_of, spans_of}
+use Rattle.edit_journal.specs.ByteRanges.{ByteRange, range_of, ranges_of}
 use Rattle.edit_journal.specs.UndoSaves.{SavesFrom}
-use Rattle.edit_journal.proofs.LoopLemmas.{saves-step, spans-all}
+use Rattle.edit_journal.proofs.LoopLemmas.{saves-step, ranges-all}
 use Rattle.edit_journal.proofs.TornLemmas.{tears-less, tears-then}
 use Rattle.edit_journal.proofs.WrittenLemmas.{length-or_none, saves-written, written-bytes}
 use Rattle.edit_journal.proofs.undo_file.save_ranges.Goals as goal
@@ -31,12 +31,12 @@ returns-clause-saved g c told long =
     let ranges = c.args.ranges.now in
     let old : List ℕ = unwrap_or ((D.seen c.args.disk.now).files c.args.name.now) [] in
     let mid : List ℕ = unwrap_or ((D.seen c.loop-index.disk).files c.args.undo.now) [] in
-    let all : SavesFrom old 0 (spans_of ranges) mid = subst (λ (s : List Span). SavesFrom old 0 s mid) (spans-all ranges c.loop-index.index (omega arith)) (kept.saved told) in
+    let all : SavesFrom old 0 (ranges_of ranges) mid = subst (λ (s : List ByteRange). SavesFrom old 0 s mid) (ranges-all ranges c.loop-index.index (omega arith)) (kept.saved told) in
     let longer : 1024 ≤ length mid = omega (arith, long, kept.passes.follows.read.0.no_shorter) in
-    saves-written old (spans_of ranges) mid c.undo_head.result _ longer
-    (omega (arith, length-map ranges span_of, c.requires.most))
+    saves-written old (ranges_of ranges) mid c.undo_head.result _ longer
+    (omega (arith, length-map ranges range_of, c.requires.most))
     (c.undo_head.ensures.old_length ∙ c.unwrap_or-old_length.ensures ∙ length-or_none _ _ (c.in_ok-size.ensures.found told))
-    (c.undo_head.ensures.count ∙ sym (length-map ranges span_of))
+    (c.undo_head.ensures.count ∙ sym (length-map ranges range_of))
     c.undo_head.ensures.whole
     all
     (ap (λ (f : World). unwrap_or (f c.args.undo.now) []) c.in_ok-sync.ensures.leaves.files ∙ written-bytes (D.seen c.loop-index.disk).files (D.seen c.write.new.self).files c.args.undo.now 8 c.undo_head.result (c.in_ok-write.ensures.ok told))

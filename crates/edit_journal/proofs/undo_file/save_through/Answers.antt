@@ -1,5 +1,5 @@
 use Rattle.std.proofs.Common.{List, ℕ, ◌+◌, length, [], unwrap_or, ap, ◌∙◌}
-use Rattle.edit_journal.specs.Spans.{with_laid}
+use Rattle.edit_journal.specs.ByteRanges.{with_laid}
 use Rattle.edit_journal.specs.Undo.{range_at}
 use Rattle.edit_journal.proofs.WrittenLemmas.{saves_one-written, written-bytes}
 use Rattle.edit_journal.proofs.undo_file.save_through.Goals as goal

@@ -1,6 +1,6 @@
 use Rattle.std.proofs.Common.{arith, rules, []}
 use Rattle.std.proofs.lemmas.List.{length-map}
-use Rattle.free_chains.specs.declared.link.Link.{Link}
+use Rattle.free_chains.specs.declared.chain_link.ChainLink.{ChainLink}
 use Rattle.free_chains.proofs.WalkLemmas.{walk_few, walk_fits}
 use Rattle.free_chains.proofs.chain.walk_chain.Goals as goal
 
@@ -8,7 +8,7 @@ pub loop-at-smaller : goal.loop-at-smaller
 loop-at-smaller g c =
     let now = c.go_to.new.self in
     let fits = walk_fits c.args.blocks now (c.in_ok-at.ensures.walk c.loop-at.invariant.is_walk) in
-    omega (arith, fits, length-map now.links.items (λ (link : Link). link.block), now.links.ok.0, c.in_ok-at.ensures.longer)
+    omega (arith, fits, length-map now.links.items (λ (link : ChainLink). link.block), now.links.ok.0, c.in_ok-at.ensures.longer)
 
 pub returns-clause-few_reads : goal.returns-clause-few_reads
 returns-clause-few_reads g c =

@@ -7,7 +7,7 @@ use Rattle.file_blocks.specs.Block.{next_of, previous_of}
 use Rattle.free_chains.specs.Links.{led_to}
 use Rattle.free_chains.proofs.RoomLemmas.{beside_first, beside_others}
 use Rattle.free_chains.proofs.BesideLemmas.{beside_same, beside_then}
-use Rattle.free_chains.proofs.LeaveLemmas.{head-first, head-stays, leaves}
+use Rattle.free_chains.proofs.LeaveEntryListLemmas.{head-first, head-stays, leaves}
 use Rattle.free_chains.proofs.entry_list.leave_entry_list.Goals as goal
 
 pub link_at-requires-clause-room : goal.link_at-requires-clause-room

@@ -1,6 +1,6 @@
 use Rattle.std.proofs.Common.{◌≡◌, List, ℕ, ◌+◌, ◌<◌, ◌≤◌, length, get_or}
 use Rattle.quota_types.specs.Bytes.{byte_at}
-use Rattle.edit_journal.specs.Spans.{with_laid}
+use Rattle.edit_journal.specs.ByteRanges.{with_laid}
 use Rattle.journal_store.proofs.overlay.lay_one.Given as goal
 
 abbrev pub invariant-loop-place : goal.invariant-loop-place

@@ -1,7 +1,7 @@
 use Rattle.std.proofs.Common.{◌≡◌, List, ℕ, [], false, Some, sym, ap, subst, ◌∙◌}
 use Rattle.std.specs.Prelude.{◌∷◌}
 use Rattle.outside.specs.Replacement.{replacement_name}
-use Rattle.outside.specs.Unsynced.{Names}
+use Rattle.outside.specs.Unsynced.{UnsyncedNames}
 use Rattle.outside.specs.World.{World, with_file, with_new_name}
 use Rattle.opened_file.proofs.ReplaceLemmas.{replacement_name-ne, with_new_name-replaced}
 use Rattle.outside.proofs.UnsyncedLemmas.{replaced-names, with_name-at}
@@ -44,7 +44,7 @@ returns-in_err-rename-clause-commits g c told =
     ∙ ap (λ (new : List ℕ). with_file files new (Some c.args.bytes.now)) (c.as_str.ensures.value ∙ c.in_ok-new_name.ensures) in
     let synced : (g.S.Store.seen c.write_new.new.store).unsynced from ≡ false =
     ap (λ (n : List ℕ). (g.S.Store.seen c.write_new.new.store).unsynced n) same
-    ∙ ap (λ (names : Names). names c.as_str.result.now) (c.in_ok-write_new.ensures.synced told)
+    ∙ ap (λ (names : UnsyncedNames). names c.as_str.result.now) (c.in_ok-write_new.ensures.synced told)
     ∙ with_name-at (g.S.Store.seen c.args.store.now).unsynced c.as_str.result.now false in
     subst (λ (world : World). g.S.Store.commits (world ∷ []) c.args.store.now c.rename.new.self)
     (ap (λ (new : List ℕ). with_new_name written new name) new_name ∙ with_new_name-replaced files written (replacement_name name) name c.args.bytes.now wrote)
@@ -64,7 +64,7 @@ returns-clause-commits g c told =
     ∙ ap (λ (new : List ℕ). with_file files new (Some c.args.bytes.now)) (c.as_str.ensures.value ∙ c.in_ok-new_name.ensures) in
     let synced : (g.S.Store.seen c.write_new.new.store).unsynced from ≡ false =
     ap (λ (n : List ℕ). (g.S.Store.seen c.write_new.new.store).unsynced n) same
-    ∙ ap (λ (names : Names). names c.as_str.result.now) (c.in_ok-write_new.ensures.synced told)
+    ∙ ap (λ (names : UnsyncedNames). names c.as_str.result.now) (c.in_ok-write_new.ensures.synced told)
     ∙ with_name-at (g.S.Store.seen c.args.store.now).unsynced c.as_str.result.now false in
     subst (λ (world : World). g.S.Store.commits (world ∷ []) c.args.store.now c.rename.new.self)
     (ap (λ (new : List ℕ). with_new_name written new name) new_name ∙ with_new_name-replaced files written (replacement_name name) name c.args.bytes.now wrote)

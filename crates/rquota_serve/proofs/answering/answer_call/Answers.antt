@@ -4,7 +4,7 @@ use Rattle.std.specs.Option.{unwrap_or}
 use Rattle.quota_types.specs.declared.file_kind.Kind.{Kind}
 use Rattle.quota_types.specs.Rec.{zero_record}
 use Rattle.rquota_xdr.specs.declared.reply.Reply.{Reply}
-use Rattle.rquota_serve.specs.Exported.{Exported}
+use Rattle.rquota_serve.specs.ExportedValues.{ExportedValues}
 use Rattle.rquota_serve.specs.Exports.{exports_seen}
 use Rattle.rquota_serve.specs.Reply.{plain_reply, reply_for, reply_to}
 use Rattle.rquota_serve.proofs.LookingLemmas.{looks_in-none}
@@ -14,7 +14,7 @@ use Rattle.rquota_serve.proofs.answering.answer_call.Goals as goal
 pub returns-in_default-kind_named-clause-told : goal.returns-in_default-kind_named-clause-told
 returns-in_default-kind_named-clause-told g c =
     let seen = exports_seen c.args.exports.now in
-    let told : Exported = told_by seen 0 zero_record in
+    let told : ExportedValues = told_by seen 0 zero_record in
     let datagram = c.args.datagram.now in
     let path : List ℕ = slice_range datagram c.in-Get.path.start (c.in-Get.path.start + c.in-Get.path.len) in (
       told,
@@ -26,7 +26,7 @@ returns-in_default-kind_named-clause-told g c =
 pub returns-then-not-may_ask-clause-told : goal.returns-then-not-may_ask-clause-told
 returns-then-not-may_ask-clause-told g c =
     let seen = exports_seen c.args.exports.now in
-    let told : Exported = told_by seen 0 zero_record in
+    let told : ExportedValues = told_by seen 0 zero_record in
     let datagram = c.args.datagram.now in
     let path : List ℕ = slice_range datagram c.in-Get.path.start (c.in-Get.path.start + c.in-Get.path.len) in (
       told,
@@ -40,7 +40,7 @@ pub returns-in_ok-found-in-Get-clause-told : goal.returns-in_ok-found-in-Get-cla
 returns-in_ok-found-in-Get-clause-told g c =
     let seen = exports_seen c.args.exports.now in
     let found = c.in_ok-found-in-Get.found in
-    let told : Exported = told_by seen c.in-Get.id (unwrap_or found zero_record) in
+    let told : ExportedValues = told_by seen c.in-Get.id (unwrap_or found zero_record) in
     let datagram = c.args.datagram.now in
     let path : List ℕ = slice_range datagram c.in-Get.path.start (c.in-Get.path.start + c.in-Get.path.len) in (
       told,
@@ -56,7 +56,7 @@ pub returns-in_default : goal.returns-in_default
 returns-in_default g c =
     let seen = exports_seen c.args.exports.now in
     let is : c.plain_reply.result ≡ plain_reply c.args.call = cc in
-    let plain : (exported : Exported) → c.plain_reply.result ≡ reply_to exported c.args.datagram.now c.args.now c.args.call = λ exported.
+    let plain : (exported : ExportedValues) → c.plain_reply.result ≡ reply_to exported c.args.datagram.now c.args.now c.args.call = λ exported.
     is ∙ plain-reply exported c.args.datagram.now c.args.now c.args.call (λ xid caller path type id. c.in_default.not-Get xid caller path type id) in
     record {
       reply = λ exported serves. plain exported;

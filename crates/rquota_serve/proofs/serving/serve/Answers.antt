@@ -1,7 +1,7 @@
 use Rattle.std.proofs.Common.{Err, refl, ◌∙◌, arith}
 use Rattle.std.proofs.lemmas.Result.{err_from_is_err_and}
 use Rattle.quota_map.specs.AnyFile.{any_get_reads}
-use Rattle.rquota_serve.specs.Exported.{Exported}
+use Rattle.rquota_serve.specs.ExportedValues.{ExportedValues}
 use Rattle.rquota_serve.specs.Exports.{Serves}
 use Rattle.rquota_serve.specs.Looking.{ExportsAt, exports_at}
 use Rattle.rquota_serve.specs.Refusal.{file_in}
@@ -25,8 +25,8 @@ loop-call-preserved g c =
     let L = g.L.Link in
     let so_far = c.loop-call.invariant in
     let one = c.in_ok-serve_one.ensures in
-    let before : Exported → Type 0 = Serves S.tells (S.seen c.args.store.now).files c.args.exports.now in
-    let after : Exported → Type 0 = Serves S.tells (S.seen c.loop-call.store).files c.loop-call.exports in
+    let before : ExportedValues → Type 0 = Serves S.tells (S.seen c.args.store.now).files c.args.exports.now in
+    let after : ExportedValues → Type 0 = Serves S.tells (S.seen c.loop-call.store).files c.loop-call.exports in
     record {
       served = λ told.
           served-then before c.loop-call._call (L.seen c.args.link.now) (L.seen c.loop-call.link) (L.seen c.serve_one.new.link) (so_far.served told)
@@ -42,8 +42,8 @@ returns-in_err-serve_one-clause-stopped g c =
     let S = g.S.Store in
     let L = g.L.Link in
     let so_far = c.loop-call.invariant in
-    let before : Exported → Type 0 = Serves S.tells (S.seen c.args.store.now).files c.args.exports.now in
-    let after : Exported → Type 0 = Serves S.tells (S.seen c.loop-call.store).files c.loop-call.exports in
+    let before : ExportedValues → Type 0 = Serves S.tells (S.seen c.args.store.now).files c.args.exports.now in
+    let after : ExportedValues → Type 0 = Serves S.tells (S.seen c.loop-call.store).files c.loop-call.exports in
     on-err _ c.from_residual.result (λ told.
     stopped-then before c.loop-call._call c.args.calls (L.seen c.args.link.now) (L.seen c.loop-call.link) (L.seen c.serve_one.new.link) c.loop-call-test.true (so_far.served told)
     (stopped-before before after 1 (L.seen c.loop-call.link) (L.seen c.serve_one.new.link) so_far.up.stays (c.in_err-serve_one.ensures.stopped told)))

@@ -1,7 +1,7 @@
 use Rattle.std.proofs.Common.{◌≡◌, ◌+◌, None, Some, arith}
 use Rattle.input_text.proofs.InputLinesLemmas.{input_lines-long, input_lines-past, lines_left-next}
 use Rattle.refusals.specs.declared.cause.Cause.TheVariants.{TooLarge, LongLine}
-use Rattle.script_lines.specs.declared.line.LineRead.TheVariants.{Refused as Faulty}
+use Rattle.script_lines.specs.declared.line.ScriptLineRead.TheVariants.{Refused as Faulty}
 use Rattle.script_lines.specs.Script.{ends_with, script_refusal}
 use Rattle.script_lines.proofs.ReadingLemmas.{end_taken, line_may, line_taken, long_taken, past_taken, refused_taken}
 use Rattle.script_lines.proofs.reading.take_line.Goals as goal

@@ -1,4 +1,4 @@
-use Rattle.rquota_serve.specs.Exported.{Exported, nothing_exported}
+use Rattle.rquota_serve.specs.ExportedValues.{ExportedValues, nothing_exported}
 use Rattle.run_steps.specs.Steps.{Starting}
 use Rattle.serve_command.specs.Serve.{AnsweringSteps}
 use Rattle.serve_command.proofs.StepLemmas.{sure_answering, sure_opening_all}
@@ -6,4 +6,4 @@ use Rattle.serve_command.proofs.laws.serving_is_sure_where_the_files_are_accepte
 
 pub returns : goal.returns
 returns c format calls port exports invocation old exported are =
-    sure_opening_all format exports nothing_exported exported (λ (e : Exported). Starting port (AnsweringSteps e calls)) old are (sure_answering exported calls old)
+    sure_opening_all format exports nothing_exported exported (λ (e : ExportedValues). Starting port (AnsweringSteps e calls)) old are (sure_answering exported calls old)

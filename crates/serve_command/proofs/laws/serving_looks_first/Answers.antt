@@ -1,5 +1,5 @@
 use Rattle.std.proofs.Common.{false}
-use Rattle.rquota_serve.specs.Exported.{Exported, nothing_exported}
+use Rattle.rquota_serve.specs.ExportedValues.{ExportedValues, nothing_exported}
 use Rattle.run_steps.specs.Steps.{Starting}
 use Rattle.serve_command.specs.Serve.{AnsweringSteps}
 use Rattle.serve_command.proofs.StepLemmas.{looks_answering, looks_opening_all}
@@ -7,4 +7,4 @@ use Rattle.serve_command.proofs.laws.serving_looks_first.Goals as goal
 
 pub returns : goal.returns
 returns c format calls port exports invocation =
-    looks_opening_all false format exports nothing_exported (λ (exported : Exported). Starting port (AnsweringSteps exported calls)) (λ exported. looks_answering false exported calls)
+    looks_opening_all false format exports nothing_exported (λ (exported : ExportedValues). Starting port (AnsweringSteps exported calls)) (λ exported. looks_answering false exported calls)

@@ -10,7 +10,7 @@ use Rattle.free_chains.specs.EntryList.{LeavesList}
 use Rattle.free_chains.specs.Links.{led_to}
 use Rattle.free_chains.specs.declared.heads.Heads.{Heads}
 use Rattle.tree_meaning.specs.Entries.{entry_bytes}
-use Rattle.tree_steps.specs.EntrySteps.{WritesEntry}
+use Rattle.block_changes.specs.EntryChanges.{WritesEntry}
 use Rattle.tree_change.specs.Enters.{EntersRecord}
 use Rattle.tree_change.proofs.EnteredLemmas.{entered_and_left, entered_with_room, leaving_refused, placing_refused}
 use Rattle.tree_change.proofs.WithinLemmas.{no_link_to_header, other_block}

@@ -5,7 +5,7 @@ use Rattle.file_blocks.specs.Block.{block_of}
 use Rattle.quota_pages.specs.Used.{shown_over}
 use Rattle.quota_pages.proofs.UsedLemmas.{shown_over-looks}
 use Rattle.tree_meaning.specs.EntryRecords.{record_by}
-use Rattle.tree_steps.specs.EntrySteps.{RewritesEntry}
+use Rattle.block_changes.specs.EntryChanges.{RewritesEntry}
 use Rattle.tree_change.proofs.OverLemmas.{overwrites, overwriting_refused}
 use Rattle.tree_change.proofs.WithinLemmas.{other_block}
 use Rattle.tree_change.proofs.overwriting.overwrite_record.Goals as goal

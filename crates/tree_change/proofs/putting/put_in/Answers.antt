@@ -13,7 +13,7 @@ use Rattle.free_chains.specs.declared.heads.Heads.{Heads}
 use Rattle.tree_meaning.specs.Loose.{loose_of}
 use Rattle.tree_change.specs.ChangeFault.{IsStepFault}
 use Rattle.tree_change.specs.Overwrites.{OverwritesRecord}
-use Rattle.tree_change.specs.Putting.{EndsEarly, IsPutFault, IsPutInFault, PutsIn}
+use Rattle.tree_change.specs.Putting.{WayEndsEarly, IsPutFault, IsPutInFault, PutsIn}
 use Rattle.tree_change.specs.BlocksWanted.{blocks_taken, data_wanted}
 use Rattle.tree_change.specs.Shows.{IsNoCompleteTree, IsWholeTree}
 use Rattle.tree_change.proofs.ChangeFaultLemmas.{full_then, of_full, walk_not_full}
@@ -93,9 +93,9 @@ returns-in-None-clause-put g c =
     let same : between ≡ old = shown_over-looks looked in
     on_ok_weaker c.put_new.result
     (λ puts known held records tree.
-    let ends : EndsEarly old heads.blocks id found = record { way = c.in_ok-path.ensures.found known; none = sym (c.in_ok-path.ensures.leaf known) ∙ sym c.leaf.ensures ∙ c.in-None.is } in
+    let ends : WayEndsEarly old heads.blocks id found = record { way = c.in_ok-path.ensures.found known; none = sym (c.in_ok-path.ensures.leaf known) ∙ sym c.leaf.ensures ∙ c.in-None.is } in
     subst (λ (file : List ℕ). PutsIn id c.args.rec.now held c.args.format file (shown_over (S.seen c.put_new.new.store) c.put_new.new.pages) heads c.put_new.new.heads records) same
-    (puts (subst (λ (file : List ℕ). EndsEarly file heads.blocks id found) (sym same) ends) (looked.known known) held records
+    (puts (subst (λ (file : List ℕ). WayEndsEarly file heads.blocks id found) (sym same) ends) (looked.known known) held records
     (subst (λ (file : List ℕ). IsWholeTree (loose_of held None None) c.args.format file heads records) (sym same) tree)))
     c.put_new.ensures.put
 
@@ -116,15 +116,15 @@ returns-in-None-clause-refused g c =
     let same : between ≡ old = shown_over-looks looked in
     let need : ℕ = (4 - length found) + data_wanted heads in
     IfErr-weaker c.put_new.result
-    (IsPutFault middle now (known × EndsEarly between heads.blocks id found) c.args.format between heads c.args.limit need)
+    (IsPutFault middle now (known × WayEndsEarly between heads.blocks id found) c.args.format between heads c.args.limit need)
     (IsPutInFault before now still c.args.format old heads c.args.limit id)
     (λ fault h. put_refused before now still c.args.format old heads c.args.limit id fault
-    (wanted_as before middle now (known × EndsEarly old heads.blocks id found) still c.args.format old heads c.args.limit need (blocks_taken old heads id) fault looked.leaves.later
+    (wanted_as before middle now (known × WayEndsEarly old heads.blocks id found) still c.args.format old heads c.args.limit need (blocks_taken old heads id) fault looked.leaves.later
     (λ is. (looked.known is, record { way = c.in_ok-path.ensures.found is; none = sym (c.in_ok-path.ensures.leaf is) ∙ sym c.leaf.ensures ∙ c.in-None.is }))
     (λ is.
     let way : length found ≡ length (blocks_on_way old heads.blocks id) = ap {B = ℕ} length (c.in_ok-path.ensures.found is) in
     omega (arith, way, taken_absent old heads id (omega (arith, way, short_way_found found (sym c.leaf.ensures ∙ c.in-None.is)))))
-    (subst (λ (file : List ℕ). IsPutFault middle now (known × EndsEarly file heads.blocks id found) c.args.format file heads c.args.limit need fault) same h)))
+    (subst (λ (file : List ℕ). IsPutFault middle now (known × WayEndsEarly file heads.blocks id found) c.args.format file heads c.args.limit need fault) same h)))
     c.put_new.ensures.refused
 
 -- one that has a record is written over it
@@ -159,8 +159,8 @@ returns-in-None-clause-full g c =
     IfErr-weaker c.put_new.result _ _
     (λ fault h. full_then _ _ fault
     (λ kept known held records tree.
-    let ends : EndsEarly (shown_over (S.seen c.args.store.now) c.args.pages.now) heads.blocks id found = record { way = c.in_ok-path.ensures.found known; none = sym (c.in_ok-path.ensures.leaf known) ∙ sym c.leaf.ensures ∙ c.in-None.is } in
-    kept (subst (λ (file : List ℕ). EndsEarly file heads.blocks id found) (sym same) ends) (looked.known known) held records
+    let ends : WayEndsEarly (shown_over (S.seen c.args.store.now) c.args.pages.now) heads.blocks id found = record { way = c.in_ok-path.ensures.found known; none = sym (c.in_ok-path.ensures.leaf known) ∙ sym c.leaf.ensures ∙ c.in-None.is } in
+    kept (subst (λ (file : List ℕ). WayEndsEarly file heads.blocks id found) (sym same) ends) (looked.known known) held records
     (subst (λ (file : List ℕ). IsWholeTree (loose_of held None None) c.args.format file heads records) (sym same) tree)
     ∙ looked.lent_count) h)
     c.put_new.ensures.full

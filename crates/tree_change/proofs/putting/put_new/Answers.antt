@@ -8,7 +8,7 @@ use Rattle.quota_pages.proofs.UsedLemmas.{shown_over-looks}
 use Rattle.free_chains.specs.declared.heads.Heads.{Heads}
 use Rattle.tree_meaning.specs.Loose.{loose_of}
 use Rattle.tree_change.specs.Enters.{EntersRecord}
-use Rattle.tree_change.specs.Putting.{EndsEarly, IsPutFault}
+use Rattle.tree_change.specs.Putting.{WayEndsEarly, IsPutFault}
 use Rattle.tree_change.specs.BlocksWanted.{data_wanted}
 use Rattle.tree_change.specs.Shows.{IsWholeTree}
 use Rattle.tree_change.proofs.ChangeFaultLemmas.{if_full, of_full}
@@ -22,7 +22,7 @@ returns-in_err-has_room-clause-refused g c =
     let S = g.S.Store in
     let heads : Heads = c.args.heads.now in
     let old : List ℕ = shown_over (S.seen c.args.store.now) c.args.pages.now in
-    let known : Type 0 = IsKnown S.tells (S.seen c.args.store.now) c.args.pages.now × EndsEarly old heads.blocks c.args.id c.args.path.now.found.items in
+    let known : Type 0 = IsKnown S.tells (S.seen c.args.store.now) c.args.pages.now × WayEndsEarly old heads.blocks c.args.id c.args.path.now.found.items in
     let need : (4 - c.len-lacking.result) + c.data_wanted.result ≡ (4 - length c.args.path.now.found.items) + data_wanted heads = omega (arith, c.len-lacking.ensures.value, c.data_wanted.ensures) in
     rw (p.1, p.2) (subst (λ (n : ℕ). IsPutFault (S.seen c.args.store.now).faults (S.seen c.has_room.new.store).faults known c.args.format old heads c.args.limit n c.in_err-has_room.field-0.0) need
     (no_room_refused _ _ known (IsKnown S.tells (S.seen c.args.store.now) c.args.pages.now) c.args.format old heads c.args.limit ((4 - c.len-lacking.result) + c.data_wanted.result) c.in_err-has_room.field-0.0 (λ is. is.0) c.in_err-has_room.ensures.refused))
@@ -34,7 +34,7 @@ returns-in_err-block-clause-refused g c =
     let heads : Heads = c.args.heads.now in
     let old : List ℕ = shown_over (S.seen c.args.store.now) c.args.pages.now in
     let between : List ℕ = shown_over (S.seen c.has_room.new.store) c.has_room.new.pages in
-    let known : Type 0 = IsKnown S.tells (S.seen c.args.store.now) c.args.pages.now × EndsEarly old heads.blocks c.args.id c.args.path.now.found.items in
+    let known : Type 0 = IsKnown S.tells (S.seen c.args.store.now) c.args.pages.now × WayEndsEarly old heads.blocks c.args.id c.args.path.now.found.items in
     let looked = c.in_ok-has_room.ensures.looked in
     let same : between ≡ old = shown_over-looks looked in
     rw (p.1, p.2) (step_refused (S.seen c.args.store.now).faults (S.seen c.has_room.new.store).faults (S.seen c.enter_data.new.store).faults known (IsKnown S.tells (S.seen c.has_room.new.store) c.has_room.new.pages) c.args.format old between heads heads c.args.limit
@@ -55,7 +55,7 @@ returns-in_err-lead_to-clause-refused g c =
     let old : List ℕ = shown_over (S.seen c.args.store.now) c.args.pages.now in
     let between : List ℕ = shown_over (S.seen c.has_room.new.store) c.has_room.new.pages in
     let new : List ℕ = shown_over (S.seen c.enter_data.new.store) c.enter_data.new.pages in
-    let known : Type 0 = IsKnown S.tells (S.seen c.args.store.now) c.args.pages.now × EndsEarly old heads.blocks id found in
+    let known : Type 0 = IsKnown S.tells (S.seen c.args.store.now) c.args.pages.now × WayEndsEarly old heads.blocks id found in
     let still : Type 0 = IsKnown S.tells (S.seen c.enter_data.new.store) c.enter_data.new.pages in
     let looked = c.in_ok-has_room.ensures.looked in
     let entered = c.in_ok-block.ensures in

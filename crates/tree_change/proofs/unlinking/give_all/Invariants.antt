@@ -1,5 +1,5 @@
 use Rattle.std.proofs.Common.{◌≡◌, true, drop, reverse, take, []}
-use Rattle.quota_pages.specs.Used.{IsKnown, LendsSome, Uses, shown_over}
+use Rattle.quota_pages.specs.Used.{IsKnown, LendsSome, UsesPages, shown_over}
 use Rattle.tree_change.proofs.GivenLemmas.{GivesBut}
 use Rattle.tree_change.proofs.unlinking.give_all.Given as goal
 
@@ -11,7 +11,7 @@ invariant-loop-block g l =
       blocks : l.now.blocks ≡ l.fn.heads.blocks;
       first : l.now.first ≡ l.fn.heads.first;
       lends : LendsSome S.tells true 0 l.given (S.seen l.fn.store) (S.seen l.store) l.fn.pages l.pages;
-      uses : Uses S.tells true 0 (S.seen l.fn.store) (S.seen l.store) l.fn.pages l.pages;
+      uses : UsesPages S.tells true 0 (S.seen l.fn.store) (S.seen l.store) l.fn.pages l.pages;
       gives : IsKnown S.tells (S.seen l.fn.store) l.fn.pages
           → GivesBut l.given (drop l.block-index l.given) (reverse (take l.block-index l.given)) (shown_over (S.seen l.fn.store) l.fn.pages) (shown_over (S.seen l.store) l.pages) l.fn.heads l.now;
       commits : S.commits [] l.fn.store l.store;

@@ -1,7 +1,7 @@
 use Rattle.std.proofs.Common.{ℕ, List, [], ◌∷◌, ◌++◌, refl, ap, ◌∙◌, arith, append-nil}
 use Rattle.std.proofs.lemmas.List.{length-map}
 use Rattle.std.proofs.lemmas.Result.{err_from_is_err_and}
-use Rattle.free_chains.specs.declared.link.Link.{Link}
+use Rattle.free_chains.specs.declared.chain_link.ChainLink.{ChainLink}
 use Rattle.quota_radix.specs.declared.tree_path.TreePath.{TreePath}
 use Rattle.file_blocks.specs.BlockSet.{AreFlagsOf}
 use Rattle.file_blocks.specs.Block.{bytes_of}
@@ -65,14 +65,14 @@ returns-in-Some-clause-refused g c =
 pub overflow_cast-result : goal.overflow_cast-result
 overflow_cast-result g c =
     let walk = c.in_ok-free.free in
-    omega (arith, walk_fits c.args.blocks walk c.in_ok-free.ensures.walk, length-map walk.links.items (λ (link : Link). link.block), walk.links.ok.0, c.len.ensures, c.ranges.blocks.fits)
+    omega (arith, walk_fits c.args.blocks walk c.in_ok-free.ensures.walk, length-map walk.links.items (λ (link : ChainLink). link.block), walk.links.ok.0, c.len.ensures, c.ranges.blocks.fits)
 
 pub returns-clause-roles : goal.returns-clause-roles
 returns-clause-roles g c =
     let found = are_found g.S.Store.tells _ c.args.blocks _ _ c.in_ok-leaves.leaves.items c.as_slice.result.now (header_marked _ _ _ _ c.requires.two c.in_ok-met.ensures c.insert.ensures.added)
     c.in_ok-leaves.ensures.found c.in_ok-leaves.ensures.marked (λ block. ap (λ (ps : List TreePath). ids_at ps block) c.as_slice.ensures.value ∙ c.in_ok-sort_by_block.ensures.same block) in
     λ told.
-    let links : List Link = c.in_ok-free.free.links.items in
+    let links : List ChainLink = c.in_ok-free.free.links.items in
     let all = roles_marked (λ (n : ℕ) (ns : List ℕ). AreFlagsOf n c.mark_links.new.met.flags.items ns) g.S.Store.tells _ c.args.blocks _ _ _ _ links _ found told
     c.in_ok-mark_data.ensures.marked c.as_slice-2.ensures.value c.in_ok-free.ensures.walk.inside c.in_ok-mark_links.ensures.marked in
     are_roles _ c.args.blocks c.args.free_head (linked_blocks links) c.mark_links.new.met.flags.items c.in_ok-leaves.leaves.items _ (found.are_leaves told) (c.in_ok-leaves.ensures.whole told)
@@ -80,7 +80,7 @@ returns-clause-roles g c =
     all (c.in_default.ensures _ all)
     (same_groups c.args.blocks c.in_ok-leaves.leaves.items _ c.in_ok-sort_by_block.ensures.same)
     (omega (arith, c.len-used.ensures, c.in_ok-sort_by_block.ensures.many, c.sort_by_block.new.leaves.ok.0))
-    (omega (arith, c.len.ensures, c.in_ok-free.free.links.ok.0, length-map links (λ (link : Link). link.block)))
+    (omega (arith, c.len.ensures, c.in_ok-free.free.links.ok.0, length-map links (λ (link : ChainLink). link.block)))
 
 pub returns-in_err-leaves-clause-few_reads : goal.returns-in_err-leaves-clause-few_reads
 returns-in_err-leaves-clause-few_reads g c = omega (arith, c.in_err-leaves.ensures.few_reads (0 ∷ []) (header_marked _ _ _ _ c.requires.two c.in_ok-met.ensures c.insert.ensures.added))
@@ -108,7 +108,7 @@ returns-clause-reads g c =
     let found = are_found g.S.Store.tells _ c.args.blocks _ _ c.in_ok-leaves.leaves.items c.as_slice.result.now (header_marked _ _ _ _ c.requires.two c.in_ok-met.ensures c.insert.ensures.added)
     c.in_ok-leaves.ensures.found c.in_ok-leaves.ensures.marked (λ block. ap (λ (ps : List TreePath). ids_at ps block) c.as_slice.ensures.value ∙ c.in_ok-sort_by_block.ensures.same block) in
     let read = c.in_ok-leaves.ensures.reads (0 ∷ []) (header_marked _ _ _ _ c.requires.two c.in_ok-met.ensures c.insert.ensures.added) in
-    let links : List Link = c.in_ok-free.free.links.items in
+    let links : List ChainLink = c.in_ok-free.free.links.items in
     let leaves : List TreePath = c.in_ok-leaves.leaves.items in
     let tree : List ℕ = (0 ∷ []) ++ read.more in
     let all = links_marked (λ (n : ℕ) (ns : List ℕ). AreFlagsOf n c.mark_links.new.met.flags.items ns) c.args.blocks _ (tree ++ named_blocks c.args.blocks leaves) links _ c.as_slice-2.ensures.value

@@ -1,7 +1,7 @@
 use Rattle.std.proofs.Common.{List, ℕ, sym, ap, subst}
 use Rattle.std.specs.Result.{is_ok}
 use Rattle.file_blocks.specs.Block.{block_of}
-use Rattle.quota_types.specs.Span.{KeepsOutside}
+use Rattle.quota_types.specs.KeptBytes.{KeepsOutside}
 use Rattle.quota_pages.specs.Pages.{pages_of}
 use Rattle.quota_pages.specs.Used.{shown_over}
 use Rattle.quota_pages.proofs.UsedLemmas.{lends_more, lends_of_page, missing-few, shown_over-lent}

@@ -1,7 +1,7 @@
 use Rattle.std.proofs.Common.{ℕ, List, Option, ap, ◌∙◌, ◌≡◌, arith}
 use Rattle.entry_codec.specs.Header.{header_of}
 use Rattle.tree_meaning.specs.Ids.{ids_in}
-use Rattle.tree_file.specs.Room.{blocks_wanted}
+use Rattle.tree_file.specs.BlocksWanted.{blocks_wanted}
 use Rattle.tree_file.proofs.RoomLemmas.{wanted_held}
 use Rattle.tree_file.proofs.laws.a_file_has_room_for_its_value.Goals as goal
 

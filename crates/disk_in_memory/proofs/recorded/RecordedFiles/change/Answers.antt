@@ -7,7 +7,7 @@ use Rattle.disk.specs.DiskSeen.{ChangesNothing}
 use Rattle.disk_in_memory.specs.Told.{told_of, told_with, left_unsynced, names_of, present_of}
 use Rattle.disk_in_memory.proofs.ToldLemmas.{on_err_any, told_nothing}
 use Rattle.disk_in_memory.specs.Unsynced.{unsynced_by}
-use Rattle.outside.specs.Unsynced.{AddsNone, Names, with_name}
+use Rattle.outside.specs.Unsynced.{AddsNone, UnsyncedNames, with_name}
 use Rattle.disk_in_memory.proofs.NamesLemmas.{adds_none-put, adds_none-added}
 use Rattle.disk_in_memory.proofs.recorded.RecordedFiles.change.Goals as goal
 
@@ -37,8 +37,8 @@ returns-clause-others c =
 pub make-requires : goal.make-requires
 make-requires c =
     let self = c.args.self.now in
-    subst (λ (names : Names). AddsNone names (unsynced_by c.args.call (present_of self) (left_unsynced self))) (sym c.in_ok-add.ensures.ok)
-    (subst (λ (left : Names). AddsNone (with_name (names_of self) c.args.name.now true) left) (sym (c.requires (present_of self) (left_unsynced self)))
+    subst (λ (names : UnsyncedNames). AddsNone names (unsynced_by c.args.call (present_of self) (left_unsynced self))) (sym c.in_ok-add.ensures.ok)
+    (subst (λ (left : UnsyncedNames). AddsNone (with_name (names_of self) c.args.name.now true) left) (sym (c.requires (present_of self) (left_unsynced self)))
     (adds_none-put (names_of self) (left_unsynced self) c.args.name.now true self.named))
 
 pub invariant_of-self : goal.invariant_of-self

@@ -4,7 +4,7 @@ use Rattle.disk_in_memory.specs.Told.{told_of, left_unsynced, names_of, present_
 use Rattle.disk_in_memory.proofs.ToldLemmas.{on_err_any}
 use Rattle.memory_objects.specs.declared.name_set.NameSet.{NameSet}
 use Rattle.memory_objects.specs.NameSet.{names_in}
-use Rattle.outside.specs.Unsynced.{Names, with_name, AddsNone, with_handed}
+use Rattle.outside.specs.Unsynced.{UnsyncedNames, with_name, AddsNone, with_handed}
 use Rattle.outside.proofs.UnsyncedLemmas.{handed, handed-others}
 use Rattle.disk_in_memory.proofs.NamesLemmas.{adds_none-handed, handed_where-some}
 use Rattle.disk_in_memory.proofs.recorded.RecordedFiles.hand_synced.Goals as goal
@@ -32,7 +32,7 @@ invariant_of-self c =
     c.in_ok-make.ensures.left ∙ c.requires.hands (present_of self) (left_unsynced self) ∙ handed_where-some (present_of self) (left_unsynced self) c.args.from.now c.args.to.now c.requires.there in
     record {
       replayed = c.make.new.self.replayed;
-      named = subst (λ (names : Names). AddsNone names (left_unsynced c.make.new.self)) (sym final)
-          (subst (λ (names : Names). AddsNone (with_handed (names_of self) c.args.from.now c.args.to.now) names) (sym left)
+      named = subst (λ (names : UnsyncedNames). AddsNone names (left_unsynced c.make.new.self)) (sym final)
+          (subst (λ (names : UnsyncedNames). AddsNone (with_handed (names_of self) c.args.from.now c.args.to.now) names) (sym left)
           (adds_none-handed (names_of self) (left_unsynced self) c.args.from.now c.args.to.now self.named));
     }

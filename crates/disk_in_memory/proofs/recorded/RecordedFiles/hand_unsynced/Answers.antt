@@ -5,7 +5,7 @@ use Rattle.disk_in_memory.proofs.ToldLemmas.{on_err_any, told_nothing}
 use Rattle.memory_objects.specs.declared.name_set.NameSet.{NameSet}
 use Rattle.memory_objects.specs.NameSet.{names_in}
 use Rattle.disk_in_memory.specs.Unsynced.{unsynced_by}
-use Rattle.outside.specs.Unsynced.{AddsNone, Names, with_name, with_handed}
+use Rattle.outside.specs.Unsynced.{AddsNone, UnsyncedNames, with_name, with_handed}
 use Rattle.outside.proofs.UnsyncedLemmas.{handed, handed-others, with_name-others}
 use Rattle.disk_in_memory.proofs.NamesLemmas.{adds_none-widened, handed_where-some, adds_none-handed, adds_none-added}
 use Rattle.disk_in_memory.proofs.recorded.RecordedFiles.hand_unsynced.Goals as goal
@@ -18,13 +18,13 @@ returns-in_err-add-clause-err c =
 
 pub returns-in_err-add-clause-others : goal.returns-in_err-add-clause-others
 returns-in_err-add-clause-others c =
-    λ other differ differs. ap (λ (names : Names). names other) c.in_err-add.ensures.err
+    λ other differ differs. ap (λ (names : UnsyncedNames). names other) c.in_err-add.ensures.err
 
 pub make-requires : goal.make-requires
 make-requires c =
     let self = c.args.self.now in
-    subst (λ (names : Names). AddsNone names (unsynced_by c.args.call (present_of self) (left_unsynced self))) (sym c.in_ok-add.ensures.ok)
-    (subst (λ (left : Names). AddsNone (with_name (names_of self) c.args.to.now true) left) (sym (c.requires.hands (present_of self) (left_unsynced self) ∙ handed_where-some (present_of self) (left_unsynced self) c.args.from.now c.args.to.now c.requires.there))
+    subst (λ (names : UnsyncedNames). AddsNone names (unsynced_by c.args.call (present_of self) (left_unsynced self))) (sym c.in_ok-add.ensures.ok)
+    (subst (λ (left : UnsyncedNames). AddsNone (with_name (names_of self) c.args.to.now true) left) (sym (c.requires.hands (present_of self) (left_unsynced self) ∙ handed_where-some (present_of self) (left_unsynced self) c.args.from.now c.args.to.now c.requires.there))
     (adds_none-widened (names_of self) (left_unsynced self) c.args.from.now c.args.to.now self.named))
 
 pub returns-in_err-make-clause-err : goal.returns-in_err-make-clause-err
@@ -36,7 +36,7 @@ returns-in_err-make-clause-err c =
 pub returns-in_err-make-clause-others : goal.returns-in_err-make-clause-others
 returns-in_err-make-clause-others c =
     λ other differ differs.
-    ap (λ (names : Names). names other) (ap (λ (set : NameSet). names_in set.names.items) c.make.ensures.unsynced ∙ c.in_ok-add.ensures.ok)
+    ap (λ (names : UnsyncedNames). names other) (ap (λ (set : NameSet). names_in set.names.items) c.make.ensures.unsynced ∙ c.in_ok-add.ensures.ok)
     ∙ with_name-others (names_of c.args.self.now) c.args.to.now true other differs
 
 pub returns-clause-unsynced : goal.returns-clause-unsynced
@@ -64,7 +64,7 @@ invariant_of-self-2 c =
     c.in_ok-make.ensures.left ∙ c.requires.hands (present_of self) (left_unsynced self) ∙ handed_where-some (present_of self) (left_unsynced self) c.args.from.now c.args.to.now c.requires.there in
     record {
       replayed = c.make.new.self.replayed;
-      named = subst (λ (names : Names). AddsNone names (left_unsynced c.make.new.self)) (sym final)
-          (subst (λ (names : Names). AddsNone (with_handed (names_of self) c.args.from.now c.args.to.now) names) (sym left)
+      named = subst (λ (names : UnsyncedNames). AddsNone names (left_unsynced c.make.new.self)) (sym final)
+          (subst (λ (names : UnsyncedNames). AddsNone (with_handed (names_of self) c.args.from.now c.args.to.now) names) (sym left)
           (adds_none-handed (names_of self) (left_unsynced self) c.args.from.now c.args.to.now self.named));
     }

@@ -4,7 +4,7 @@ use Rattle.std.proofs.Common.{sym, ap, List, ◌∙◌}
 use Rattle.outside.specs.World.{World}
 use Rattle.disk_in_memory.specs.Told.{calls_of, first_of, left_unsynced}
 use Rattle.disk_in_memory.specs.Unsynced.{unsynced_after, unsynced_by}
-use Rattle.disk_in_memory.specs.declared.call.Call.{Call}
+use Rattle.disk_in_memory.specs.declared.disk_call.DiskCall.{DiskCall}
 use Rattle.disk_in_memory.proofs.recorded.RecordedFiles.make.Goals as goal
 
 pub returns-clause-ok : goal.returns-clause-ok
@@ -35,7 +35,7 @@ returns-clause-left c =
     on_ok_weaker c.add.result
     (λ added.
     ap (λ (first : World). unsynced_after first (calls_of c.add.new.self)) c.add.ensures.first
-    ∙ ap (λ (calls : List Call). unsynced_after (first_of c.args.self.now) calls) added
+    ∙ ap (λ (calls : List DiskCall). unsynced_after (first_of c.args.self.now) calls) added
     ∙ ap (λ (read : World). unsynced_by c.args.call read (left_unsynced c.args.self.now)) (sym c.args.self.now.replayed))
     c.add.ensures.ok
 
@@ -44,5 +44,5 @@ returns-clause-stays c =
     on_err_weaker c.add.result
     (λ same.
     ap (λ (first : World). unsynced_after first (calls_of c.add.new.self)) c.add.ensures.first
-    ∙ ap (λ (calls : List Call). unsynced_after (first_of c.args.self.now) calls) same)
+    ∙ ap (λ (calls : List DiskCall). unsynced_after (first_of c.args.self.now) calls) same)
     c.add.ensures.err

@@ -1,6 +1,6 @@
 use Rattle.std.proofs.Common.{◌≤◌, ℕ, refl, inr, ◌∙◌}
 use Rattle.disk.specs.DiskSeen.{ChangesNothing, TakesStep}
-use Rattle.disk.specs.Steps.{IsRenamed}
+use Rattle.disk.specs.DiskCalls.{IsRenamed}
 use Rattle.disk_in_memory.specs.Told.{told_of}
 use Rattle.disk_in_memory.proofs.ToldLemmas.{on_err_any, told_nothing}
 use Rattle.disk.proofs.TakesStepLemmas.{renames_nothing, step_wider}

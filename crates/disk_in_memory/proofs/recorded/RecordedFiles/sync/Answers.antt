@@ -1,7 +1,7 @@
 use Rattle.std.proofs.Common.{◌≡◌, false, refl, ap, arith, ◌∙◌, sym, subst}
 use Rattle.memory_objects.specs.declared.name_set.NameSet.{NameSet}
 use Rattle.memory_objects.specs.NameSet.{names_in}
-use Rattle.outside.specs.Unsynced.{with_name, AddsNone, Names}
+use Rattle.outside.specs.Unsynced.{with_name, AddsNone, UnsyncedNames}
 use Rattle.outside.proofs.UnsyncedLemmas.{with_name-adds_none, with_name-others_is}
 use Rattle.disk_in_memory.specs.Told.{names_of, left_unsynced, present_of}
 use Rattle.disk.proofs.TakesStepLemmas.{step_wider, sync_keeps, sync_nothing}
@@ -50,7 +50,7 @@ invariant_of-self c =
     c.in_ok-make.ensures.left ∙ c.in_ok-call.ensures.names (present_of self) (left_unsynced self) in
     record {
       replayed = c.make.new.self.replayed;
-      named = subst (λ (names : Names). AddsNone names (left_unsynced c.make.new.self)) (sym final)
-          (subst (λ (names : Names). AddsNone (with_name (names_of self) c.args.name.now false) names) (sym left)
+      named = subst (λ (names : UnsyncedNames). AddsNone names (left_unsynced c.make.new.self)) (sym final)
+          (subst (λ (names : UnsyncedNames). AddsNone (with_name (names_of self) c.args.name.now false) names) (sym left)
           (adds_none-put (names_of self) (left_unsynced self) c.args.name.now false self.named));
     }

@@ -1,5 +1,5 @@
 use Rattle.std.proofs.Common.{◌≡◌, List, [], ◌∷◌, ◌++◌, inr, refl, arith}
-use Rattle.free_chains.specs.declared.link.Link.{Link}
+use Rattle.free_chains.specs.declared.chain_link.ChainLink.{ChainLink}
 use Rattle.free_chains.proofs.WalkLemmas.{links_fit, walk_few, walk_more}
 use Rattle.free_chains.proofs.chain.Walk.go_to.Goals as goal
 
@@ -19,8 +19,8 @@ returns-then-not-insert-clause-refused g c = rw c.damage_at-then-not-insert.ensu
 
 pub returns-clause-walk : goal.returns-clause-walk
 returns-clause-walk g c = λ is.
-    let link : Link = record { block = c.args.at; previous = c.le32-previous.result } in
-    let links : List Link = c.args.self.now.links.items in
+    let link : ChainLink = record { block = c.args.at; previous = c.le32-previous.result } in
+    let links : List ChainLink = c.args.self.now.links.items in
     let pushed : c.push.new.self.items ≡ links ++ link ∷ [] = c.in_ok-push.ensures.items in
     walk_more c.args.blocks c.args.at c.args.self.now (record { links = c.push.new.self; met = c.insert.new.self }) link is c.requires (omega arith) refl pushed
     (c.if-not-insert.ensures.added c.args.blocks _ is.marked (omega arith)).0

@@ -1,7 +1,7 @@
 use Rattle.std.proofs.Common.{inl, inr, ⊎_elim, List, ℕ, [], Option, Some, IsSome, true, sym, ap, ◌∙◌, subst}
 use Rattle.outside.specs.World.{KeepsOthers, World, with_file}
-use Rattle.disk.specs.Steps.{CutShort}
-use Rattle.edit_journal.specs.Spans.{spans_of}
+use Rattle.disk.specs.DiskCalls.{CutShort}
+use Rattle.edit_journal.specs.ByteRanges.{ranges_of}
 use Rattle.journal_store.proofs.BesideLemmas.{held-beside, names-beside, put-beside, recovered-beside, same_told}
 use Rattle.journal_store.proofs.CallLemmas.{others-entered, others-then, with_name-keeps}
 use Rattle.journal_store.proofs.KindLemmas.{is_new_name, is_plain}
@@ -35,15 +35,15 @@ returns-in_default-clause-fault g c told =
     let new = is_new_name c.args.name.now (c.in_ok-plain.ensures.new c.if-plain.false) in
     let same = (c.in_ok-plain.ensures.leaves told).files in
     ⊎_elim
-    (λ stayed. inl (same_told self.name.bytes (spans_of self.ranges.items) _ _ stayed ∙ same))
-    (λ made. inr (put-beside _ _ self.name.bytes c.args.name.now (spans_of self.ranges.items) (Some []) new made ∙ ap (λ (w : World). with_file w c.args.name.now (Some [])) same))
+    (λ stayed. inl (same_told self.name.bytes (ranges_of self.ranges.items) _ _ stayed ∙ same))
+    (λ made. inr (put-beside _ _ self.name.bytes c.args.name.now (ranges_of self.ranges.items) (Some []) new made ∙ ap (λ (w : World). with_file w c.args.name.now (Some [])) same))
     (c.in_default.ensures.fault told)
 
 pub returns-clause-ok : goal.returns-clause-ok
 returns-clause-ok g c told =
     let self = c.enter.new.self in
     let new = is_new_name c.args.name.now (c.in_ok-plain.ensures.new c.if-plain.false) in
-    put-beside _ _ self.name.bytes c.args.name.now (spans_of self.ranges.items) (Some []) new (c.in-Ok.ensures.ok told)
+    put-beside _ _ self.name.bytes c.args.name.now (ranges_of self.ranges.items) (Some []) new (c.in-Ok.ensures.ok told)
     ∙ ap (λ (w : World). with_file w c.args.name.now (Some [])) (c.in_ok-plain.ensures.leaves told).files
 
 pub returns-clause-unsynced : goal.returns-clause-unsynced
@@ -51,7 +51,7 @@ returns-clause-unsynced g c told =
     let self = c.enter.new.self in
     let plain = is_plain self.name.bytes self.plain in
     let new = is_new_name c.args.name.now (c.in_ok-plain.ensures.new c.if-plain.false) in
-    names-beside _ _ self.name.bytes c.args.name.now (spans_of self.ranges.items) true plain new (c.in-Ok.ensures.unsynced told)
+    names-beside _ _ self.name.bytes c.args.name.now (ranges_of self.ranges.items) true plain new (c.in-Ok.ensures.unsynced told)
     ∙ with_name-keeps _ _ c.args.name.now true (c.in_ok-plain.ensures.leaves told).unsynced
 
 pub returns-in_err-held_create-clause-commits : goal.returns-in_err-held_create-clause-commits

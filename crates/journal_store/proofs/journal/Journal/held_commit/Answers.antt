@@ -2,7 +2,7 @@ use Rattle.std.proofs.Common.{List, ℕ, IsSome, sym, ap, ◌∙◌, subst, leng
 use Rattle.std.proofs.lemmas.Bool.{false≢true}
 use Rattle.disk.specs.DiskSeen.{DiskSeen}
 use Rattle.edit_journal.specs.Recovered.{IsRecovered}
-use Rattle.edit_journal.specs.Spans.{spans_of}
+use Rattle.edit_journal.specs.ByteRanges.{ranges_of}
 use Rattle.edit_journal.specs.UndoName.{undo_name}
 use Rattle.edit_journal.specs.declared.kept.KeptRange.{KeptRange}
 use Rattle.edit_journal.proofs.NameLemmas.{und-own, und-undo, undo-own}
@@ -31,11 +31,11 @@ invariant_of-self g c =
       there = λ told some.
           let it : Stands a self.name.bytes c.args.name.now = stands _ _ _ c.requires.held self.plain (g.met.D.Disk.read_is_image self.disk) (self.settled told c.requires.ready) in
           let was : IsSome (a.files c.args.name.now) = subst (λ (n : List ℕ). IsSome (a.files n)) c.requires.held (self.there told some) in
-          let commits : Commits c.args.name.now c.as_str.result.now c.as_str-2.result.now (spans_of c.as_slice-ranges.result.now) a b =
+          let commits : Commits c.args.name.now c.as_str.result.now c.as_str-2.result.now (ranges_of c.as_slice-ranges.result.now) a b =
           record { leaves = c.commit_file.ensures.leaves told; others = c.commit_file.ensures.others told; names = c.commit_file.ensures.names } in
           subst (λ (n : List ℕ). IsSome (b.files n)) (sym c.requires.held)
-          (there-refused a b self.name.bytes c.args.name.now (spans_of self.ranges.items) it was
-          (commits-by _ _ _ _ _ _ _ (c.as_str.ensures.value ∙ c.undo_name-undo.ensures) (c.as_str-2.ensures.value ∙ c.und_name-und.ensures) (ap (λ (l : List KeptRange). spans_of l) c.as_slice-ranges.ensures.value) commits));
+          (there-refused a b self.name.bytes c.args.name.now (ranges_of self.ranges.items) it was
+          (commits-by _ _ _ _ _ _ _ (c.as_str.ensures.value ∙ c.undo_name-undo.ensures) (c.as_str-2.ensures.value ∙ c.und_name-und.ensures) (ap (λ (l : List KeptRange). ranges_of l) c.as_slice-ranges.ensures.value) commits));
     }
 
 pub returns-in_default-clause-leaves : goal.returns-in_default-clause-leaves
@@ -45,10 +45,10 @@ returns-in_default-clause-leaves g c told =
     let b : DiskSeen = g.D.Disk.seen c.commit_file.new.disk in
     let it : Stands a self.name.bytes c.args.name.now = stands _ _ _ c.requires.held self.plain (g.met.D.Disk.read_is_image self.disk) (self.settled told c.requires.ready) in
     let was : IsSome (a.files c.args.name.now) = subst (λ (n : List ℕ). IsSome (a.files n)) c.requires.held (self.there told c.requires.some) in
-    let commits : Commits c.args.name.now c.as_str.result.now c.as_str-2.result.now (spans_of c.as_slice-ranges.result.now) a b =
+    let commits : Commits c.args.name.now c.as_str.result.now c.as_str-2.result.now (ranges_of c.as_slice-ranges.result.now) a b =
     record { leaves = c.commit_file.ensures.leaves told; others = c.commit_file.ensures.others told; names = c.commit_file.ensures.names } in
-    looks-refused a b self.name.bytes c.args.name.now (spans_of self.ranges.items) it was
-    (commits-by _ _ _ _ _ _ _ (c.as_str.ensures.value ∙ c.undo_name-undo.ensures) (c.as_str-2.ensures.value ∙ c.und_name-und.ensures) (ap (λ (l : List KeptRange). spans_of l) c.as_slice-ranges.ensures.value) commits)
+    looks-refused a b self.name.bytes c.args.name.now (ranges_of self.ranges.items) it was
+    (commits-by _ _ _ _ _ _ _ (c.as_str.ensures.value ∙ c.undo_name-undo.ensures) (c.as_str-2.ensures.value ∙ c.und_name-und.ensures) (ap (λ (l : List KeptRange). ranges_of l) c.as_slice-ranges.ensures.value) commits)
 
 pub returns-in_default-clause-stops : goal.returns-in_default-clause-stops
 returns-in_default-clause-stops g c told =
@@ -57,10 +57,10 @@ returns-in_default-clause-stops g c told =
     let b : DiskSeen = g.D.Disk.seen c.commit_file.new.disk in
     let it : Stands a self.name.bytes c.args.name.now = stands _ _ _ c.requires.held self.plain (g.met.D.Disk.read_is_image self.disk) (self.settled told c.requires.ready) in
     let was : IsSome (a.files c.args.name.now) = subst (λ (n : List ℕ). IsSome (a.files n)) c.requires.held (self.there told c.requires.some) in
-    let commits : Commits c.args.name.now c.as_str.result.now c.as_str-2.result.now (spans_of c.as_slice-ranges.result.now) a b =
+    let commits : Commits c.args.name.now c.as_str.result.now c.as_str-2.result.now (ranges_of c.as_slice-ranges.result.now) a b =
     record { leaves = c.commit_file.ensures.leaves told; others = c.commit_file.ensures.others told; names = c.commit_file.ensures.names } in
-    stops-held a b self.name.bytes c.args.name.now (spans_of self.ranges.items) it was
-    (commits-by _ _ _ _ _ _ _ (c.as_str.ensures.value ∙ c.undo_name-undo.ensures) (c.as_str-2.ensures.value ∙ c.und_name-und.ensures) (ap (λ (l : List KeptRange). spans_of l) c.as_slice-ranges.ensures.value) commits)
+    stops-held a b self.name.bytes c.args.name.now (ranges_of self.ranges.items) it was
+    (commits-by _ _ _ _ _ _ _ (c.as_str.ensures.value ∙ c.undo_name-undo.ensures) (c.as_str-2.ensures.value ∙ c.und_name-und.ensures) (ap (λ (l : List KeptRange). ranges_of l) c.as_slice-ranges.ensures.value) commits)
 
 pub returns-clause-unsynced : goal.returns-clause-unsynced
 returns-clause-unsynced g c told =
@@ -69,12 +69,12 @@ returns-clause-unsynced g c told =
     let b : DiskSeen = g.D.Disk.seen c.commit_file.new.disk in
     let it : Stands a self.name.bytes c.args.name.now = stands _ _ _ c.requires.held self.plain (g.met.D.Disk.read_is_image self.disk) (self.settled told c.requires.ready) in
     let was : IsSome (a.files c.args.name.now) = subst (λ (n : List ℕ). IsSome (a.files n)) c.requires.held (self.there told c.requires.some) in
-    let commits : Commits c.args.name.now c.as_str.result.now c.as_str-2.result.now (spans_of c.as_slice-ranges.result.now) a b =
+    let commits : Commits c.args.name.now c.as_str.result.now c.as_str-2.result.now (ranges_of c.as_slice-ranges.result.now) a b =
     record { leaves = c.commit_file.ensures.leaves told; others = c.commit_file.ensures.others told; names = c.commit_file.ensures.names } in
-    unsynced-committed a b self.name.bytes c.args.name.now (spans_of self.ranges.items) it was
-    (commits-by _ _ _ _ _ _ _ (c.as_str.ensures.value ∙ c.undo_name-undo.ensures) (c.as_str-2.ensures.value ∙ c.und_name-und.ensures) (ap (λ (l : List KeptRange). spans_of l) c.as_slice-ranges.ensures.value) commits)
-    (settles-by _ _ _ _ _ _ (c.as_str.ensures.value ∙ c.undo_name-undo.ensures) (ap (λ (l : List KeptRange). spans_of l) c.as_slice-ranges.ensures.value) (c.in-Ok.ensures.settled told))
-    (g.met.D.Disk.read_is_image c.commit_file.new.disk) (c.in-Ok.ensures.synced told) _ (ap (λ (l : List KeptRange). spans_of l) c.clear.ensures)
+    unsynced-committed a b self.name.bytes c.args.name.now (ranges_of self.ranges.items) it was
+    (commits-by _ _ _ _ _ _ _ (c.as_str.ensures.value ∙ c.undo_name-undo.ensures) (c.as_str-2.ensures.value ∙ c.und_name-und.ensures) (ap (λ (l : List KeptRange). ranges_of l) c.as_slice-ranges.ensures.value) commits)
+    (settles-by _ _ _ _ _ _ (c.as_str.ensures.value ∙ c.undo_name-undo.ensures) (ap (λ (l : List KeptRange). ranges_of l) c.as_slice-ranges.ensures.value) (c.in-Ok.ensures.settled told))
+    (g.met.D.Disk.read_is_image c.commit_file.new.disk) (c.in-Ok.ensures.synced told) _ (ap (λ (l : List KeptRange). ranges_of l) c.clear.ensures)
 
 pub returns-clause-leaves : goal.returns-clause-leaves
 returns-clause-leaves g c told =
@@ -83,12 +83,12 @@ returns-clause-leaves g c told =
     let b : DiskSeen = g.D.Disk.seen c.commit_file.new.disk in
     let it : Stands a self.name.bytes c.args.name.now = stands _ _ _ c.requires.held self.plain (g.met.D.Disk.read_is_image self.disk) (self.settled told c.requires.ready) in
     let was : IsSome (a.files c.args.name.now) = subst (λ (n : List ℕ). IsSome (a.files n)) c.requires.held (self.there told c.requires.some) in
-    let commits : Commits c.args.name.now c.as_str.result.now c.as_str-2.result.now (spans_of c.as_slice-ranges.result.now) a b =
+    let commits : Commits c.args.name.now c.as_str.result.now c.as_str-2.result.now (ranges_of c.as_slice-ranges.result.now) a b =
     record { leaves = c.commit_file.ensures.leaves told; others = c.commit_file.ensures.others told; names = c.commit_file.ensures.names } in
-    looks-committed a b self.name.bytes c.args.name.now (spans_of self.ranges.items) it was
-    (commits-by _ _ _ _ _ _ _ (c.as_str.ensures.value ∙ c.undo_name-undo.ensures) (c.as_str-2.ensures.value ∙ c.und_name-und.ensures) (ap (λ (l : List KeptRange). spans_of l) c.as_slice-ranges.ensures.value) commits)
-    (settles-by _ _ _ _ _ _ (c.as_str.ensures.value ∙ c.undo_name-undo.ensures) (ap (λ (l : List KeptRange). spans_of l) c.as_slice-ranges.ensures.value) (c.in-Ok.ensures.settled told))
-    (g.met.D.Disk.read_is_image c.commit_file.new.disk) (c.in-Ok.ensures.synced told) _ (ap (λ (l : List KeptRange). spans_of l) c.clear.ensures)
+    looks-committed a b self.name.bytes c.args.name.now (ranges_of self.ranges.items) it was
+    (commits-by _ _ _ _ _ _ _ (c.as_str.ensures.value ∙ c.undo_name-undo.ensures) (c.as_str-2.ensures.value ∙ c.und_name-und.ensures) (ap (λ (l : List KeptRange). ranges_of l) c.as_slice-ranges.ensures.value) commits)
+    (settles-by _ _ _ _ _ _ (c.as_str.ensures.value ∙ c.undo_name-undo.ensures) (ap (λ (l : List KeptRange). ranges_of l) c.as_slice-ranges.ensures.value) (c.in-Ok.ensures.settled told))
+    (g.met.D.Disk.read_is_image c.commit_file.new.disk) (c.in-Ok.ensures.synced told) _ (ap (λ (l : List KeptRange). ranges_of l) c.clear.ensures)
 
 pub returns-clause-stops : goal.returns-clause-stops
 returns-clause-stops g c told =
@@ -97,10 +97,10 @@ returns-clause-stops g c told =
     let b : DiskSeen = g.D.Disk.seen c.commit_file.new.disk in
     let it : Stands a self.name.bytes c.args.name.now = stands _ _ _ c.requires.held self.plain (g.met.D.Disk.read_is_image self.disk) (self.settled told c.requires.ready) in
     let was : IsSome (a.files c.args.name.now) = subst (λ (n : List ℕ). IsSome (a.files n)) c.requires.held (self.there told c.requires.some) in
-    let commits : Commits c.args.name.now c.as_str.result.now c.as_str-2.result.now (spans_of c.as_slice-ranges.result.now) a b =
+    let commits : Commits c.args.name.now c.as_str.result.now c.as_str-2.result.now (ranges_of c.as_slice-ranges.result.now) a b =
     record { leaves = c.commit_file.ensures.leaves told; others = c.commit_file.ensures.others told; names = c.commit_file.ensures.names } in
-    stops-held a b self.name.bytes c.args.name.now (spans_of self.ranges.items) it was
-    (commits-by _ _ _ _ _ _ _ (c.as_str.ensures.value ∙ c.undo_name-undo.ensures) (c.as_str-2.ensures.value ∙ c.und_name-und.ensures) (ap (λ (l : List KeptRange). spans_of l) c.as_slice-ranges.ensures.value) commits)
+    stops-held a b self.name.bytes c.args.name.now (ranges_of self.ranges.items) it was
+    (commits-by _ _ _ _ _ _ _ (c.as_str.ensures.value ∙ c.undo_name-undo.ensures) (c.as_str-2.ensures.value ∙ c.und_name-und.ensures) (ap (λ (l : List KeptRange). ranges_of l) c.as_slice-ranges.ensures.value) commits)
 
 pub returns-clause-done : goal.returns-clause-done
 returns-clause-done g c told =
@@ -109,12 +109,12 @@ returns-clause-done g c told =
     let b : DiskSeen = g.D.Disk.seen c.commit_file.new.disk in
     let it : Stands a self.name.bytes c.args.name.now = stands _ _ _ c.requires.held self.plain (g.met.D.Disk.read_is_image self.disk) (self.settled told c.requires.ready) in
     let was : IsSome (a.files c.args.name.now) = subst (λ (n : List ℕ). IsSome (a.files n)) c.requires.held (self.there told c.requires.some) in
-    let commits : Commits c.args.name.now c.as_str.result.now c.as_str-2.result.now (spans_of c.as_slice-ranges.result.now) a b =
+    let commits : Commits c.args.name.now c.as_str.result.now c.as_str-2.result.now (ranges_of c.as_slice-ranges.result.now) a b =
     record { leaves = c.commit_file.ensures.leaves told; others = c.commit_file.ensures.others told; names = c.commit_file.ensures.names } in
-    recovered-committed a b self.name.bytes c.args.name.now (spans_of self.ranges.items) it was
-    (commits-by _ _ _ _ _ _ _ (c.as_str.ensures.value ∙ c.undo_name-undo.ensures) (c.as_str-2.ensures.value ∙ c.und_name-und.ensures) (ap (λ (l : List KeptRange). spans_of l) c.as_slice-ranges.ensures.value) commits)
-    (settles-by _ _ _ _ _ _ (c.as_str.ensures.value ∙ c.undo_name-undo.ensures) (ap (λ (l : List KeptRange). spans_of l) c.as_slice-ranges.ensures.value) (c.in-Ok.ensures.settled told))
-    (g.met.D.Disk.read_is_image c.commit_file.new.disk) (c.in-Ok.ensures.synced told) _ (ap (λ (l : List KeptRange). spans_of l) c.clear.ensures)
+    recovered-committed a b self.name.bytes c.args.name.now (ranges_of self.ranges.items) it was
+    (commits-by _ _ _ _ _ _ _ (c.as_str.ensures.value ∙ c.undo_name-undo.ensures) (c.as_str-2.ensures.value ∙ c.und_name-und.ensures) (ap (λ (l : List KeptRange). ranges_of l) c.as_slice-ranges.ensures.value) commits)
+    (settles-by _ _ _ _ _ _ (c.as_str.ensures.value ∙ c.undo_name-undo.ensures) (ap (λ (l : List KeptRange). ranges_of l) c.as_slice-ranges.ensures.value) (c.in-Ok.ensures.settled told))
+    (g.met.D.Disk.read_is_image c.commit_file.new.disk) (c.in-Ok.ensures.synced told) _ (ap (λ (l : List KeptRange). ranges_of l) c.clear.ensures)
 
 pub invariant_of-self-2 : goal.invariant_of-self-2
 invariant_of-self-2 g c =
@@ -126,12 +126,12 @@ invariant_of-self-2 g c =
           let a : DiskSeen = g.D.Disk.seen self.disk in
           let it : Stands a self.name.bytes c.args.name.now = stands _ _ _ c.requires.held self.plain (g.met.D.Disk.read_is_image self.disk) (self.settled told c.requires.ready) in
           let was : IsSome (a.files c.args.name.now) = subst (λ (n : List ℕ). IsSome (a.files n)) c.requires.held (self.there told c.requires.some) in
-          let commits : Commits c.args.name.now c.as_str.result.now c.as_str-2.result.now (spans_of c.as_slice-ranges.result.now) a b =
+          let commits : Commits c.args.name.now c.as_str.result.now c.as_str-2.result.now (ranges_of c.as_slice-ranges.result.now) a b =
           record { leaves = c.commit_file.ensures.leaves told; others = c.commit_file.ensures.others told; names = c.commit_file.ensures.names } in
           subst (λ (n : List ℕ). IsRecovered n (undo_name n) (b.files n) b) (sym c.requires.held)
-          (ready-committed a b self.name.bytes c.args.name.now (spans_of self.ranges.items) it was
-          (commits-by _ _ _ _ _ _ _ (c.as_str.ensures.value ∙ c.undo_name-undo.ensures) (c.as_str-2.ensures.value ∙ c.und_name-und.ensures) (ap (λ (l : List KeptRange). spans_of l) c.as_slice-ranges.ensures.value) commits)
-          (settles-by _ _ _ _ _ _ (c.as_str.ensures.value ∙ c.undo_name-undo.ensures) (ap (λ (l : List KeptRange). spans_of l) c.as_slice-ranges.ensures.value) (c.in-Ok.ensures.settled told))
-          (g.met.D.Disk.read_is_image c.commit_file.new.disk) (c.in-Ok.ensures.synced told) _ (ap (λ (l : List KeptRange). spans_of l) c.clear.ensures));
+          (ready-committed a b self.name.bytes c.args.name.now (ranges_of self.ranges.items) it was
+          (commits-by _ _ _ _ _ _ _ (c.as_str.ensures.value ∙ c.undo_name-undo.ensures) (c.as_str-2.ensures.value ∙ c.und_name-und.ensures) (ap (λ (l : List KeptRange). ranges_of l) c.as_slice-ranges.ensures.value) commits)
+          (settles-by _ _ _ _ _ _ (c.as_str.ensures.value ∙ c.undo_name-undo.ensures) (ap (λ (l : List KeptRange). ranges_of l) c.as_slice-ranges.ensures.value) (c.in-Ok.ensures.settled told))
+          (g.met.D.Disk.read_is_image c.commit_file.new.disk) (c.in-Ok.ensures.synced told) _ (ap (λ (l : List KeptRange). ranges_of l) c.clear.ensures));
       there = λ told some. absurd (omega (arith, some, ap length c.clear.ensures));
     }

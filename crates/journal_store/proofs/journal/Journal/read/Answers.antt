@@ -1,6 +1,6 @@
 use Rattle.std.proofs.Common.{List, ℕ, length, Option, sym, ap, ◌∙◌, []}
 use Rattle.outside.specs.World.{World, bytes_from}
-use Rattle.edit_journal.specs.Spans.{spans_of}
+use Rattle.edit_journal.specs.ByteRanges.{ranges_of}
 use Rattle.edit_journal.specs.UndoName.{und_name, undo_name}
 use Rattle.journal_store.proofs.CallLemmas.{stops-looked}
 use Rattle.journal_store.proofs.KindLemmas.{is_new_name}
@@ -33,7 +33,7 @@ returns-clause-count g c told =
     let self = c.enter.new.self in
     let new = is_new_name c.args.name.now (c.in_ok-plain.ensures.new c.if-plain.false) in
     c.in-Ok.ensures.count told
-    ∙ ap (λ (f : Option (List ℕ)). length (bytes_from f c.args.at (length c.args.buf.now))) (sym (told-new (g.D.Disk.seen self.disk).files self.name.bytes (spans_of self.ranges.items) c.args.name.now new.undo new.new))
+    ∙ ap (λ (f : Option (List ℕ)). length (bytes_from f c.args.at (length c.args.buf.now))) (sym (told-new (g.D.Disk.seen self.disk).files self.name.bytes (ranges_of self.ranges.items) c.args.name.now new.undo new.new))
     ∙ ap (λ (w : World). length (bytes_from (w c.args.name.now) c.args.at (length c.args.buf.now))) (c.in_ok-plain.ensures.leaves told).files
 
 pub returns-clause-bytes : goal.returns-clause-bytes
@@ -41,7 +41,7 @@ returns-clause-bytes g c told =
     let self = c.enter.new.self in
     let new = is_new_name c.args.name.now (c.in_ok-plain.ensures.new c.if-plain.false) in
     c.in-Ok.ensures.bytes told
-    ∙ ap (λ (f : Option (List ℕ)). bytes_from f c.args.at (length c.args.buf.now)) (sym (told-new (g.D.Disk.seen self.disk).files self.name.bytes (spans_of self.ranges.items) c.args.name.now new.undo new.new))
+    ∙ ap (λ (f : Option (List ℕ)). bytes_from f c.args.at (length c.args.buf.now)) (sym (told-new (g.D.Disk.seen self.disk).files self.name.bytes (ranges_of self.ranges.items) c.args.name.now new.undo new.new))
     ∙ ap (λ (w : World). bytes_from (w c.args.name.now) c.args.at (length c.args.buf.now)) (c.in_ok-plain.ensures.leaves told).files
 
 pub returns-in_err-count-clause-commits : goal.returns-in_err-count-clause-commits

@@ -1,6 +1,6 @@
 use Rattle.std.proofs.Common.{List, ℕ, length, Option, option_map, sym, ap, ◌∙◌, []}
 use Rattle.outside.specs.World.{World}
-use Rattle.edit_journal.specs.Spans.{spans_of}
+use Rattle.edit_journal.specs.ByteRanges.{ranges_of}
 use Rattle.edit_journal.specs.UndoName.{und_name, undo_name}
 use Rattle.journal_store.proofs.CallLemmas.{stops-looked}
 use Rattle.journal_store.proofs.KindLemmas.{is_new_name}
@@ -29,7 +29,7 @@ returns-clause-found g c told =
     let self = c.enter.new.self in
     let new = is_new_name c.args.name.now (c.in_ok-plain.ensures.new c.if-plain.false) in
     c.in-Ok.ensures.found told
-    ∙ ap (λ (f : Option (List ℕ)). option_map length f) (sym (told-new (g.D.Disk.seen self.disk).files self.name.bytes (spans_of self.ranges.items) c.args.name.now new.undo new.new))
+    ∙ ap (λ (f : Option (List ℕ)). option_map length f) (sym (told-new (g.D.Disk.seen self.disk).files self.name.bytes (ranges_of self.ranges.items) c.args.name.now new.undo new.new))
     ∙ ap (λ (w : World). option_map length (w c.args.name.now)) (c.in_ok-plain.ensures.leaves told).files
 
 pub returns-in_err-held-clause-commits : goal.returns-in_err-held-clause-commits

@@ -1,7 +1,7 @@
 use Rattle.std.proofs.Common.{is_ok, rules, false, ap, ◌∙◌, subst, [], sym}
 use Rattle.outside.specs.World.{World}
 use Rattle.edit_journal.specs.Recovered.{IsRecovered}
-use Rattle.edit_journal.specs.Spans.{spans_of}
+use Rattle.edit_journal.specs.ByteRanges.{ranges_of}
 use Rattle.edit_journal.specs.UndoName.{und_name, undo_name}
 use Rattle.journal_store.proofs.BesideLemmas.{names-beside}
 use Rattle.journal_store.proofs.CallLemmas.{others-entered, others-then, stops-entered, stops-looked, stops-then, with_name-keeps}
@@ -21,7 +21,7 @@ returns-then-not-plain-clause-unsynced g c told =
     let self = c.enter.new.self in
     let plain = is_plain self.name.bytes self.plain in
     let new = is_new_name c.args.name.now (c.in_ok-plain.ensures.new c.if-not-plain.true) in
-    names-beside (g.D.Disk.seen self.disk).unsynced (g.D.Disk.seen c.sync.new.self).unsynced self.name.bytes c.args.name.now (spans_of self.ranges.items) false plain new (c.in-Ok.ensures.unsynced told)
+    names-beside (g.D.Disk.seen self.disk).unsynced (g.D.Disk.seen c.sync.new.self).unsynced self.name.bytes c.args.name.now (ranges_of self.ranges.items) false plain new (c.in-Ok.ensures.unsynced told)
     ∙ with_name-keeps _ _ c.args.name.now false (c.in_ok-plain.ensures.leaves told).unsynced
 
 pub returns-in_err-held_sync-clause-leaves : goal.returns-in_err-held_sync-clause-leaves

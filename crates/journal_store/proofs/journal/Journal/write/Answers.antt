@@ -1,8 +1,8 @@
 use Rattle.std.proofs.Common.{inl, inr, ⊎_elim, List, ℕ, Option, IsSome, length, true, sym, ap, ◌∙◌, subst, []}
 use Rattle.outside.specs.World.{World, with_bytes}
 use Rattle.outside.proofs.FrameLemmas.{keeps_others-then}
-use Rattle.disk.specs.Steps.{IsOutside, Torn}
-use Rattle.edit_journal.specs.Spans.{spans_of}
+use Rattle.disk.specs.DiskCalls.{IsOutside, Torn}
+use Rattle.edit_journal.specs.ByteRanges.{ranges_of}
 use Rattle.edit_journal.specs.UndoName.{und_name, undo_name}
 use Rattle.journal_store.specs.Told.{Told}
 use Rattle.journal_store.proofs.BesideLemmas.{held-beside, names-beside, recovered-beside, same_told, written-beside}
@@ -54,15 +54,15 @@ returns-in_default-clause-fault g c told =
     let new = is_new_name c.args.name.now (c.in_ok-plain.ensures.new c.if-plain.false) in
     let same = (c.in_ok-plain.ensures.leaves told).files in
     ⊎_elim
-    (λ stayed. inl (same_told self.name.bytes (spans_of self.ranges.items) _ _ stayed ∙ same))
-    (λ made. inr (written-beside (g.D.Disk.seen self.disk).files (g.D.Disk.seen c.write.new.self).files self.name.bytes c.args.name.now (spans_of self.ranges.items) c.args.at c.args.bytes.now new made ∙ ap (λ (w : World). with_bytes w c.args.name.now c.args.at c.args.bytes.now) same))
+    (λ stayed. inl (same_told self.name.bytes (ranges_of self.ranges.items) _ _ stayed ∙ same))
+    (λ made. inr (written-beside (g.D.Disk.seen self.disk).files (g.D.Disk.seen c.write.new.self).files self.name.bytes c.args.name.now (ranges_of self.ranges.items) c.args.at c.args.bytes.now new made ∙ ap (λ (w : World). with_bytes w c.args.name.now c.args.at c.args.bytes.now) same))
     (c.in_default.ensures.fault told)
 
 pub returns-clause-ok : goal.returns-clause-ok
 returns-clause-ok g c told =
     let self = c.enter.new.self in
     let new = is_new_name c.args.name.now (c.in_ok-plain.ensures.new c.if-plain.false) in
-    written-beside (g.D.Disk.seen self.disk).files (g.D.Disk.seen c.write.new.self).files self.name.bytes c.args.name.now (spans_of self.ranges.items) c.args.at c.args.bytes.now new (c.in-Ok.ensures.ok told)
+    written-beside (g.D.Disk.seen self.disk).files (g.D.Disk.seen c.write.new.self).files self.name.bytes c.args.name.now (ranges_of self.ranges.items) c.args.at c.args.bytes.now new (c.in-Ok.ensures.ok told)
     ∙ ap (λ (w : World). with_bytes w c.args.name.now c.args.at c.args.bytes.now) (c.in_ok-plain.ensures.leaves told).files
 
 pub returns-clause-unsynced : goal.returns-clause-unsynced
@@ -70,7 +70,7 @@ returns-clause-unsynced g c told =
     let self = c.enter.new.self in
     let plain = is_plain self.name.bytes self.plain in
     let new = is_new_name c.args.name.now (c.in_ok-plain.ensures.new c.if-plain.false) in
-    names-beside _ _ self.name.bytes c.args.name.now (spans_of self.ranges.items) true plain new (c.in-Ok.ensures.unsynced told)
+    names-beside _ _ self.name.bytes c.args.name.now (ranges_of self.ranges.items) true plain new (c.in-Ok.ensures.unsynced told)
     ∙ with_name-keeps _ _ c.args.name.now true (c.in_ok-plain.ensures.leaves told).unsynced
 
 pub returns-in_err-keep-clause-commits : goal.returns-in_err-keep-clause-commits

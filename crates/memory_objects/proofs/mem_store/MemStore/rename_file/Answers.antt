@@ -1,5 +1,5 @@
 use Rattle.std.proofs.Common.{refl, ap, arith}
-use Rattle.outside.specs.Unsynced.{Names}
+use Rattle.outside.specs.Unsynced.{UnsyncedNames}
 use Rattle.outside.proofs.UnsyncedLemmas.{handed-others, keeps_other_two-result}
 use Rattle.outside.proofs.WorldLemmas.{with_new_name-others}
 use Rattle.memory_objects.proofs.mem_store.MemStore.rename_file.Goals as goal
@@ -7,7 +7,7 @@ use Rattle.memory_objects.proofs.mem_store.MemStore.rename_file.Goals as goal
 pub returns-in_err-hand_over-clause-leaves : goal.returns-in_err-hand_over-clause-leaves
 returns-in_err-hand_over-clause-leaves c = record {
   files = λ other differ differs. refl;
-  unsynced = λ other differ differs. ap (λ (names : Names). names other) c.in_err-hand_over.ensures.err;
+  unsynced = λ other differ differs. ap (λ (names : UnsyncedNames). names other) c.in_err-hand_over.ensures.err;
   later = omega arith;
   reads = refl;
 }

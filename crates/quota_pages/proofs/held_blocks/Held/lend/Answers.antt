@@ -1,16 +1,16 @@
 use Rattle.std.proofs.Common.{◌≡◌, List, ℕ, length, get_or, refl, ap, ◌∙◌}
 use Rattle.arrayvec.specs.ArrayVec.{ArrayVec, with_item}
 use Rattle.quota_pages.specs.Held.{with_lent}
-use Rattle.quota_pages.specs.declared.held_blocks.Head.{Head}
+use Rattle.quota_pages.specs.declared.held_blocks.PageHead.{PageHead}
 use Rattle.quota_pages.specs.declared.held_blocks.Held.{Held}
 use Rattle.quota_pages.proofs.HeldLemmas.{same_read}
 use Rattle.quota_pages.proofs.held_blocks.Held.lend.Goals as goal
 
 -- what is held where the mark was set and the block was written
-same_held : (held : Held) (heads : ArrayVec Head) (blocks : ArrayVec (List ℕ)) (place : ℕ) (bytes : List ℕ) → heads ≡ (with_lent held place bytes).heads → blocks ≡ held.blocks
+same_held : (held : Held) (heads : ArrayVec PageHead) (blocks : ArrayVec (List ℕ)) (place : ℕ) (bytes : List ℕ) → heads ≡ (with_lent held place bytes).heads → blocks ≡ held.blocks
     → let left : Held = record { heads = heads; blocks = with_item blocks place bytes } in left ≡ with_lent held place bytes
 same_held held heads blocks place bytes marked kept =
-    ap (λ (h : ArrayVec Head). let left : Held = record { heads = h; blocks = with_item blocks place bytes } in left) marked
+    ap (λ (h : ArrayVec PageHead). let left : Held = record { heads = h; blocks = with_item blocks place bytes } in left) marked
     ∙ ap (λ (b : ArrayVec (List ℕ)). let left : Held = record { heads = (with_lent held place bytes).heads; blocks = with_item b place bytes } in left) kept
 
 pub returns : goal.returns

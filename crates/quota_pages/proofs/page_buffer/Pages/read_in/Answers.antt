@@ -1,7 +1,7 @@
 use Rattle.std.proofs.Common.{List, ℕ, [], ◌∷◌, false, length, refl, ap, ◌∙◌, arith, length-append}
 use Rattle.file_blocks.specs.Block.{block_of, bytes_of}
 use Rattle.quota_pages.specs.Pages.{name_of, pages_of}
-use Rattle.quota_pages.specs.declared.held_blocks.Head.{Head}
+use Rattle.quota_pages.specs.declared.held_blocks.PageHead.{PageHead}
 use Rattle.quota_pages.proofs.BufferLemmas.{looks_at-read, page_count, pushed_distinct}
 use Rattle.quota_pages.proofs.HeldLemmas.{pushed_beside, pushed_pages}
 use Rattle.quota_pages.proofs.page_buffer.Pages.read_in.Goals as goal
@@ -21,7 +21,7 @@ invariant_of-self-clause-distinct g c = pushed_distinct _ _ _ _ _ _ c.args.self.
 
 pub invariant_of-self-clause-few : goal.invariant_of-self-clause-few
 invariant_of-self-clause-few g c =
-    let head : Head = record { number = c.args.number; lent = false } in
+    let head : PageHead = record { number = c.args.number; lent = false } in
     omega (arith, ap length c.push.ensures.heads, length-append c.args.self.now.held.heads.items (head ∷ []), page_count c.args.self.now, c.requires.room)
 
 pub returns-clause-looked : goal.returns-clause-looked

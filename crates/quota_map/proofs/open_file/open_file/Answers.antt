@@ -1,0 +1,31 @@
+use Rattle.std.proofs.Common.{◌≡◌, true, false, Ok, sym, ◌∙◌}
+use Rattle.quota_map.specs.View.{asks_flat}
+use Rattle.quota_map.proofs.ViewLemmas.{flat_seen, seen_flat, seen_tree, tree_asked, tree_seen}
+use Rattle.quota_map.proofs.open_file.open_file.Goals as goal
+
+pub returns-then-asks_flat-clause-seen : goal.returns-then-asks_flat-clause-seen
+returns-then-asks_flat-clause-seen g c =
+    let is : asks_flat c.args.format ≡ true = sym c.asks_flat.ensures ∙ c.if-asks_flat.true in
+    λ told.
+    let seen = c.in_ok-open_v1.ensures.seen told c.args.kind in
+    (seen.0, seen_flat _ c.args.kind c.args.format (Ok seen.0) is seen.1)
+
+pub returns-then-asks_flat-clause-held : goal.returns-then-asks_flat-clause-held
+returns-then-asks_flat-clause-held g c =
+    let is : asks_flat c.args.format ≡ true = sym c.asks_flat.ensures ∙ c.if-asks_flat.true in
+    λ told value seen. c.in_ok-open_v1.ensures.held told c.args.kind value (flat_seen _ c.args.kind c.args.format (Ok value) is seen)
+
+pub returns-clause-seen : goal.returns-clause-seen
+returns-clause-seen g c =
+    let other : asks_flat c.args.format ≡ false = sym c.asks_flat.ensures ∙ c.if-asks_flat.false in
+    λ told.
+    let seen = c.in_ok-open_tree.ensures.seen told in
+    (seen.0, seen_tree _ c.args.kind c.args.format (Ok seen.0) other seen.1)
+
+pub returns-clause-held : goal.returns-clause-held
+returns-clause-held g c =
+    let other : asks_flat c.args.format ≡ false = sym c.asks_flat.ensures ∙ c.if-asks_flat.false in
+    λ told value seen. c.in_ok-open_tree.ensures.held told value (tree_seen _ c.args.kind c.args.format (Ok value) other seen)
+
+pub open_tree-requires : goal.open_tree-requires
+open_tree-requires g c = tree_asked c.args.format (sym c.asks_flat.ensures ∙ c.if-asks_flat.false)

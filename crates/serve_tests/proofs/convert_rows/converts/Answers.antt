@@ -1,7 +1,0 @@
-use Rattle.std.proofs.Common.{ap, arith, length}
-use Rattle.outside.specs.Replacement.{replacement_name}
-use Rattle.serve_tests.proofs.convert_rows.converts.Goals as goal
-
-pub convert-answer-requires : goal.convert-answer-requires
-unfolding replacement_name
-convert-answer-requires c = λ same. omega (arith, ap length same)

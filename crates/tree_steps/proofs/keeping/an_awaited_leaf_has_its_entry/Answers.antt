@@ -1,5 +1,0 @@
-use Rattle.tree_steps.proofs.KeptLemmas.{awaited_data, awaited_entry, full_no_room}
-use Rattle.tree_steps.proofs.keeping.an_awaited_leaf_has_its_entry.Goals as goal
-
-pub returns : goal.returns
-returns c = record { data_block = awaited_data; entry = awaited_entry; full = full_no_room }
