@@ -108,7 +108,7 @@ class Source:
             last -= 1
         kind = (found.group(2) or "").strip()
         self.definitions.append(Definition(self, found.group(3), kind, "pub" in found.group(1), head[0], last))
-        self.definitions[-1].section = head[2]
+        self.definitions[-1].head, self.definitions[-1].section = head[1], head[2]
 
     def scope(self):
         return scope_of(self.imports)

@@ -5,7 +5,8 @@
 //! synced, by the journal of `edit_journal`. A file is recovered before anything is read of it or written into it.
 //!
 //! The one promise: what a `JournalStore` tells of its files stays in step with what was done, and whatever a stop may
-//! leave of a file recovers to the one before a call or to the one after it.
+//! leave of a file recovers to the one before a call or to the one after it, but for a file that is made anew or written
+//! under a name in `.new`, until it is synced.
 #![tactic(auto)]
 
 mod calls;
