@@ -8,6 +8,8 @@
 # - /home, /root, /etc/passwd and /etc/group are folders and files of this test. In /home are a quota file of users and one of
 #   groups, in which alice has limits. A display of COMMANDS is run for groups, and with flat files, too, as that page says.
 # - quotaoff, quotaon, mount and `editor` are stand-ins, which look at their words, and mail is one that keeps them.
+# - /usr/local/bin/quota_client is the built program. The script that mails is given no variables but such as cron sets, and
+#   of the stand-ins it finds mail alone.
 # - 8750 is a port that is free, and --calls says 2, or 1 in a loop, which ends once its file is taken away.
 # - `...` behind find stands for the words of the find of COMMANDS, and words in capitals for a file, a user, a number or `true`.
 set -Eeuo pipefail
@@ -317,24 +319,30 @@ unit_of_systemd() {
     looped
 }
 
-# mailed: alice, who exceeds her soft limit, gets a mail, and nobody else does; where no server runs, nobody, and it ends.
+# mailed: alice, who exceeds her soft limit, gets a mail, and nobody else does; lines that name no user are passed over; where
+# no server runs, nobody gets one, and it ends. It is run as cron runs it.
 mailed() {
-    local ended
+    local ended by_cron=(env -i FOLDER="$folder" PATH="$folder/mailing:/usr/bin:/bin" timeout 30 sh -u words)
     prepare user
     quota_cli setquota -u 1000 1 2M 3 4 "$place/home/aquota.user"
     quota_cli setquota -u -T 1000 3600 unset "$place/home/aquota.user"
-    sed -i '1i bob:x:1001:1001::/home/bob:/bin/sh' "$place/passwd"
-    placed user | sed 's|"$gid" [^)]*)|"$gid" /home)|' >"$place/words"
+    mkdir -p mailing
+    cp tools/mail mailing/
+    {
+        printf '%s\n' '' '# users' '+::::::' '-carol::::::' 'bob:x:1001:1001::/home/bob:/bin/sh'
+        cat ready/passwd
+    } >"$place/passwd"
+    placed user | sed -e 's|"$gid" [^)]*)|"$gid" /home)|' -e "s|/usr/local/bin/|$folder/tools/|" >"$place/words"
     : >mails
     quota_cli rquotad --calls 2 --port "$port" --export /home user "$place/home/aquota.user" >said 2>&1 &
     ended=$!
-    (cd "$place" && timeout 30 sh -u words) </dev/null >got 2>&1 || true
+    (cd "$place" && "${by_cron[@]}") </dev/null >got 2>&1 || true
     wait "$ended" || true
     cat said mails >>got
     printf '%s\n' '-s disk quota alice' '/home: over block limit by 3 KiB, grace 01:00' >wanted
     same "$line" 'something else is mailed'
     : >mails
-    (cd "$place" && timeout 30 sh -u words && echo well) </dev/null >got 2>&1 || true
+    (cd "$place" && "${by_cron[@]}" && echo well) </dev/null >got 2>&1 || true
     cat mails >>got
     echo 'bob: /home: no reply' >wanted
     same "$line" 'without a server it does something else'

@@ -102,6 +102,16 @@ if command -v python3 >/dev/null; then
         same "the calls of: $what" "$(grep -c / calls.txt || true)" "$calls"
     }
     through pass 'a relay' 0 "/home$own" 1 /home
+    # The number of the first call is the seconds of the clock modulo 2^32, and each path has one more than the path before.
+    begin=$(date +%s)
+    through pass 'two calls through a relay' 0 "/home$own
+/srv$own" 2 /home /srv
+    took=$(($(date +%s) - begin))
+    first=$(awk '$1 == "/home" { print $2; exit }' calls.txt)
+    second=$(awk '$1 == "/srv" { print $2; exit }' calls.txt)
+    same 'the number of the first call is the seconds of the clock' \
+        "$([ -n "$first" ] && [ $(((first - begin) & 4294967295)) -le "$took" ] && echo so)" so
+    same 'the number of the second call is one more' "$second" $(((first + 1) & 4294967295))
     through double 'doubled replies' 0 "/home$own
 /nowhere: none
 /srv$own" 3 /home /nowhere /srv

@@ -3,8 +3,8 @@
 
 relay.py PORT SERVER RULE [NUMBER]   takes calls at PORT, and hands them to the server at the port SERVER
 
-It prints `ready`, and then the path of each call in a line, and goes on until it is killed. The rule says what comes of a
-call:
+It prints `ready`, and then the path and the xid of each call in a line, and goes on until it is killed. The rule says
+what comes of a call:
 
 pass            its reply
 drop NUMBER     nothing for the first calls, so many, and then the reply
@@ -38,14 +38,18 @@ def path_of(call):
     return call[64:64 + length].decode()
 
 
+def xid_of(call):
+    """The number that a call begins with."""
+    return struct.unpack(">I", call[:4])[0]
+
+
 def units(*numbers):
     return struct.pack(">%dI" % len(numbers), *numbers)
 
 
 def other(call, count):
     """A datagram that is no reply to a call: too short, the call itself, or a reply with another xid, in turn."""
-    xid = struct.unpack(">I", call[:4])[0]
-    return (b"abc", call, units(xid ^ 0x80000000, 1, 0, 0, 0, 0, 3))[count % 3]
+    return (b"abc", call, units(xid_of(call) ^ 0x80000000, 1, 0, 0, 0, 0, 3))[count % 3]
 
 
 class Relay:
@@ -66,7 +70,7 @@ class Relay:
     def answers(self, call, path):
         """The datagrams that come of a call."""
         rule = self.rule
-        denied = units(*struct.unpack(">I", call[:4]), 1, 0, 0, 0, 0, 3)
+        denied = units(xid_of(call), 1, 0, 0, 0, 0, 3)
         if rule == "noise":
             return [other(call, count) for count in range(self.number)]
         if rule == "denied":
@@ -96,9 +100,9 @@ class Relay:
             call, client = self.front.recvfrom(4096)
             self.calls += 1
             path = path_of(call)
-            print(path, flush=True)
+            print(path, xid_of(call), flush=True)
             if self.rule == "false":
-                self.stranger.sendto(units(*struct.unpack(">I", call[:4]), 1, 0, 0, 0, 0, 3), client)
+                self.stranger.sendto(units(xid_of(call), 1, 0, 0, 0, 0, 3), client)
             for datagram in self.answers(call, path):
                 self.front.sendto(datagram, client)
 

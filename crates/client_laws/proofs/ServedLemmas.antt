@@ -24,16 +24,17 @@ has_replies exported asked first done old new asks = asks.own (reply_of exported
 
 -- a run that ended with status 0 or 1 asked for each path
 pub prints_replies : (exported : ExportedValues) (words : Result Asked Fault) (asked : Asked) (first : ℕ) (tells : ClientTells) (old new : ClientSeen) (status : ℕ) → words ≡ Ok asked → IsTrue tells.asking.peer
-    → IsTrue tells.asking.out → status ≤ 1 → Runs words first tells old new status → PrintsRepliesOf exported asked first old.asking new.asking
+    → IsTrue tells.asking.out → status ≤ 1 → Runs words first tells old new status → PrintsRepliesOf exported asked first old.asking new.asking status
 prints_replies exported words asked first tells old new status is told_peer told_out few runs =
     elim (subst (λ (w : Result Asked Fault). Runs w first tells old new status) is runs) [
       | inl done ↦
           let has = done.answers told_peer in record {
             done = has.done;
             all = has.all;
-            taken = has.asks.are_asked.left;
+            asks = has.asks;
             printed = has.out told_out;
             replies = has_replies exported asked first has.done old.asking.peer new.asking.peer has.asks;
+            ended = has.ended;
           }
       | inr fails ↦ elim fails [ inl peer ↦ absurd (omega (arith, few, peer.ended)) | inr out ↦ absurd (omega (arith, few, out.ended)) ]
     ]

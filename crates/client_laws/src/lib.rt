@@ -23,8 +23,9 @@ pub fn each_reply_of_rquotad_is_one_to_its_own_call()
         → AsksPaths asked first done old new → HasRepliesOf exported asked first done }
 {}
 
-/// Runs the client, and answers its status. Where it asked for each path, and the datagrams that it took come from an
-/// `rquotad`, what it printed of a path with a reply is what that server replied to the call for this path.
+/// Runs the client, and answers its status. Where that is 0 or 1, each path was asked for by its own call, and where also the
+/// datagrams that were taken come from an `rquotad`, what was printed of a path with a reply is what that server replied to
+/// the call for this path.
 pub fn ask_rquotad<P: Peer, O: Sink, E: Sink>(
     words: &[String],
     peer: &mut P,
@@ -35,7 +36,7 @@ pub fn ask_rquotad<P: Peer, O: Sink, E: Sink>(
     ensures { (exported : ExportedValues) (asked : Asked) → asked_of (texts_of words.now) ≡ Ok asked
         → IsTrue P.tells → IsTrue O.tells → result ≤ 1
         → PrintsRepliesOf exported asked xid (asking_of (P.seen peer.old) (O.seen out.old))
-        (asking_of (P.seen peer.new) (O.seen out.new)) }
+        (asking_of (P.seen peer.new) (O.seen out.new)) result }
 {
     run_client(words, peer, out, err, xid)
 }

@@ -16,7 +16,7 @@ use Rattle.quota_client.specs.declared.client.Client.{Client}
 use Rattle.quota_client.specs.Asking.{limits_call}
 use Rattle.quota_client.specs.Exchange.{Answers, IsExchange, IsReplyTo}
 use Rattle.quota_client.specs.Paths.{IsExchanged, PathAsked, PathCall, call_bytes, path_calls}
-use Rattle.quota_client.specs.Served.{ComesFrom, HaveOwnReplies, IsReplyOf, KeepsXid, Server}
+use Rattle.quota_client.specs.Served.{ComesFrom, HaveOwnReplies, IsOwnReply, IsReplyOf, KeepsXid, Server}
 
 -- ---- the xid of a call
 
@@ -94,15 +94,12 @@ spelling_fits (Quota xid quota) = omega arith
 spelling_fits (NoQuota xid) = omega arith
 spelling_fits (Denied xid) = omega arith
 
--- a datagram that answers a call, and that the server sent in reply to some call of the run, is a reply to the former
-own_datagram : (client : Client) (server : Server) (first : ℕ) (paths : List (List ℕ)) (call : PathCall) (datagram : List ℕ) (reply : Reply) → length paths ≤ 16 → KeepsXid server
-    → Contains (path_calls first paths) call → IsReplyTo call.xid (take 4096 datagram) reply → ComesFrom server (map (call_bytes client) (path_calls first paths)) (Some datagram)
-    → IsReplyOf server (call_bytes client call) datagram reply
-own_datagram client server first paths call datagram reply few keeps here answers comes =
-    let asked = comes.0 in
-    let sent = comes.1 in
-    let from = comes.3 in
-    let other = contains-unmap (call_bytes client) (path_calls first paths) asked comes.2 in
+-- a datagram that answers a call, and that the server sent in reply to some call of the run, was sent in reply to the former
+one_origin : (client : Client) (server : Server) (first : ℕ) (paths : List (List ℕ)) (call : PathCall) (datagram : List ℕ) (reply : Reply) → length paths ≤ 16 → KeepsXid server
+    → Contains (path_calls first paths) call → IsReplyTo call.xid (take 4096 datagram) reply → (asked : List ℕ) (sent : Reply) → Contains (map (call_bytes client) (path_calls first paths)) asked
+    → IsReplyOf server asked datagram sent → (asked ≡ call_bytes client call) × (sent ≡ reply)
+one_origin client server first paths call datagram reply few keeps here answers asked sent among from =
+    let other = contains-unmap (call_bytes client) (path_calls first paths) asked among in
     let short : length datagram ≤ 4096 = subst (λ (d : List ℕ). length d ≤ 4096) (sym from.spelled) (spelling_fits sent) in
     let whole : take 4096 datagram ≡ datagram = take_all 4096 datagram short in
     let xid_asked : xid_of asked ≡ other.0.xid = ap xid_of other.2 ∙ limits_call-xid other.0.xid client.uid client.gid other.0.path client.uid (call_fits first paths other.0 other.1) in
@@ -111,17 +108,30 @@ own_datagram client server first paths call datagram reply few keeps here answer
     let xid_sent : reply_xid sent ≡ xid_of asked = keeps.xid asked from.moment sent from.replied in
     let xids : other.0.xid ≡ call.xid = sym xid_asked ∙ sym xid_sent ∙ ap reply_xid (sym same) ∙ answers.own in
     let calls : other.0 ≡ call = same_call first paths other.0 call few other.1 here xids in
-    let bytes : asked ≡ call_bytes client call = other.2 ∙ ap (call_bytes client) calls in
+    (other.2 ∙ ap (call_bytes client) calls, sym same)
+
+-- so it is a reply to the former
+own_datagram : (client : Client) (server : Server) (first : ℕ) (paths : List (List ℕ)) (call : PathCall) (datagram : List ℕ) (reply : Reply) → length paths ≤ 16 → KeepsXid server
+    → Contains (path_calls first paths) call → IsReplyTo call.xid (take 4096 datagram) reply → ComesFrom server (map (call_bytes client) (path_calls first paths)) (Some datagram)
+    → IsOwnReply server (map (call_bytes client) (path_calls first paths)) (call_bytes client call) datagram reply
+own_datagram client server first paths call datagram reply few keeps here answers comes =
+    let only = one_origin client server first paths call datagram reply few keeps here answers in
+    let sent = comes.1 in
+    let from = comes.3 in
+    let same = only comes.0 sent comes.2 from in
     record {
-      moment = from.moment;
-      replied = subst (λ (r : Reply). server (call_bytes client call) from.moment ≡ Some r) (sym same) (subst (λ (b : List ℕ). server b from.moment ≡ Some sent) bytes from.replied);
-      spelled = from.spelled ∙ ap spelling_of (sym same);
+      is = record {
+        moment = from.moment;
+        replied = subst (λ (r : Reply). server (call_bytes client call) from.moment ≡ Some r) same.1 (subst (λ (b : List ℕ). server b from.moment ≡ Some sent) same.0 from.replied);
+        spelled = from.spelled ∙ ap spelling_of same.1;
+      };
+      only = only;
     }
 
 -- the last event of an answered attempt is the datagram
 own_event : (client : Client) (server : Server) (first : ℕ) (paths : List (List ℕ)) (call : PathCall) (event : Event) (taken : List Event) (reply : Reply) → length paths ≤ 16 → KeepsXid server
     → Contains (path_calls first paths) call → Answers call.xid event reply → Contains taken event → All (ComesFrom server (map (call_bytes client) (path_calls first paths))) taken
-    → (datagram : List ℕ) × Contains taken (Some datagram) × IsReplyOf server (call_bytes client call) datagram reply
+    → (datagram : List ℕ) × Contains taken (Some datagram) × IsOwnReply server (map (call_bytes client) (path_calls first paths)) (call_bytes client call) datagram reply
 own_event client server first paths call None taken reply few keeps here answers among from = absurd answers
 own_event client server first paths call (Some datagram) taken reply few keeps here answers among from = (
   datagram,
@@ -132,7 +142,7 @@ own_event client server first paths call (Some datagram) taken reply few keeps h
 
 own_exchange : (client : Client) (server : Server) (first : ℕ) (paths : List (List ℕ)) (call : PathCall) (taken : List Event) (calls : ℕ) (reply : Option Reply) → length paths ≤ 16 → KeepsXid server
     → Contains (path_calls first paths) call → IsExchange call.xid taken calls reply → All (ComesFrom server (map (call_bytes client) (path_calls first paths))) taken
-    → IfSome reply (λ reply. (datagram : List ℕ) × Contains taken (Some datagram) × IsReplyOf server (call_bytes client call) datagram reply)
+    → IfSome reply (λ reply. (datagram : List ℕ) × Contains taken (Some datagram) × IsOwnReply server (map (call_bytes client) (path_calls first paths)) (call_bytes client call) datagram reply)
 own_exchange client server first paths call taken calls None few keeps here exchange from = tt
 own_exchange client server first paths call taken calls (Some reply) few keeps here exchange from =
     let last = exchange.ends.attempt in

@@ -172,9 +172,9 @@ prints-more asked first tells old between new count call answered one_answered f
 
 -- the peer failed in the exchange of a path
 pub stops-asking : (asked : Asked) (first : ℕ) (tells : AskingTells) (old between new : AskingSeen) (count : ℕ) (call : PathCall) (answered : Bool) → count < length asked.paths
-    → get_or (path_calls first asked.paths) count call ≡ call → between.peer.faults ≡ old.peer.faults → PrintsFirst asked first tells old between count answered
+    → get_or (path_calls first asked.paths) count call ≡ call → PrintsFirst asked first tells old between count answered
     → Begins call.xid (call_bytes asked.client call) between.peer new.peer → new.out ≡ between.out → new.peer.started ≡ between.peer.started → StopsAsking asked first tells old new
-stops-asking asked first tells old between new count call answered some is steady so_far begins out kept =
+stops-asking asked first tells old between new count call answered some is so_far begins out kept =
     let calls = path_calls first asked.paths in
     let size = length-path_calls first asked.paths in
     let place : length so_far.done ≡ count = so_far.number in
@@ -186,7 +186,6 @@ stops-asking asked first tells old between new count call answered some is stead
       call = call;
       more = drop (length so_far.done + 1) calls;
       at_hand = calls_split calls so_far.done call (omega arith) here so_far.asks.are_asked.in_order;
-      steady = steady;
       begins = begins;
       kept = kept;
       out = λ told. ap (λ (s : SinkSeen). s.written) out ∙ so_far.out told;
@@ -217,7 +216,7 @@ pub stops_at : (asked : Asked) (first : ℕ) (tells : AskingTells) (old between 
     → StopsAtPaths asked first tells old new fault
 stops_at asked first tells old between new count call answered Asking few some is later steady so_far kept stops = record {
   failed = Rose-since old.peer.faults between.peer.faults new.peer.faults later.peer stops.failed;
-  stops = λ told. inr (stops-asking asked first tells old between new count call answered some is steady (so_far told) (stops.begins told) stops.out kept);
+  stops = λ told. inr (stops-asking asked first tells old between new count call answered some is (so_far told) (stops.begins told) stops.out kept);
 }
 stops_at asked first tells old between new count call answered Printing few some is later steady so_far kept stops = record {
   failed = Rose-since old.out.faults between.out.faults new.out.faults later.out stops.failed;

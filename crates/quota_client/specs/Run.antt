@@ -73,8 +73,8 @@ pub record IsUnstarted (old new : AskingSeen) : Type 0 where
   pub sent : new.peer.sent ≡ old.peer.sent
   pub out : new.out ≡ old.out
 
--- The paths before one were asked for, in which the peer did not fail, the output has what is printed of them, and nothing
--- else, and the exchange of that path was begun and is not over.
+-- The paths before one were asked for, the output has what is printed of them, and nothing else, and the exchange of that path
+-- was begun and is not over.
 pub record StopsAsking (asked : Asked) (first : ℕ) (tells : AskingTells) (old new : AskingSeen) : Type 0 where
   pub done : List PathAsked
   pub between : PeerSeen
@@ -82,7 +82,6 @@ pub record StopsAsking (asked : Asked) (first : ℕ) (tells : AskingTells) (old 
   pub call : PathCall
   pub more : List PathCall
   pub at_hand : path_calls first asked.paths ≡ map (λ (one : PathAsked). one.call) done ++ call ∷ more
-  pub steady : between.faults ≡ old.peer.faults
   pub begins : Begins call.xid (call_bytes asked.client call) between new.peer
   pub kept : new.peer.started ≡ between.started
   pub out : IsTrue tells.out → new.out.written ≡ old.out.written ++ printed_of asked.client.mode done

@@ -29,12 +29,19 @@ abbrev pub ComesFrom : Server → (calls : List (List ℕ)) → Event → Type 0
 ComesFrom server calls None = ⊤
 ComesFrom server calls (Some datagram) = (call : List ℕ) × (reply : Reply) × Contains calls call × IsReplyOf server call datagram reply
 
+-- A datagram spells the server's reply to a call. Whichever of these calls it came from, at whichever moment, it was that call,
+-- and the server replied this.
+pub record IsOwnReply (server : Server) (calls : List (List ℕ)) (own datagram : List ℕ) (reply : Reply) : Type 0 where
+  pub is : IsReplyOf server own datagram reply
+  pub only : (call : List ℕ) (other : Reply) → Contains calls call → IsReplyOf server call datagram other → (call ≡ own) × (other ≡ reply)
+
 -- the reply for a path is one to its own call, and the datagram that spells it is one of those that were taken for it
-abbrev pub HasOwnReply : Client → Server → PathAsked → Type 0
-HasOwnReply client server one = IfSome one.reply (λ reply. (datagram : List ℕ) × Contains one.taken (Some datagram)
-    × IsReplyOf server (call_bytes client one.call) datagram reply)
+abbrev pub HasOwnReply : Client → Server → (calls : List (List ℕ)) → PathAsked → Type 0
+HasOwnReply client server calls one = IfSome one.reply (λ reply. (datagram : List ℕ) × Contains one.taken (Some datagram)
+    × IsOwnReply server calls (call_bytes client one.call) datagram reply)
 
 -- Where all datagrams that were taken are replies to calls of the run, each path that has a reply has its own.
 abbrev pub HaveOwnReplies : Client → (calls : List PathCall) → (done : List PathAsked) → Type 0
 HaveOwnReplies client calls done = (server : Server) → KeepsXid server
-    → All (ComesFrom server (map (call_bytes client) calls)) (events_taken done) → All (HasOwnReply client server) done
+    → All (ComesFrom server (map (call_bytes client) calls)) (events_taken done)
+    → All (HasOwnReply client server (map (call_bytes client) calls)) done

@@ -23,7 +23,7 @@ use Rattle.tree_meaning.specs.TreeFile.{TreeStandsFor}
 use Rattle.quota_pages.specs.Pages.{name_of}
 use Rattle.tree_file.specs.BlocksWanted.{blocks_wanted}
 use Rattle.tree_file.specs.TreeChange.{TreeLeaves}
-use Rattle.tree_file.specs.TreeCalls.{most_blocks, tree_at, tree_change_reads, tree_change_writes, tree_done_writes, tree_laws}
+use Rattle.tree_file.specs.TreeCalls.{most_blocks, most_written, tree_at, tree_change_reads, tree_change_writes, tree_done_writes, tree_laws}
 use Rattle.tree_file.specs.declared.opened_tree.TreeFile.{TreeFile}
 use Rattle.quota_v1.specs.Opened.{flat_at, flat_laws, most_next_reads, HoldsFlat}
 use Rattle.quota_v1.specs.declared.flat_file.V1File.{V1File}
@@ -82,10 +82,15 @@ tree_few (Put id rec) = omega arith
 tree_few (Remove id) = omega arith
 tree_few (SetGrace grace) = omega arith
 
+tree_writes_few : (change : FileChange) → most_written change ≤ 12
+tree_writes_few (Put id rec) = omega arith
+tree_writes_few (Remove id) = omega arith
+tree_writes_few (SetGrace grace) = omega arith
+
 few_in : (format : Format) (seen : FileSeen) (change : FileChange) → writes_of_change format seen change ≤ 12
 few_in Flat seen change = omega arith
-few_in V2R0 seen change = tree_few change
-few_in V2R1 seen change = tree_few change
+few_in V2R0 seen change = tree_writes_few change
+few_in V2R1 seen change = tree_writes_few change
 
 reads_few_in : (format : Format) (seen : FileSeen) (change : FileChange) → reads_of_change format seen change ≤ 12
 reads_few_in Flat seen change = omega arith
@@ -259,18 +264,19 @@ some_stands None one other then is = is
 some_stands (Some bytes) one other then is = then bytes is
 
 -- a flat file stands for what a change makes of what was held
-pub flat_stands_changed : (self : AnyFile) (file : V1File) (tells : Bool) (old : World) (change : FileChange) (after : Option (List ℕ)) → self ≡ V1 file
-    → StandsChanged change (HoldsFlat tells (old (string_bytes file.name)) file.len file.times file.window) FlatStandsFor after
-    → StandsChanged change (HoldsAny tells old self) (StandsForAs (any_seen self).format) after
-flat_stands_changed self file tells old change after is stands =
-    subst (λ (f : AnyFile). StandsChanged change (HoldsAny tells old f) (StandsForAs (any_seen f).format) after) (sym is) (λ value held. stands value held)
+pub flat_stands_changed : (self : AnyFile) (file : V1File) (tells : Bool) (old new : World) (change : FileChange) → self ≡ V1 file
+    → StandsChanged change (HoldsFlat tells (old (string_bytes file.name)) file.len file.times file.window) FlatStandsFor (new (string_bytes file.name))
+    → StandsChanged change (HoldsAny tells old self) (StandsForAs (any_seen self).format) (new (any_seen self).name)
+flat_stands_changed self file tells old new change is stands =
+    subst (λ (f : AnyFile). StandsChanged change (HoldsAny tells old f) (StandsForAs (any_seen f).format) (new (any_seen f).name)) (sym is)
+    (λ value held. stands value held)
 
 -- and a tree file
-pub tree_stands_changed : (self : AnyFile) (file : TreeFile) (tells : Bool) (old : World) (change : FileChange) (after : Option (List ℕ)) → self ≡ Tree file → IsTreeFormat file.header.format
-    → StandsChanged change (HoldsTree tells (old (name_of file.pages)) file.header file.coming file.limit) TreeStandsFor after
-    → StandsChanged change (HoldsAny tells old self) (StandsForAs (any_seen self).format) after
-tree_stands_changed self file tells old change after is other stands =
-    subst (λ (f : AnyFile). StandsChanged change (HoldsAny tells old f) (StandsForAs (any_seen f).format) after) (sym is)
+pub tree_stands_changed : (self : AnyFile) (file : TreeFile) (tells : Bool) (old new : World) (change : FileChange) → self ≡ Tree file → IsTreeFormat file.header.format
+    → StandsChanged change (HoldsTree tells (old (name_of file.pages)) file.header file.coming file.limit) TreeStandsFor (new (name_of file.pages))
+    → StandsChanged change (HoldsAny tells old self) (StandsForAs (any_seen self).format) (new (any_seen self).name)
+tree_stands_changed self file tells old new change is other stands =
+    subst (λ (f : AnyFile). StandsChanged change (HoldsAny tells old f) (StandsForAs (any_seen f).format) (new (any_seen f).name)) (sym is)
     (λ value held.
-    some_stands after (λ bytes. TreeStandsFor bytes (changed_value change value)) (λ bytes. StandsForAs file.header.format bytes (changed_value change value))
+    some_stands (new (name_of file.pages)) (λ bytes. TreeStandsFor bytes (changed_value change value)) (λ bytes. StandsForAs file.header.format bytes (changed_value change value))
     (λ bytes. stands_tree file.header.format bytes (changed_value change value) other) (stands value held))

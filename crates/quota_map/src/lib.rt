@@ -5,12 +5,12 @@
 #![tactic(auto)]
 
 mod any_file;
+mod file_opening;
 pub mod laws;
-mod open_file;
 mod reading;
 mod replacing;
 
 pub use any_file::AnyFile;
-pub use open_file::{MOST_BLOCKS, open_file};
+pub use file_opening::{MOST_BLOCKS, open_file};
 pub use reading::read_all;
 pub use replacing::replace_file;

@@ -10,13 +10,13 @@
 mod building;
 mod flat_change;
 mod flat_file;
+mod flat_opening;
 mod flat_record;
 pub mod laws;
-mod open_v1;
 mod slot;
 mod slot_file;
 mod window;
 
 pub use building::build_v1;
 pub use flat_file::V1File;
-pub use open_v1::open_v1;
+pub use flat_opening::open_v1;

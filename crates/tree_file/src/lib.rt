@@ -10,11 +10,11 @@ mod grace_change;
 mod in_place;
 pub mod laws;
 mod lookup;
-mod open_tree;
 mod opened_tree;
+mod tree_opening;
 
-pub use open_tree::open_tree;
 pub use opened_tree::TreeFile;
+pub use tree_opening::open_tree;
 
 // The check and the building of a tree file are calls of this crate, though they stand below it.
 pub use file_blocks::CheckFault;

@@ -1,7 +1,7 @@
 use Rattle.std.proofs.Common.{◌≡◌, true, false, Ok, sym, ◌∙◌}
 use Rattle.quota_map.specs.View.{asks_flat}
 use Rattle.quota_map.proofs.ViewLemmas.{flat_seen, seen_flat, seen_tree, tree_asked, tree_seen}
-use Rattle.quota_map.proofs.open_file.open_file.Goals as goal
+use Rattle.quota_map.proofs.file_opening.open_file.Goals as goal
 
 pub returns-then-asks_flat-clause-seen : goal.returns-then-asks_flat-clause-seen
 returns-then-asks_flat-clause-seen g c =

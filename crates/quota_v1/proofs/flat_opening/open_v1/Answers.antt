@@ -4,7 +4,7 @@ use Rattle.outside.specs.World.{World}
 use Rattle.opened_file.specs.FileUse.{seen_in}
 use Rattle.quota_v1.proofs.OpenLemmas.{holds_opened, value_of_length}
 use Rattle.quota_v1.specs.Place.{block_time_start, inode_time_start, record_start}
-use Rattle.quota_v1.proofs.open_v1.open_v1.Goals as goal
+use Rattle.quota_v1.proofs.flat_opening.open_v1.Goals as goal
 
 pub returns-clause-seen : goal.returns-clause-seen
 unfolding record_start block_time_start inode_time_start

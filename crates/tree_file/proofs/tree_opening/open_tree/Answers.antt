@@ -5,7 +5,7 @@ use Rattle.std.proofs.lemmas.Result.{err_from_is_err_and}
 use Rattle.outside.specs.World.{World}
 use Rattle.file_blocks.specs.Block.{bytes_of}
 use Rattle.tree_file.proofs.OpenLemmas.{Begins, are_seen, checked_refused, header_refused, opened_holds, value_seen}
-use Rattle.tree_file.proofs.open_tree.open_tree.Goals as goal
+use Rattle.tree_file.proofs.tree_opening.open_tree.Goals as goal
 
 pub returns-in_err-first-clause-refused : goal.returns-in_err-first-clause-refused
 returns-in_err-first-clause-refused g c =
