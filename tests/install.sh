@@ -239,6 +239,18 @@ same 'the kinds for bash' "$(completed quota_cli rquotad --export /home '' | tr 
 mkdir files
 touch files/aquota.user files/aquota.group
 same 'names of files for bash' "$(completed quota_cli repquota -u files/aquota.u)" files/aquota.user
+touch files/aquota.user.{undo,und,new} 'files/a b'
+mkdir 'files/a c' files/dir.new
+same 'names that the program takes, for bash' "$(completed quota_cli repquota -u files/ | tr '\n' ' ')" \
+    'files/aquota.group files/aquota.user files/dir.new '
+same 'a path of an export for bash' "$(completed quota_cli rquotad --export files/a)" 'files/a c'
+printf '%s\n' 'alice:x:1000:100' '#al:' '+al::' 'DOM\al:x:1001:100' 'bob:x:1002:100' >files/names
+same 'names of users for bash' "$(completed quota_cli setquota -u --names files/names al)" alice
+same 'names of users for bash behind =' "$(completed quota_cli edquota --print --names = files/names b)" bob
+same 'a name that has to be quoted for bash' "$(completed quota_cli setquota --names files/names -p D)" 'DOM\\al'
+same 'no name where a number stands' "$(completed quota_cli setquota -u --names files/names alice '')" ''
+same 'a file behind the numbers' "$(completed quota_cli setquota -u --names files/names alice 1 2 3 4 files/aquota.u)" files/aquota.user
+same 'a file behind -b' "$(completed quota_cli setquota -u --names files/names -b files/aquota.u)" files/aquota.user
 same 'a name of a file for bash behind an option' "$(completed quota_cli repquota --names files/aquota.g)" files/aquota.group
 
 same 'the formats for zsh' "$(grep -c "formats='($formats)'" "$top/docs/completions/_quota_cli")" 1
