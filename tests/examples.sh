@@ -7,7 +7,8 @@
 # What cannot be run as it stands is run with these changes:
 # - /home, /root, /etc/passwd and /etc/group are folders and files of this test. In /home are a quota file of users and one of
 #   groups, in which alice has limits. A display of COMMANDS is run for groups, and with flat files, too, as that page says.
-# - quotaoff, quotaon, mount and `editor` are stand-ins, which look at their words, and mail is one that keeps them.
+# - quotaoff, quotaon, mount, systemctl and `editor` are stand-ins, which look at their words, and mail is one that keeps them.
+# - A recipe, which begins with quotaoff, is run once more with each of its commands failing.
 # - /usr/local/bin/quota_client is the built program. The script that mails is given no variables but such as cron sets, and
 #   of the stand-ins it finds mail alone.
 # - 8750 is a port that is free, and --calls says 2, or 1 in a loop, which ends once its file is taken away.
@@ -27,7 +28,7 @@ tried=0
 place=$folder/place
 port=$("$client" free)
 # The words of the find of COMMANDS, as sed takes them.
-listing=$(sed -nE 's/^find (.*) >.* &&$/\1/p' "$top/docs/COMMANDS.md" | sed 's/[\\&]/\\&/g')
+listing=$(sed -nE 's/^ *find (.*) >.* &&$/\1/p' "$top/docs/COMMANDS.md" | sed 's/[\\&]/\\&/g')
 
 # wrong LINE WHAT: tells what is wrong at a line of the document.
 wrong() {
@@ -140,7 +141,22 @@ cat >tools/mail <<'TOOL'
 { echo "$*"; cat; } >>"$FOLDER/mails"
 TOOL
 cp tools/quotaoff tools/quotaon
-chmod +x tools/*
+# Commands of which the one with the number STEP fails, before it does anything or behind it, or writes other lines.
+mkdir failing
+cat >failing/step <<'TOOL'
+#!/usr/bin/env bash
+PATH=${PATH#*:}
+echo "${0##*/}" >>"$FOLDER/steps"
+number=$(grep -c '' "$FOLDER/steps")
+if [ "$number" != "$STEP" ]; then exec "${0##*/}" "$@"; fi
+case $HOW in
+    before) exit 1 ;;
+    behind) "${0##*/}" "$@"; exit 1 ;;
+    *) printf "$HOW" ;;
+esac
+TOOL
+for it in cp diff find grep mv quota_cli quotaoff quotaon stat; do cp failing/step "failing/$it"; done
+chmod +x tools/* failing/*
 export FOLDER=$folder PATH=$folder/tools:$PATH
 
 # Alice, number 1000, has some limits; those that the documents set are the ones of 1001, and of her in the lines of an input.
@@ -202,7 +218,7 @@ carried_out() {
     local kinds=user kind flags=-uo status limits='1024 2048 3 4'
     if [[ $document == docs/COMMANDS.md && $text == *quota_cli* ]]; then kinds='user group flat'; fi
     if [[ $text == *convertquota* ]]; then kinds=${kinds% flat}; fi
-    if [ "$unit_kind" = display ]; then flags=-euo; fi
+    if [ "$unit_kind" = display ] && [[ $text != 'while read '* ]]; then flags=-euo; fi
     if grep -qE '100M 200M|--apply|setquota .*-[bp] |[$]name' <<<"$text"; then limits='102400 204800 1000 2000'; fi
     echo "$text" >>shown
     for kind in $kinds; do
@@ -211,9 +227,10 @@ carried_out() {
         : >ended_badly
         : >wanted
         if [[ $text == 'while read '* ]]; then
-            # It goes on behind a line that is refused.
-            sed -i '1i bob 1 2 3 4' "$place/lines"
-            printf '%s\n' "status 1 of: quota_cli setquota bob 1 2 3 4 $place/home/aquota.user" 'quota: unknown name bob' >wanted
+            # It goes on behind a line that is refused, and takes names, what is passed over, and a last line without an end.
+            printf '%s\n' '# of a class' '' ' bob 1 2 3 4' 'alice 100M 200M 1k 2k' | head -c -1 >"$place/lines"
+            printf '%s\n' "status 1 of: quota_cli setquota -u --names $place/passwd -- bob 1 2 3 4 $place/home/aquota.user" \
+                'quota: unknown name bob' >wanted
         fi
         status=0
         (cd "$place" && timeout 60 bash "$flags" pipefail words) </dev/null >said 2>faults || status=$?
@@ -242,6 +259,52 @@ compared() {
     (cd "$top" && timeout 60 bash -eu "$folder/words") </dev/null >got 2>&1 || true
     same "$next_line" 'it writes something else' shown
     cat got >>shown
+    if [ "$unit_kind" = display ] && [[ $text == 'quotaoff '* ]]; then fails_safely; fi
+}
+
+# limits_now: the limits of all users in the quota file, which is the flat one for as long as that is there; or why there are none.
+limits_now() {
+    local file=("$place/home/aquota.user")
+    if [ -e "$place/home/quota.user" ]; then file=(-F vfsold "$place/home/quota.user"); fi
+    quota_cli repquota -u -v "${file[@]}" 2>&1 | awk 'NR > 4 || /^quota: / { print $1, $4, $5, $8, $9 }' || true
+}
+
+# step_fails STEP HOW: the recipe at hand with one of its commands failing.
+step_fails() {
+    prepare user
+    placed user >"$place/words"
+    cp -rp "$place/home" before
+    : >steps
+    (cd "$place" && STEP=$1 HOW=$2 PATH=$folder/failing:$PATH timeout 60 bash -u words) </dev/null >said 2>&1 || true
+}
+
+# fails_safely: whichever command of the recipe at hand fails, there is a quota file, with the limits of before or of afterwards.
+# Where quotas could not be turned off, and where the listing is empty or of another file system, its bytes are those of before.
+fails_safely() {
+    local step how all file old new
+    prepare user
+    old=$(limits_now)
+    rm -rf before
+    step_fails 0 before
+    new=$(limits_now)
+    all=$(grep -c '' steps)
+    for step in $(seq "$all"); do
+        for how in before behind '' '0 0 1 2 8\n'; do
+            if [[ $how != be* && $(sed -n "${step}p" steps) != find ]]; then continue; fi
+            rm -rf before
+            step_fails "$step" "$how"
+            limits_now >got
+            echo "$old" >wanted
+            if [ "$(cat got)" = "$new" ]; then echo "$new" >wanted; fi
+            same "$line" "with step $step, $(sed -n "${step}p" steps), failing ($how), the quota file is another one"
+            if [ "$step" = 1 ] || [[ $how != be* ]]; then
+                for file in before/*quota.user; do
+                    cmp -s "$file" "$place/home/${file#*/}" || wrong "$line" "with step $step failing ($how) $file has changed"
+                done
+            fi
+        done
+    done
+    rm -rf before
 }
 
 # session: commands behind a dollar sign, which follow those before them in their page, write what stands behind each.
@@ -477,7 +540,7 @@ display() {
         '0 18 * * * '*) scheduled ;;
         'while quota_cli rquotad '*) looped ;;
         'quota_cli rquotad '*) served ;;
-        'quota_cli '* | 'quotaoff '* | 'find '* | 'flock '*) carried_out ;;
+        'quota_cli '* | 'quotaoff '* | 'find '* | 'flock '* | 'while read '* | 'systemctl '*) carried_out ;;
         'file: '*) wrong_body ;;
         'words ──► '*) in_sources ;;
         *)
@@ -504,8 +567,9 @@ words() {
     case $text in
         'quota: '?* | 'quota_cli: '?* | 'not believed: '* | 'it had an open gate '* | 'touch FILE.undo') quoted '' ;;
         'quota_cli rquotad '*) served ;;
-        'quota_cli '* | 'while read '* | 'find '* | 'flock '* | 'mount '* | 'cp '*) carried_out ;;
-        'getent '* | 'head '* | 'set -'* | 'sort '* | 'stat '* | 'ulimit '*) carried_out ;;
+        'quota_cli '* | 'find '* | 'flock '* | 'mount '* | 'cp '*) carried_out ;;
+        'systemd-escape '*) if command -v systemd-escape >/dev/null; then carried_out; fi ;;
+        'systemctl '* | 'sed '* | 'getent '* | 'head '* | 'set -'* | 'sort '* | 'stat '* | 'ulimit '*) carried_out ;;
         'man -l '*) formatted "${them[2]}" ;;
         'rt '*) known_to_rt "${them[@]:1}" ;;
         bin/* | bench/* | docs/* | samples/* | tests/* | tools/* | .ci/*) in_repository "${them[@]}" ;;
