@@ -140,6 +140,15 @@ cat >tools/mail <<'TOOL'
 #!/usr/bin/env bash
 { echo "$*"; cat; } >>"$FOLDER/mails"
 TOOL
+cat >tools/systemctl <<TOOL
+#!/usr/bin/env bash
+# A unit is one of docs/units.
+case \$1 in
+    daemon-reload) exit ;;
+    enable | status) [ -e "$top/docs/units/\$(sed 's/@.*\.service\$/@.service/' <<<"\${!#}")" ] ;;
+    *) exit 1 ;;
+esac
+TOOL
 cp tools/quotaoff tools/quotaon
 # Commands of which the one with the number STEP fails, before it does anything or behind it, or writes other lines.
 mkdir failing
@@ -250,15 +259,6 @@ carried_out() {
             grep -qF " ${BASH_REMATCH[1]} " said || wrong "$line" "it says $(cat said)"
         fi
     done
-}
-
-# compared: what is written is the text behind the display.
-compared() {
-    printf '%s\n' "${text//8750/$port}" wait >words
-    cp "unit.$((number + 1))" wanted
-    (cd "$top" && timeout 60 bash -eu "$folder/words") </dev/null >got 2>&1 || true
-    same "$next_line" 'it writes something else' shown
-    cat got >>shown
     if [ "$unit_kind" = display ] && [[ $text == 'quotaoff '* ]]; then fails_safely; fi
 }
 
@@ -307,18 +307,27 @@ fails_safely() {
     rm -rf before
 }
 
+# compared: what is written is the text behind the display.
+compared() {
+    printf '%s\n' "${text//8750/$port}" wait >words
+    cp "unit.$((number + 1))" wanted
+    (cd "$top" && timeout 60 bash -eu "$folder/words") </dev/null >got 2>&1 || true
+    same "$next_line" 'it writes something else' shown
+    cat got >>shown
+}
+
 # session: commands behind a dollar sign, which follow those before them in their page, write what stands behind each.
 session() {
     local name=${document##*/} it
-    mkdir -p "of $name/tests"
-    ln -sf "$client" "of $name/tests/"
+    mkdir -p "of $name"
     echo "${text//8750/$port}" >wanted
     (
         cd "of $name"
         while IFS= read -r it; do
             if [[ $it == '$ '* ]]; then
                 echo "$it"
-                eval "${it#'$ '}" </dev/null 2>&1 || true
+                it=${it#'$ '}
+                eval "${it/'/usr/share/doc/quota-cli/examples/serve_client.py'/$client}" </dev/null 2>&1 || true
             fi
         done <../wanted
         wait
@@ -371,15 +380,29 @@ looped() {
     same "$line" 'it answers something else'
 }
 
-# unit_of_systemd: what it starts is a loop, and systemd has nothing to say about it, where it is there.
-unit_of_systemd() {
-    echo "${text//'/usr/local/sbin'/$folder/tools}" >quota.service
-    : >wanted
-    : >got
-    if command -v systemd-analyze >/dev/null; then systemd-analyze verify ./quota.service >got 2>&1 || true; fi
-    same "$line" 'systemd does not take it'
-    text=$(sed -n "s|/usr/local/sbin/||; s/^ExecStart=.* -c '\(.*\)'$/\1/p" <<<"$text")
-    looped
+# with_open_gate FILE: an undo file with an open gate, which has saved nothing but the length of the file.
+with_open_gate() {
+    local size it
+    size=$(stat -c %s "$1")
+    {
+        printf '\1\0\0\0\0\0\0\0'
+        for it in 0 8 16 24 32 40 48 56; do printf '%b' "\\0$(printf '%o' $((size >> it & 255)))"; done
+        head -c 1008 /dev/zero
+    } >"$1.undo"
+}
+
+# recovered_at_boot: with the lines that the display adds to /etc/default/quota_cli, what the unit starts recovers the files.
+recovered_at_boot() {
+    local it
+    prepare user
+    mkdir "$place/default"
+    placed user | sed "s|/etc/default|$place/default|" >"$place/words"
+    sed "s|@SBIN@|$folder/tools|; s|/etc/default|$place/default|" "$top/docs/units/recover" >"$place/recover"
+    for it in user group; do with_open_gate "$place/home/aquota.$it"; done
+    (cd "$place" && bash -eu words && sh recover) </dev/null >got 2>&1 || echo "status $?" >>got
+    for it in user group; do head -c 1 "$place/home/aquota.$it.undo" | od -A n -t u1 >>got; done
+    printf '%s\n' '   0' '   0' >wanted
+    same "$line" 'it recovers something else'
 }
 
 # mailed: alice, who exceeds her soft limit, gets a mail, and nobody else does; lines that name no user are passed over; where
@@ -535,7 +558,11 @@ display() {
         '$ '*) session ;;
         '[Unit]'*'[Timer]'*) timer_of_mail ;;
         '[Unit]'*quota_mail*) unit_of_mail ;;
-        '[Unit]'*) unit_of_systemd ;;
+        'echo '*/etc/default/quota_cli*) recovered_at_boot ;;
+        'WORDS=--port '*)
+            text="quota_cli rquotad --calls 1000 ${text#WORDS=}"
+            served
+            ;;
         '#!/bin/sh'*quota_client*) mailed ;;
         '0 18 * * * '*) scheduled ;;
         'while quota_cli rquotad '*) looped ;;
@@ -579,7 +606,7 @@ words() {
             if [ "$column" -gt 1 ] && grep -qx "  ${heading#rpc.}" <<<"$commands"; then options_of "${heading#rpc.}"; fi
             ;;
         # names of things, and code, which nobody types at a shell
-        'standard input' | 'standard output' | 'UDP port N' | 'line N: ' | 'quota: ' | ' of ID' | 'rattle-kit-'*) ;;
+        'standard input' | 'standard output' | 'UDP port N' | 'domain users' | 'line N: ' | 'quota: ' | ' of ID' | 'rattle-kit-'*) ;;
         '("'*) row ;;
         'struct '* | 'impl '* | 'pub use' | 'holds '* | '('*) ;;
         *)
@@ -694,16 +721,6 @@ named_twice() { ln -f "$1" "$1.name"; }
 # misfit UNDO: has an undo file say that its file was longer than it is.
 misfit() { printf '\1' | dd of="$1" bs=1 seek=12 conv=notrunc status=none; }
 
-# with_open_gate FILE: an undo file with an open gate, which has saved nothing but the length of the file.
-with_open_gate() {
-    local size it
-    size=$(stat -c %s "$1")
-    {
-        printf '\1\0\0\0\0\0\0\0'
-        for it in 0 8 16 24 32 40 48 56; do printf '%b' "\\0$(printf '%o' $((size >> it & 255)))"; done
-        head -c 1008 /dev/zero
-    } >"$1.undo"
-}
 (said) </dev/null >/dev/null 2>>shown || true
 
 while IFS=$'\t' read -r it text; do

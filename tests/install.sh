@@ -1,7 +1,8 @@
 #!/usr/bin/env bash
 # Looks at what bin/install and bin/package put in place, for each program of programs.txt: into a folder of this test's own,
-# where the installed programs are then run, and what is left when it is removed; what is in the package; and whether the
-# completions for bash and zsh have the commands and options of the manual pages. Ends with status 1 where something differs.
+# where the installed programs are then run, and what is left when it is removed; the units of systemd, and what they start;
+# what pages and documents name; what is in the package; and whether the completions for bash and zsh have the commands and
+# options of the manual pages. Ends with status 1 where something differs.
 set -Eeuo pipefail
 shopt -s inherit_errexit
 trap 'echo "install: line $LINENO failed: $BASH_COMMAND" >&2' ERR
@@ -44,9 +45,15 @@ while read -r _ name it rest; do
 done <<<"$list"
 "$top/bin/build" "${names[@]}"
 
-# installed FOLDER: what is installed of all programs, each with its mode. FOLDER has the functions of zsh.
+# installed FOLDER: what is installed of all programs, each with its mode, and beside them. FOLDER has the functions of zsh.
 installed() {
     local name it
+    printf '755 ./%s\n' lib/quota_cli/recover lib/systemd/system-generators/quota_cli-generator \
+        share/doc/quota-cli/examples/{make_quota_files,serve_client}.py
+    printf '644 ./lib/systemd/system/%s\n' quota_cli-recover.service quota_cli-rquotad@.service \
+        {quotaon,systemd-quotacheck}@.service.d/quota_cli-recover.conf
+    printf '644 ./share/doc/quota-cli/%s\n' examples/{aquota,quota}.user \
+        {CHANGELOG,COMING_FROM_QUOTA_TOOLS,COMMANDS,FORMATS,PROMISES,README}.md.gz
     for name in "${names[@]}"; do
         echo "755 ./${folder_of[$name]}/$name"
         for it in ${pages_of[$name]}; do echo "644 ./share/man/man${it##*.}/$it.gz"; done
@@ -64,7 +71,7 @@ starts() {
 # Into an empty folder, and out of it.
 unset DESTDIR
 "$top/bin/install" "$folder/a place" >said
-same 'what was installed' "$(tree 'a place' | grep -v '/$')" \
+same 'what was installed' "$(tree 'a place' | grep -v '/$' | LC_ALL=C sort)" \
     "$({ installed site-functions && echo '644 ./share/quota_cli/installed'; } | LC_ALL=C sort)"
 same 'it says what it installed' "$(sed 's/^installed //' said | sort)" "$(find "$folder/a place" -type f | sort)"
 same 'the installed quota_cli' "$(works "$folder/a place/sbin/quota_cli")" "$line"
@@ -72,12 +79,94 @@ same 'the installed programs' "$(starts "$folder/a place")" "$(printf '%s\n' "${
 for name in "${pages[@]}"; do
     page=$top/docs/$name
     place=share/man/man${name##*.}/$name.gz
-    same "the installed $name" "$(gzip -dc "a place/$place" | cmp - "$page" && echo same)" same
-    same "$name is compressed alike each time" "$(gzip -9n <"$page" | cmp - "a place/$place" && echo same)" same
+    same "the installed $name" "$(gzip -dc "a place/$place" | sed -e "s|$folder/a place/share/doc|/usr/share/doc|g" \
+        -e "s|$folder/a place/bin/|/usr/local/bin/|g" | cmp - "$page" && echo same)" same
+    same "$name is compressed alike each time" "$(gzip -dc "a place/$place" | gzip -9n | cmp - "a place/$place" && echo same)" same
     if command -v man >/dev/null; then
         same "$name is found" "$(man -M 'a place/share/man' -w "${name##*.}" "${name%.*}" 2>/dev/null)" "$folder/a place/$place"
     fi
 done
+
+# named ROOT PREFIX: what the installed pages and documents name of PREFIX, or of the repository though it is installed, and is
+# not there below ROOT.
+named() {
+    local file it
+    for file in "$1$2"/share/man/man*/*.gz "$1$2"/share/doc/quota-cli/*.md.gz; do
+        gzip -dc "$file" >text
+        while IFS= read -r it; do
+            it=${it%.}
+            if [ ! -e "$1$it" ]; then echo "${file##*/} names $it"; fi
+        done < <(grep -oE "$2/(share/doc|s?bin/quota_cli)[^]\`'\" ,:;()]*" text || true)
+        if grep -E '(^|[^/])(samples/|tests/serve_client|docs/(quota_|COMMANDS|COMING|FORMATS|PROMISES))' text; then
+            echo "${file##*/} names the repository"
+        fi
+    done
+}
+same 'what pages and documents name' "$(named '' "$folder/a place")" ''
+
+# The units: systemd has nothing to say about them, and what each starts does what it has to.
+units="$folder/a place/lib/systemd/system"
+# started UNIT INSTANCE-FOLDER: what a unit starts, with its words, as bash takes it.
+started() {
+    local words
+    words=$(sed -n 's/^Environment="WORDS=\(.*\)"$/\1/p' "$units/$1")
+    sed -n 's/^ExecStart=//p' "$units/$1" | sed -e "s|[$]WORDS|$words|" -e "s|%f|$2|g" -e 's/--calls 1000/--calls 1/'
+}
+mkdir home
+cp "$top/samples/aquota.user" home/
+same 'the words of the server' "$(started quota_cli-rquotad@.service /home)" \
+    "\"$folder/a place/sbin/quota_cli\" rquotad --calls 1 --port 8750 --export /home user /home/aquota.user"
+port=$("$top/tests/serve_client.py" free)
+# (its own words have another port, and a file of this test)
+bash -c "$(started quota_cli-rquotad@.service /home | sed -e "s/8750/$port/" -e "s|user /home|user $folder/home|")" >said 2>&1 &
+same 'what the server tells' "$("$folder/a place/share/doc/quota-cli/examples/serve_client.py" ask "$port" own)" \
+    '1 quota 1024 1 5242880 4194304 3145728 200000 150000 84213 0 0'
+wait
+same 'what it says' "$(cat said)" ''
+# An edit of a file was stopped, another file is not there, a line has a comment, and the last one has no end.
+printf '%s\n' '# files' '' "-u $folder/home/none" " -u -F vfsv1 $folder/home/aquota.user" "-g $folder/100%/q" | head -c -1 >lines
+for it in lib/quota_cli/recover lib/systemd/system-generators/quota_cli-generator; do
+    sed -i "s|/etc/default/quota_cli|$folder/lines|" "a place/$it"
+done
+{ printf '\1\0\0\0\0\0\0\0\0\34\0\0\0\0\0\0'; head -c 1008 /dev/zero; } >home/aquota.user.undo
+got=0
+bash -c "$(started quota_cli-recover.service '')" >said 2>err || got=$?
+same 'what a boot recovers' "$got $(head -c 1 home/aquota.user.undo | od -A n -t u1) $(cat said)" '1    0 '
+same 'what it says of files that are not there' "$(cat err)" "quota: $folder/home/none: no such file
+quota_cli-recover: refused: -u $folder/home/none
+quota: $folder/100%/q: no such file
+quota_cli-recover: refused: -g $folder/100%/q"
+mkdir generated
+"a place/lib/systemd/system-generators/quota_cli-generator" generated generated generated
+same 'the mounts that it waits for' "$(cat generated/quota_cli-recover.service.d/mounts.conf)" "[Unit]
+RequiresMountsFor=$folder/home/none
+RequiresMountsFor=$folder/home/aquota.user
+RequiresMountsFor=$folder/100%%/q"
+echo '# none' >lines
+mkdir none
+"a place/lib/systemd/system-generators/quota_cli-generator" none
+same 'without files it waits for none' "$(ls none)$(bash -c "$(started quota_cli-recover.service '')" 2>&1 || echo "status $?")" ''
+rmdir none
+if command -v systemd-analyze >/dev/null; then
+    # Stand-ins of the units behind the recovery, of which an older and a newer systemd have some each.
+    mkdir stand_ins
+    for it in quota quotaon quotaon-root quotaon@ systemd-quotacheck systemd-quotacheck-root systemd-quotacheck@; do
+        printf '%s\n' '[Unit]' DefaultDependencies=no Wants=quota_cli-recover.service '[Service]' ExecStart=/bin/true >"stand_ins/$it.service"
+    done
+    export SYSTEMD_UNIT_PATH="$folder/generated:$folder/stand_ins:$units:"
+    same 'what systemd says' "$(systemd-analyze verify --man=no "$units"/*.service "$units/quota_cli-rquotad@home.service" 2>&1)" ''
+    for it in quota quotaon quotaon-root quotaon@home systemd-quotacheck systemd-quotacheck-root systemd-quotacheck@home; do
+        same "$it comes behind the recovery" "$(SYSTEMD_LOG_LEVEL=debug systemd-analyze verify --man=no "stand_ins/$it.service" 2>&1 |
+            awk -v unit="$it.service:" '/-> Unit / { on = $3 == unit } on && /After: quota_cli-recover[.]service/ { print $2 }' |
+            sort -u)" quota_cli-recover.service
+    done
+    same 'it comes behind the mounts' "$(SYSTEMD_LOG_LEVEL=debug systemd-analyze verify --man=no "$units/quota_cli-recover.service" 2>&1 |
+        grep -c "RequiresMountsFor: $folder/home/aquota.user ")" 1
+    unset SYSTEMD_UNIT_PATH
+else
+    echo 'install: systemd-analyze is not there: what systemd says of the units is not looked at' >&2
+fi
+same 'none is enabled' "$(find 'a place' -name '*.wants' -o -name '*.requires')" ''
 "$top/bin/install" --remove "$folder/a place" >said
 same 'what is left' "$(ls -A 'a place')" ''
 got=0
@@ -113,6 +202,10 @@ while read -r crate _; do
     touch "copy/crates/$crate/src/main.rt"
 done <<<"$list"
 got=0
+got=0
+"$top/bin/install" "$folder/a%place" >said 2>err || got=$?
+same 'a place that no unit can name' "$got $(cat err)" '2 install: PREFIX may have no ", $, `, \, %, #, |, & and no newline'
+got=0
 copy/bin/install "$folder/none" >said 2>err || got=$?
 same 'a program that is not built' "$got $(grep -c "^install: ${names[0]} is not built; bin/build ${names[0]} builds it, and" err)" '1 1'
 same 'nothing is made then' "$(ls -d none 2>/dev/null || true)" ''
@@ -133,13 +226,17 @@ if command -v dpkg-deb >/dev/null; then
     same 'what is in it' "$(dpkg-deb -c "$package" | awk '$1 !~ /^d/ { print $1, $2, $6 }' | LC_ALL=C sort -k 3)" \
         "$({
             installed vendor-completions | sed -E 's|^644 \.|-rw-r--r-- root/root ./usr|; s|^755 \.|-rwxr-xr-x root/root ./usr|'
-            printf -- '-rw-r--r-- root/root ./usr/share/doc/quota-cli/%s\n' \
-                {CHANGELOG,COMING_FROM_QUOTA_TOOLS,COMMANDS,FORMATS,PROMISES,README}.md.gz changelog.gz copyright
+            printf -- '-rw-r--r-- root/root ./%s\n' usr/share/doc/quota-cli/{changelog.gz,copyright} etc/default/quota_cli
         } | LC_ALL=C sort -k 3)"
     dpkg-deb -x "$package" unpacked
     same 'the packed programs' "$(starts unpacked/usr)" "$(printf '%s\n' "${names[@]}")"
     same 'the packed quota_cli' "$(works unpacked/usr/sbin/quota_cli)" "$line"
+    same 'what its pages and documents name' "$(named unpacked /usr)" ''
+    same 'the program that its units and the rest start' \
+        "$(grep -rhoE '/[^ "]*s?bin/quota_cli' unpacked/usr/lib | sort -u)" /usr/sbin/quota_cli
+    same 'its file in /etc' "$(grep -v '^#' unpacked/etc/default/quota_cli || true)" ''
     dpkg-deb -e "$package" control
+    same 'what stays as it was changed' "$(cat control/conffiles)" /etc/default/quota_cli
     same 'its sums' "$(cd unpacked && md5sum --quiet -c ../control/md5sums && echo right)" right
     mkdir again
     "$top/bin/package" again >said
