@@ -350,6 +350,18 @@ same 'a file behind the numbers' "$(completed quota_cli setquota -u --names file
 same 'a file behind -b' "$(completed quota_cli setquota -u --names files/names -b files/aquota.u)" files/aquota.user
 same 'a name of a file for bash behind an option' "$(completed quota_cli repquota --names files/aquota.g)" files/aquota.group
 
+if command -v zsh >/dev/null; then
+    # What zsh would offer is printed, with stand-ins of what it completes by.
+    same 'names of users and of files for zsh' "$(cd files && TOP=$top zsh -f -c '
+        _describe() {}
+        compadd() { print -rl -- ${(P)2}; }
+        _path_files() { setopt localoptions extendedglob; print -rl -- ${~${=2}}; }
+        CURRENT=2
+        . $TOP/docs/completions/_quota_cli
+        typeset -A opt_args=(--names names)
+        _quota_cli_names
+        _quota_cli_files' | tr '\n' ' ')" 'alice DOM\al bob aquota.group aquota.user names dir.new '
+fi
 same 'the formats for zsh' "$(grep -c "formats='($formats)'" "$top/docs/completions/_quota_cli")" 1
 if [ "$failed" = 0 ]; then echo 'install: what is installed works, and is taken away whole'; fi
 exit "$failed"
