@@ -12,8 +12,9 @@ ghost use Rattle.outside.specs.World.{bytes_from, with_bytes, with_file, with_ne
 use crate::growing::overwrite;
 use outside::{Store, StoreFault};
 
-/// A store in memory that has one file, under one name, and tells it. A call on that name is refused only where a write
-/// makes the file longer. It is where there is not enough memory for that, of which no clause says when it is so.
+/// A store in memory that has one file, under one name, and tells it. A call on that name other than `rename` is refused
+/// only where a write makes the file longer. It is where there is not enough memory for that, of which no clause says when
+/// it is so.
 ///
 /// It never has another file: what would make one, or would give this one another name, is refused as a fault. Who changes
 /// a file in place asks for neither.

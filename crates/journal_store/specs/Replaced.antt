@@ -11,10 +11,10 @@ use Rattle.edit_journal.specs.UndoName.{und_name, undo_name}
 abbrev pub HasClosedGate : List ℕ → DiskSeen → Type 0
 HasClosedGate name disk = EachImage (λ image. byte_at (unwrap_or (image (undo_name name)) []) 0 ≢ 1) disk
 
--- one file is recovered, and then another one gets its name, or does not
+-- a recovery makes of one file what it made of it before, and then another one gets its name, or does not
 abbrev pub MayReplaceRecovered : (from to : List ℕ) → World → World → Type 0
 MayReplaceRecovered from to old new = (between : World) × RecoversSame to (undo_name to) (und_name to) old between × MayBeRenamed from to between new
 
--- one file is recovered, and then another one gets its name
+-- a recovery makes of one file what it made of it before, and then another one gets its name
 abbrev pub ReplacesRecovered : (from to : List ℕ) → World → World → Type 0
 ReplacesRecovered from to old new = (between : World) × RecoversSame to (undo_name to) (und_name to) old between × IsRenamed from to between new

@@ -139,8 +139,9 @@ impl<D: Disk> Journal<D> {
         Ok(())
     }
 
-    /// Makes an empty file of this name, in place of the one that was there. A plain one is recovered first, so its undo
-    /// file changes nothing of the new one; it is not journaled, and until it is synced a stop may leave any bytes in it.
+    /// Makes an empty file of this name, in place of the one that was there. A plain one is recovered first, where it is not
+    /// held, so its undo file changes nothing of the new one; it is not journaled, and until it is synced a stop may leave any
+    /// bytes in it.
     pub(crate) fn create(&mut self, name: &str) -> Result<(), StoreFault>
         ensures ok { OnOk result (IsTrue D.tells
             → (told_of self.new).files ≡ with_file (told_of self.old).files name.now (Some [])) }

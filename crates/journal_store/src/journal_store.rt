@@ -248,8 +248,8 @@ impl<D: Disk> Store for JournalStore<D> {
         outcome(&mut self.faults, done)
     }
 
-    /// Makes an empty file, as `Store` says. One of a plain name is recovered first, an absent one too, so that no recovery
-    /// changes the new one. It is not journaled: until it is synced a stop may leave any bytes in it.
+    /// Makes an empty file, as `Store` says. One of a plain name is recovered first where it is not held, an absent one too,
+    /// so that no recovery changes the new one. It is not journaled: until it is synced a stop may leave any bytes in it.
     fn create(&mut self, name: &str) -> Result<(), StoreFault>
         ensures ok { OnOk result (IsTrue D.tells
             → (store_seen self.new).files ≡ with_file (store_seen self.old).files name.now (Some [])) }

@@ -18,8 +18,9 @@ pub struct StoreFault;
 /// a call answers fits the buffer.
 ///
 /// A store says besides which files its calls may have put where a stop of the machine leaves them. What only looks or
-/// writes puts none there, `sync` the files as they are told then, and `rename` those that have the new name: so how often
-/// a change of a file is put there, and at which of its moments, is told by what it commits.
+/// writes puts none there, `sync` the files as they are told then, and `rename` of a file that is synced those that have the
+/// new name; of `rename` of another file, and of `create` but for a name in `.new`, nothing is said. So how often a change of
+/// a file is put there, and at which of its moments, is told by what it commits.
 pub trait Store {
     /// Whether stores of this type tell their files.
     ghost tells: { Bool };
@@ -148,7 +149,7 @@ pub trait Store {
     ghost commits_behind_none: { (worlds : List World) (first between last : Self) → commits [] first between
         → commits worlds between last → commits worlds first last } = { λ worlds. commits_on [] worlds };
 
-    /// What put nothing there put there no more than any worlds.
+    /// What put nothing there put there no more than the files of any worlds.
     ghost commits_more: { (worlds : List World) (old new : Self) → commits [] old new → commits worlds old new } = { λ worlds old new none. commits_on [] worlds old new new none (commits_nothing worlds new) };
 
     /// A look behind calls that put the files of one world there, as they are then, leaves it so.
