@@ -24,7 +24,7 @@ use Rattle.quota_map.specs.Size.{blocks_needed, ids_in}
 use Rattle.quota_map.specs.Replacing.{IsReplaceFileFault, IsReplacedBy, built_size, flags_in}
 use Rattle.quota_map.specs.View.{IsOpenFault, IsView, most_blocks}
 use Rattle.convert.specs.Conversion.{grace_no_room}
-use Rattle.convert.specs.Convert.{AskedConversion, HasNoTarget, IsConvertFault, IsConverted, IsMade, IsNotMade, IsUnfit, UnlessFaultOfStore}
+use Rattle.convert.specs.Convert.{AskedConversion, HasNoTarget, IsConvertFault, IsConverted, IsMade, IsMadeOf, IsNotMade, IsUnfit, UnlessFaultOfStore}
 use Rattle.convert.specs.Source.{HasRead, IsReadingFault, IsSourceFault}
 use Rattle.convert.specs.Listing.{kept_list, list_without_room}
 use Rattle.convert.specs.declared.convert_fault.ConvertFault.{ConvertFault}
@@ -149,4 +149,16 @@ module _ (tells : Bool) (asked : AskedConversion) (old between new : StoreSeen) 
         (no_flags asked.new) (replaced told)));
     seen = λ told most.
         subst (λ (f : ℕ). IsView (new.files asked.to) asked.kind (Some asked.new) (Ok (value_of asked.kind asked.new grace f entries))) (no_flags asked.new) (seen told most);
+  }
+
+  -- the bytes of a file that was committed
+  pub committed_of : (bytes : List ℕ) → blocks_needed asked.new (ids_of entries) ≤ asked.limit
+      → (asked.limit ≤ most_blocks → IsView (Some bytes) asked.kind (Some asked.new) (Ok (value_of asked.kind asked.new grace (flags_in asked.new 0) entries)))
+      → IsMadeOf tells asked old.files bytes
+  committed_of bytes few seen = record {
+    free = free;
+    made = made;
+    converts = converts;
+    few = subst (λ (ids : List ℕ). blocks_needed asked.new ids ≤ asked.limit) (sym listed) few;
+    seen = λ most. subst (λ (f : ℕ). IsView (Some bytes) asked.kind (Some asked.new) (Ok (value_of asked.kind asked.new grace f entries))) (no_flags asked.new) (seen most);
   }

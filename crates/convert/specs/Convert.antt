@@ -52,6 +52,15 @@ pub record IsMade (tells : Bool) (asked : AskedConversion) (old new : StoreSeen)
   pub replaced : IsTrue tells → IsReplacedBy asked.to made (ids_in made.records) (size_of made) old.files new.files
   pub seen : IsTrue tells → asked.limit ≤ most_blocks → IsView (new.files asked.to) asked.kind (Some asked.new) (Ok made)
 
+-- What a new file is made of: there was none of its name, and it is one of the converted value. Whoever opens it sees that value,
+-- unless it may have more blocks than an opened file.
+pub record IsMadeOf (tells : Bool) (asked : AskedConversion) (old : World) (bytes : List ℕ) : Type 0 where
+  pub free : HasNoTarget tells asked old
+  pub made : QuotaValue
+  pub converts : IsConverted tells asked old made
+  pub few : blocks_of made ≤ asked.limit
+  pub seen : asked.limit ≤ most_blocks → IsView (Some bytes) asked.kind (Some asked.new) (Ok made)
+
 -- Why it was refused.
 
 -- a fact where opening was refused, but for a fault of the store

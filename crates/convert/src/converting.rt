@@ -1,8 +1,9 @@
-ghost use Rattle.std.specs.Prelude.{◌≡◌, ◌≢◌, IfErr, IsTrue, OnErr, OnOk, false};
+ghost use Rattle.std.specs.Prelude.{◌≡◌, ◌≢◌, IfErr, IsTrue, OnErr, OnOk, false, is_ok};
 ghost use Rattle.outside.specs.ManyCalls.{Syncs};
 ghost use Rattle.outside.specs.Replacement.{replacement_name};
 ghost use Rattle.outside.specs.World.{KeepsOthers};
-ghost use Rattle.convert.specs.Convert.{IsConvertFault, IsMade, UnlessMaking, asked_for};
+ghost use Rattle.quota_map.specs.Replacing.{CommitsReplaced};
+ghost use Rattle.convert.specs.Convert.{IsConvertFault, IsMade, IsMadeOf, UnlessMaking, asked_for};
 ghost use Rattle.convert.specs.Leaves.{IsKeptSafe, LeavesOthers, OnlyLooks};
 
 use crate::ConvertFault;
@@ -48,6 +49,10 @@ pub fn convert<S: Store>(
     ensures synced { OnOk result (IsTrue S.tells → IsKeptSafe to.now (S.seen store.old) (S.seen store.new)) }
     // Where it was refused what was written has been synced too, unless a call on the store failed.
     ensures left_synced { OnErr result (Syncs false (S.seen store.old) (S.seen store.new)) }
+    // Nothing is committed, or once the files with the new one, whether or not it got its name then.
+    ensures commits { IsTrue S.tells → CommitsReplaced (is_ok result) to.now
+        (IsMadeOf S.tells (asked_for from.now to.now old new kind limit) (S.seen store.old).files)
+        (S.seen store.old).files (S.seen store.new).files (λ worlds. S.commits worlds store.old store.new) }
 {
     if from == to {
         return Err(ConvertFault::SameName);

@@ -1,4 +1,4 @@
-ghost use Rattle.std.specs.Prelude.{ℕ, IfErr, IfOk, is_ok};
+ghost use Rattle.std.specs.Prelude.{ℕ, [], IfErr, IfOk, is_ok};
 ghost use Rattle.std.specs.List.Sorted.{IsStrictlyIncreasing};
 ghost use Rattle.outside.specs.Frame.{OnlyReads};
 ghost use Rattle.quota_value.specs.Listed.{ids_of, value_of};
@@ -38,6 +38,7 @@ pub(crate) fn read_source<S: Store>(
     ensures refused { IfErr result (IsSourceFault (S.seen store.old).faults (S.seen store.new).faults S.tells
         ((S.seen store.old).files name.now) kind format) }
     ensures leaves { OnlyReads (is_ok result) name.now (S.seen store.old) (S.seen store.new) }
+    ensures commits { S.commits [] store.old store.new }
 {
     let mut opened = match open_file(alloc, store, name, kind, Some(format)) {
         Ok(opened) => opened,

@@ -21,13 +21,13 @@ impl<S: Store> Source for StoreInput<'_, S> {
 
     ghost seen = { store_input_seen S.seen };
 
-    ghost keeps = { KeepsInput S.tells S.seen };
+    ghost keeps = { KeepsInput S.tells S.seen S.commits };
 
-    ghost keeps_itself = { keeps_input_itself S.tells S.seen };
+    ghost keeps_itself = { keeps_input_itself S.tells S.seen S.commits S.commits_nothing };
 
-    ghost keeps_on = { keeps_input_on S.tells S.seen };
+    ghost keeps_on = { keeps_input_on S.tells S.seen S.commits S.commits_on };
 
-    ghost keeps_any = { keeps_input_any S.tells S.seen };
+    ghost keeps_any = { keeps_input_any S.tells S.seen S.commits };
 
     ghost keeps_behind = { λ _ _ _ kept. kept.behind };
 
@@ -45,7 +45,7 @@ impl<S: Store> Source for StoreInput<'_, S> {
         ensures cause { OnErr result (Rose (store_input_seen S.seen self.old).faults
             (store_input_seen S.seen self.new).faults) }
         ensures later { (store_input_seen S.seen self.old).faults ≤ (store_input_seen S.seen self.new).faults }
-        ensures keeps { KeepsInput S.tells S.seen (is_ok result) self.old self.new }
+        ensures keeps { KeepsInput S.tells S.seen S.commits (is_ok result) self.old self.new }
     {
         let most = buf.len().min(1024);
         match self.source.read(self.store, &mut buf[..most]) {

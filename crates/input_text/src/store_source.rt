@@ -1,4 +1,4 @@
-ghost use Rattle.std.specs.Prelude.{◌≡◌, ◌≤◌, ◌+◌, ◌-◌, ◌^◌, length, take, min, IsTrue, IfOk, OnErr, is_ok};
+ghost use Rattle.std.specs.Prelude.{◌≡◌, ◌≤◌, ◌+◌, ◌-◌, ◌^◌, [], length, take, min, IsTrue, IfOk, OnErr, is_ok};
 ghost use Rattle.std.specs.String.{string_bytes};
 ghost use Rattle.outside.specs.Count.{Rose, counted};
 ghost use Rattle.outside.specs.Frame.{OnlyReads};
@@ -37,6 +37,7 @@ impl StoreSource {
         ensures cause { OnErr result (Rose (S.seen store.old).faults (S.seen store.new).faults) }
         ensures leaves { OnlyReads (is_ok result) (string_bytes self.old.name) (S.seen store.old) (S.seen store.new) }
         ensures reads { (S.seen store.new).reads ≡ counted (S.seen store.old).reads }
+        ensures commits { S.commits [] store.old store.new }
     {
         let places = u64::MAX - self.at;
         let wanted = (buf.len() as u64).min(places) as usize;

@@ -1,18 +1,22 @@
 -- What a change of an opened file that failed left of it, as the file is seen by whoever opens it.
-use Rattle.std.proofs.Common.{◌⊎◌, inr, ◌≡◌, ◌≤◌, ℕ, Bool, List, length, Option, None, Some, Ok, refl, sym, subst}
+use Rattle.std.proofs.Common.{◌⊎◌, inl, inr, ◌≡◌, ◌≤◌, ℕ, Bool, List, length, Option, None, Some, Ok, refl, sym, subst, ap, ◌∙◌}
 use Rattle.std.specs.Prelude.{IsSomeAnd}
+use Rattle.std.proofs.lemmas.Bool.{false≢true}
 use Rattle.quota_types.specs.Format.{IsTreeFormat}
 use Rattle.quota_types.specs.declared.file_kind.Format.{Format}
 use Rattle.quota_types.specs.declared.file_kind.Format.TheVariants.{V1, V2R0, V2R1}
+use Rattle.quota_types.specs.declared.file_kind.Kind.{Kind}
 use Rattle.opened_file.specs.FileChange.{FileChange}
 use Rattle.opened_file.specs.ValueEdits.{IsLeft}
 use Rattle.quota_value.specs.QuotaValue.{QuotaValue}
 use Rattle.outside.specs.World.{World}
-use Rattle.entry_codec.specs.Header.{header_of}
+use Rattle.entry_codec.specs.Header.{HeaderNumbers, header_of}
+use Rattle.file_blocks.specs.Block.{block_of}
 use Rattle.tree_meaning.specs.TreeFile.{TreeStandsFor}
+use Rattle.tree_meaning.proofs.HeaderLemmas.{header_in_block}
 use Rattle.tree_meaning.proofs.MeaningLemmas.{header_format}
 use Rattle.tree_file.proofs.FewMadeLemmas.{few_made}
-use Rattle.tree_file.specs.TreeChange.{TreeMakes}
+use Rattle.tree_file.specs.TreeChange.{TreeLeaves, TreeMakes}
 use Rattle.quota_v1.specs.Change.{FitsFlat, FlatChanged, FlatMakes}
 use Rattle.quota_v1.specs.FlatFile.{FlatStandsFor}
 use Rattle.quota_v1.specs.View.{flat_limit}
@@ -70,3 +74,66 @@ left_seen V2R1 change name old new value is left =
     let view = made_seen V2R1 change name old left.after value is refl (left.made.tree refl) left.stands in
     inr (subst (λ (f : Format). (after : Option (List ℕ)) × IsView after value.kind (Some f) (Ok value) × AnyLeaves f (old name) after (new name)) (sym is)
     (left.after name, view, left.left))
+
+-- What is left as it was, or between that and a changed file, is no larger than a file may be.
+
+-- a file of this format has no more bytes, or no more blocks, than it may have
+abbrev IsFew : Format → Option (List ℕ) → Type 0
+IsFew V1 file = IsSomeAnd file (λ bytes. length bytes ≤ flat_limit)
+IsFew V2R0 file = IsSomeAnd file (λ bytes. (header_of bytes).blocks ≤ most_blocks)
+IsFew V2R1 file = IsSomeAnd file (λ bytes. (header_of bytes).blocks ≤ most_blocks)
+
+-- the first of two facts of a file
+former : (file : Option (List ℕ)) (P Q : List ℕ → Type 0) → IsSomeAnd file (λ bytes. P bytes × Q bytes) → IsSomeAnd file P
+former (Some bytes) P Q two = two.0
+former None P Q two = two
+
+view_few : (format : Format) (named : Option (List ℕ)) (kind : Kind) (value : QuotaValue) → IsView named kind (Some format) (Ok value) → IsFew format named
+view_few V1 named kind value view = former named _ _ view.0
+view_few V2R0 named kind value view = former named _ _ view.0
+view_few V2R1 named kind value view = former named _ _ view.0
+
+-- a file with the first block of another one has as many blocks
+first_few : (one other : List ℕ) → block_of other 0 ≡ block_of one 0 → (header_of one).blocks ≤ most_blocks → (header_of other).blocks ≤ most_blocks
+first_few one other same few =
+    let header : header_of other ≡ header_of one = sym (header_in_block other) ∙ ap header_of same ∙ header_in_block one in
+    subst (λ (h : HeaderNumbers). h.blocks ≤ most_blocks) (sym header) few
+
+tree_left_few : (old after left : Option (List ℕ)) → IsSomeAnd old (λ bytes. (header_of bytes).blocks ≤ most_blocks) → IsSomeAnd after (λ bytes. (header_of bytes).blocks ≤ most_blocks)
+    → TreeLeaves old after left → IsSomeAnd left (λ bytes. (header_of bytes).blocks ≤ most_blocks)
+tree_left_few old after left few made (inl same) = subst (λ (f : Option (List ℕ)). IsSomeAnd f (λ bytes. (header_of bytes).blocks ≤ most_blocks)) (sym same) few
+tree_left_few None after left few made (inr torn) = absurd few
+tree_left_few (Some old) None left few made (inr torn) = absurd made
+tree_left_few (Some old) (Some after) None few made (inr torn) = absurd (false≢true torn.0)
+tree_left_few (Some old) (Some after) (Some left) few made (inr torn) =
+    elim (torn.1.each 0) [
+      | inl same ↦ first_few old left same few
+      | inr same ↦ first_few after left same made
+    ]
+
+left_few : (format : Format) (old after left : Option (List ℕ)) → IsFew format old → IsFew format after → AnyLeaves format old after left → IsFew format left
+left_few V1 old after left few made (inl same) = subst (λ (f : Option (List ℕ)). IsFew V1 f) (sym same) few
+left_few V1 old after left few made (inr same) = subst (λ (f : Option (List ℕ)). IsFew V1 f) (sym same) made
+left_few V2R0 old after left few made leaves = tree_left_few old after left few made leaves
+left_few V2R1 old after left few made leaves = tree_left_few old after left few made leaves
+
+-- a file that is no larger than it may be, and that stands for a value, is seen as that
+few_seen : (format : Format) (named : Option (List ℕ)) (value : QuotaValue) → value.format ≡ format → IsFew format named → IsSomeAnd named (λ bytes. StandsForAs format bytes value)
+    → IsView named value.kind (Some format) (Ok value)
+few_seen format None value is few stands = absurd stands
+few_seen V1 (Some bytes) value is few stands = ((few, stands), refl)
+few_seen V2R0 (Some bytes) value is few stands = ((few, stands), refl, sym is)
+few_seen V2R1 (Some bytes) value is few stands = ((few, stands), refl, sym is)
+
+-- What a change left that failed is seen as the changed value where it stands for that.
+pub left_stands : (format : Format) (old left : Option (List ℕ)) (held value : QuotaValue) → value.format ≡ format → IsView old held.kind (Some format) (Ok held)
+    → (left ≡ old) ⊎ ((after : Option (List ℕ)) × IsView after value.kind (Some value.format) (Ok value) × AnyLeaves value.format old after left)
+    → IsSomeAnd left (λ bytes. StandsForAs format bytes value) → IsView left value.kind (Some value.format) (Ok value)
+left_stands format old left held value is view (inl same) stands =
+    subst (λ (f : Format). IsView left value.kind (Some f) (Ok value)) (sym is)
+    (few_seen format left value is (subst (λ (file : Option (List ℕ)). IsFew format file) (sym same) (view_few format old held.kind held view)) stands)
+left_stands format old left held value is view (inr between) stands =
+    let P : Format → Type 0 = λ f. IsView between.0 value.kind (Some f) (Ok value) × AnyLeaves f old between.0 left in
+    let made : P format = subst P is (between.1, between.2) in
+    subst (λ (f : Format). IsView left value.kind (Some f) (Ok value)) (sym is)
+    (few_seen format left value is (left_few format old between.0 left (view_few format old held.kind held view) (view_few format between.0 value.kind value made.0) made.1) stands)

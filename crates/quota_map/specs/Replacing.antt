@@ -1,5 +1,5 @@
 -- A whole file of any format that is built and put in the place of another one.
-use Rattle.std.specs.Prelude.{◌≡◌, ℕ, ◌*◌, ◌<◌, ◌≤◌, List, length, ⊤}
+use Rattle.std.specs.Prelude.{◌≡◌, ◌⊎◌, ℕ, ◌*◌, ◌<◌, ◌≤◌, Bool, IsTrue, List, [], ◌∷◌, length, ⊤}
 use Rattle.quota_types.specs.declared.file_kind.Format.{Format}
 use Rattle.quota_types.specs.declared.file_kind.Format.TheVariants.{V1, V2R0, V2R1}
 use Rattle.outside.specs.Count.{Rose}
@@ -62,3 +62,14 @@ abbrev pub UnlessStore : ReplaceFault → Type 0 → Type 0
 UnlessStore Store P = ⊤
 UnlessStore (Full _ _) P = P
 UnlessStore Memory P = P
+
+-- Along a replacement of a file nothing was committed, or once the files with a new one in its place, of which something holds; where it
+-- was done they are the files that are told then.
+pub record ReplacesAtOnce (done : Bool) (name : List ℕ) (stands : List ℕ → Type 0) (old new : World) (commits : List World → Type 0) : Type 0 where
+  pub bytes : List ℕ
+  pub stands_so : stands bytes
+  pub commits_it : commits (replaced_files old name bytes ∷ [])
+  pub told : IsTrue done → new ≡ replaced_files old name bytes
+
+abbrev pub CommitsReplaced : (done : Bool) → (name : List ℕ) → (stands : List ℕ → Type 0) → (old new : World) → (commits : List World → Type 0) → Type 0
+CommitsReplaced done name stands old new commits = commits [] ⊎ ReplacesAtOnce done name stands old new commits

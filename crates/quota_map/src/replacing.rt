@@ -1,4 +1,4 @@
-ghost use Rattle.std.specs.Prelude.{◌≡◌, ◌^◌, ◌≤◌, true, false, None, Ok, Some, All, vec_len, IsTrue, IfOk, IfErr, OnOk, OnErr};
+ghost use Rattle.std.specs.Prelude.{◌≡◌, ◌^◌, ◌≤◌, true, false, None, Ok, Some, All, vec_len, IsTrue, IfOk, IfErr, OnOk, OnErr, is_ok};
 ghost use Rattle.std.specs.List.Sorted.{IsStrictlyIncreasing};
 ghost use Rattle.quota_types.specs.Format.{is_flat};
 ghost use Rattle.quota_types.specs.Kept.{kept_of};
@@ -10,7 +10,7 @@ ghost use Rattle.outside.specs.Replacement.{replacement_name};
 ghost use Rattle.outside.specs.World.{KeepsOthers};
 ghost use Rattle.tree_build.specs.Build.{IsBuildFault};
 ghost use Rattle.tree_build.specs.Size.{blocks_needed};
-ghost use Rattle.quota_map.specs.Replacing.{IsPlain, IsReplaceFileFault, IsReplacedBy, UnlessStore, built_size, flags_in};
+ghost use Rattle.quota_map.specs.Replacing.{CommitsReplaced, IsPlain, IsReplaceFileFault, IsReplacedBy, UnlessStore, built_size, flags_in};
 ghost use Rattle.quota_map.specs.StandsFor.{StandsFor};
 ghost use Rattle.quota_map.specs.View.{IsView, most_blocks};
 
@@ -61,6 +61,11 @@ pub fn replace_file<S: Store>(
         (S.seen store.new).files) }
     ensures leaves { ReplacesOne name.now (S.seen store.old) (S.seen store.new) }
     ensures reads { (S.seen store.new).reads ≡ (S.seen store.old).reads }
+    // Nothing is committed, or once the files with the new one in its place, whether or not it got its name then.
+    ensures commits { IsTrue S.tells → CommitsReplaced (is_ok result) name.now
+        (λ bytes. (blocks_needed format (ids_of list.now) ≤ limit) × (limit ≤ most_blocks
+        → IsView (Some bytes) kind (Some format) (Ok (value_of kind format grace (flags_in format flags) list.now))))
+        (S.seen store.old).files (S.seen store.new).files (λ worlds. S.commits worlds store.old store.new) }
 {
     match built(alloc, format, kind, grace, flags, list, limit) {
         Ok(bytes) => replace(alloc, store, name, &bytes),

@@ -1,4 +1,4 @@
-ghost use Rattle.std.specs.Prelude.{◌≡◌, ◌+◌, ◌*◌, ◌^◌, ◌≤◌, ◌++◌, length, IsTrue, OnOk, OnErr, IfErr};
+ghost use Rattle.std.specs.Prelude.{◌≡◌, ◌+◌, ◌*◌, ◌^◌, ◌≤◌, ◌++◌, length, IsTrue, OnOk, OnErr, IfErr, []};
 ghost use Rattle.std.specs.FinMap.{entries};
 ghost use Rattle.id_names.specs.FirstMatch.{first_name};
 ghost use Rattle.opened_file.specs.Changes.{file_at, laws_of};
@@ -53,6 +53,8 @@ pub fn report<S: Store, F: QuotaFile<S>, O: Sink>(
         (F.next_reads (F.seen file.old) ((S.seen store.old).files (F.seen file.old).name) * (2 ^ 32 + 1)) result }
     ensures few { (value : QuotaValue) → F.holds file.old store.old value → (S.seen store.new).reads ≤ (S.seen store.old).reads
         + reads_over (F.passing_reads (F.seen file.old) ((S.seen store.old).files (F.seen file.old).name)) (length (entries value.records)) }
+    // Nothing is committed.
+    ensures commits { S.commits [] store.old store.new }
     ensures unsent { IfErr result (λ fault. OnSink fault (Rose (O.seen sink.old).faults (O.seen sink.new).faults)) }
     ensures sink_later { (O.seen sink.old).faults ≤ (O.seen sink.new).faults }
 {
@@ -86,6 +88,7 @@ fn put_entries<S: Store, F: QuotaFile<S>, O: Sink>(
         (F.next_reads (F.seen file.old) ((S.seen store.old).files (F.seen file.old).name) * (2 ^ 32 + 1)) result }
     ensures few { (value : QuotaValue) → F.holds file.old store.old value → (S.seen store.new).reads ≤ (S.seen store.old).reads
         + reads_over (F.passing_reads (F.seen file.old) ((S.seen store.old).files (F.seen file.old).name)) (length (entries value.records)) }
+    ensures commits { S.commits [] store.old store.new }
     ensures unsent { IfErr result (λ fault. OnSink fault (Rose (O.seen sink.old).faults (O.seen sink.new).faults)) }
     ensures sink_later { (O.seen sink.old).faults ≤ (O.seen sink.new).faults }
 {

@@ -1,4 +1,4 @@
-ghost use Rattle.std.specs.Prelude.{◌≡◌, ◌↔◌, None, Some, IfOk, OnErr, length};
+ghost use Rattle.std.specs.Prelude.{◌≡◌, ◌↔◌, [], None, Some, IfOk, OnErr, length};
 ghost use Rattle.quota_map.specs.AnyFile.{any_get_reads};
 ghost use Rattle.rquota_xdr.specs.Call.{HasPathWithin, call_of};
 ghost use Rattle.rquota_xdr.specs.declared.call.Call.TheVariants.{Silent};
@@ -40,6 +40,8 @@ pub fn answer<S: Store>(
         (exports_at S.tells (S.seen store.new) exports.new) any_get_reads result }
     // The store is looked at only where limits are told.
     ensures untouched { IfOk result (λ reply. ¬ (IsQuota reply) → S.seen store.new ≡ S.seen store.old) }
+    // Nothing is committed.
+    ensures commits { S.commits [] store.old store.new }
 {
     answer_call(exports, store, datagram, now, read_call(datagram))
 }
@@ -62,6 +64,7 @@ fn answer_call<S: Store>(
     ensures looks { LooksUpIn Some (exports_at S.tells (S.seen store.old) exports.old)
         (exports_at S.tells (S.seen store.new) exports.new) any_get_reads result }
     ensures untouched { IfOk result (λ reply. ¬ (IsQuota reply) → S.seen store.new ≡ S.seen store.old) }
+    ensures commits { S.commits [] store.old store.new }
 {
     match call {
         Call::Get {

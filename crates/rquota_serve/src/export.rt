@@ -17,7 +17,7 @@ pub(crate) struct Export {
 }
 
 impl Export {
-    ghost use Rattle.std.specs.Prelude.{◌≡◌, ◌+◌, ◌≤◌, Option, None, Some, Ok, IfOk, IfErr, OnOk};
+    ghost use Rattle.std.specs.Prelude.{◌≡◌, ◌+◌, ◌≤◌, [], Option, None, Some, Ok, IfOk, IfErr, OnOk};
     ghost use Rattle.std.specs.FinMap.{get};
     ghost use Rattle.std.specs.String.{string_bytes};
     ghost use Rattle.quota_types.specs.declared.file_kind.Format.{Format};
@@ -56,6 +56,7 @@ impl Export {
         ensures leaves { OnlyReads (is_ok result) file.now (S.seen store.old) (S.seen store.new) }
         ensures reads { IsTrue S.tells → (S.seen store.new).reads
             ≤ (S.seen store.old).reads + opening_reads format (file_of (S.seen store.old).files file.now) }
+        ensures commits { S.commits [] store.old store.new }
     {
         let Ok(path) = String::from_str(alloc, path) else {
             return Err(OpenFault::Memory);
@@ -83,6 +84,7 @@ impl Export {
             (any_at S.tells (S.seen store.new) self.new.file) any_get_reads result }
         ensures path { string_bytes self.new.path ≡ string_bytes self.old.path }
         ensures kind { self.new.kind ≡ self.old.kind }
+        ensures commits { S.commits [] store.old store.new }
     {
         let found = self.file.get(store, id)?;
         Ok(found.unwrap_or_default())

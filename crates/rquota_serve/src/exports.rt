@@ -79,6 +79,8 @@ impl Exports {
         ensures leaves { OnlyReads (is_ok result) file.now (S.seen store.old) (S.seen store.new) }
         ensures reads { IsTrue S.tells → (S.seen store.new).reads
             ≤ (S.seen store.old).reads + opening_reads format (file_of (S.seen store.old).files file.now) }
+        // Nothing is committed.
+        ensures commits { S.commits [] store.old store.new }
     {
         let export = Export::open(alloc, store, path, kind, file, format)?;
         if self.list.push(export).is_err() {
@@ -112,6 +114,8 @@ impl Exports {
         ensures refused { IfErr result (λ met. IsRefusedAt S.tells format met.place (news_seen list.now) met.fault
             (S.seen store.old) (S.seen store.new)) }
         ensures within { IfErr result (λ met. met.place < length list.now) }
+        // Nothing is committed.
+        ensures commits { S.commits [] store.old store.new }
     {
         let Some((first, behind)) = list.split_first() else {
             return Ok(());
@@ -160,6 +164,7 @@ impl Exports {
         ensures looks { LooksUpIn Some (exports_at S.tells (S.seen store.old) self.old)
             (exports_at S.tells (S.seen store.new) self.new) any_get_reads result }
         ensures untouched { IfOk result (λ found. found ≡ None → S.seen store.new ≡ S.seen store.old) }
+        ensures commits { S.commits [] store.old store.new }
     {
         let Some(place) = self.place_of(path, kind) else {
             return Ok(None);

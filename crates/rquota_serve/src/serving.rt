@@ -35,6 +35,8 @@ pub fn serve<S: Store, L: Link>(
     // Whatever it answers, only a datagram that was taken makes calls of `read`, and at most `any_get_reads` of them.
     ensures reads { IsTrue L.tells → ReadsForTaken any_get_reads (L.seen link.old) (L.seen link.new)
         (S.seen store.old).reads (S.seen store.new).reads }
+    // Nothing is committed.
+    ensures commits { S.commits [] store.old store.new }
     ensures started { (L.seen link.new).started ≡ (L.seen link.old).started }
     ensures unlinked { IfErr result (λ fault. OnLink fault (Rose (L.seen link.old).faults (L.seen link.new).faults)) }
     ensures later { (L.seen link.old).faults ≤ (L.seen link.new).faults }
@@ -61,6 +63,7 @@ fn serve_one<S: Store, L: Link>(
         (exports_at S.tells (S.seen store.new) exports.new) any_get_reads result }
     ensures reads { IsTrue L.tells → ReadsForTaken any_get_reads (L.seen link.old) (L.seen link.new)
         (S.seen store.old).reads (S.seen store.new).reads }
+    ensures commits { S.commits [] store.old store.new }
     ensures started { (L.seen link.new).started ≡ (L.seen link.old).started }
     ensures unlinked { IfErr result (λ fault. OnLink fault (Rose (L.seen link.old).faults (L.seen link.new).faults)) }
     ensures later { (L.seen link.old).faults ≤ (L.seen link.new).faults }

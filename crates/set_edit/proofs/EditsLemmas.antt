@@ -11,22 +11,19 @@ use Rattle.quota_types.specs.declared.file_kind.Format.{Format}
 use Rattle.quota_types.specs.declared.record.Grace.{Grace}
 use Rattle.quota_types.specs.declared.record.Rec.{Rec}
 use Rattle.quota_types.proofs.KeptLemmas.{kept_null}
-use Rattle.opened_file.specs.Changes.{Changes, FileAt, FileLaws}
+use Rattle.opened_file.specs.Changes.{FileAt}
 use Rattle.opened_file.specs.FileChange.{FileChange, Put, Remove, SetGrace, changed_value}
 use Rattle.opened_file.specs.ValueEdits.{edit_by, has_nothing_to_do, may_lack_room}
 use Rattle.quota_value.specs.QuotaValue.{QuotaValue, with_grace}
-use Rattle.opened_file.specs.declared.quota_file.FileFault.{FileFault}
 use Rattle.outside.proofs.FrameLemmas.{only_reads-none}
 use Rattle.opened_file.proofs.LookupLemmas.{IsLookedUp, IsSameAt}
 use Rattle.set_edit.specs.declared.limits.Limits.{Limits}
-use Rattle.set_edit.specs.declared.skipped.Skipped.{Skipped}
 use Rattle.set_edit.specs.declared.time_word.TimeWord.{TimeWord}
 use Rattle.set_edit.specs.Edited.{edited, kept_change, unless_unfit, wanted_limits, with_kept, with_limits}
-use Rattle.set_edit.specs.EditCalls.{change_to, with_or_without, Edits, value_edit}
+use Rattle.set_edit.specs.EditCalls.{change_to, with_or_without, value_edit}
 use Rattle.set_edit.specs.Editing.{Edit}
 use Rattle.set_edit.specs.Edits.{grace_edit, limits_edit, times_edit}
 use Rattle.set_edit.specs.Times.{found_or_zeros, skips_both, times_skipped, wanted_times, with_times}
-use Rattle.set_edit.proofs.EditingLemmas.{edit_answer, edits-changed}
 
 -- the change to what the format keeps is the one that is made of it
 pub change_to-is : (format : Format) (id : ℕ) (rec next : Rec) → next ≡ kept_of format id rec → kept_change format id rec ≡ change_to id next
@@ -87,60 +84,55 @@ null_same : (found : Option Rec) (limits : Limits) (grace : Grace) (now : ℕ) (
 null_same None limits grace now null is = sym is
 null_same (Some rec) limits grace now null is = refl
 
--- four limits are set by the change to what the format keeps of the wanted record, where all that it is made of was looked up
-pub limits-edits : (id : ℕ) (limits : Limits) (now : ℕ) (laws : FileLaws) (old mid new : FileAt) (result : Result (Unit {0}) FileFault)
-    (found : Option Rec) (format : Format) (grace : Grace) (rec next : Rec)
-    → Changes (change_to id next) laws mid new result → HasFound id old mid found format
-    → ((value : QuotaValue) → mid.holds value → grace ≡ value.grace) → rec ≡ with_limits (unwrap_or found zero_record) limits
+-- to set four limits is the change to what the format keeps of the wanted record, where all that it is made of was looked up
+pub limits-same : (id : ℕ) (limits : Limits) (now : ℕ) (old mid : FileAt) (found : Option Rec) (format : Format) (grace : Grace) (rec next : Rec)
+    → HasFound id old mid found format → ((value : QuotaValue) → mid.holds value → grace ≡ value.grace) → rec ≡ with_limits (unwrap_or found zero_record) limits
     → unfit format id (timers_of rec grace now) ≡ None → next ≡ kept_of format id (timers_of rec grace now) → is_null_of next ≡ is_null_of rec
-    → Edits (limits_edit id limits now) laws old new (edit_answer (tt {0}) result)
-limits-edits id limits now laws old mid new result found format grace rec next changes seen periods limited fits kept null =
+    → IsSameAt (value_edit (limits_edit id limits now)) (edit_by (change_to id next)) old
+limits-same id limits now old mid found format grace rec next seen periods limited fits kept null =
     let P : Format → Option Rec → Rec → Type 0 = λ f o r. (unfit f id r ≡ None) × (next ≡ kept_of f id r) × (is_null_of next ≡ is_null_of r) in
     let is = fact_of id old mid found format seen (λ value f o. P f o (wanted_limits o limits value.grace now))
     (λ value holds. subst (λ (g : Grace). P format found (wanted_limits found limits g now)) (periods value holds)
     (subst (λ (r : Rec). P format found (timers_of r grace now)) limited (fits, kept, null))) in
-    edits-changed (limits_edit id limits now) (change_to id next) laws old mid new (tt {0}) result changes seen.up
-    (same_at (limits_edit id limits now) id next old refl
+    same_at (limits_edit id limits now) id next old refl
     (λ value holds. edited-fits value id _ next (is value holds).0 (is value holds).1)
     (λ value holds. change_to-is value.format id _ next (is value holds).1)
-    (λ value holds. null_same (get value.records id) limits value.grace now (is_null_of next) (is value holds).2))
+    (λ value holds. null_same (get value.records id) limits value.grace now (is_null_of next) (is value holds).2)
 
 busy_same : (found : Option Rec) (null : Bool) → skips_both (times_skipped (found_or_zeros found)) ≡ false
     → skips_both (times_skipped (found_or_zeros found)) ≡ (is_none found && null)
 busy_same None null busy = absurd (cc)
 busy_same (Some rec) null busy = busy
 
--- the times are set by the change to what the format keeps of the wanted record, where they are not both skipped
-pub times-edits : (id : ℕ) (block inode : TimeWord) (now : ℕ) (laws : FileLaws) (old mid new : FileAt) (told : Skipped) (result : Result (Unit {0}) FileFault)
-    (found : Option Rec) (format : Format) (rec next : Rec)
-    → Changes (change_to id next) laws mid new result → HasFound id old mid found format → rec ≡ found_or_zeros found
+-- to set the times is the change to what the format keeps of the wanted record, where they are not both skipped
+pub times-same : (id : ℕ) (block inode : TimeWord) (now : ℕ) (old mid : FileAt) (found : Option Rec) (format : Format) (rec next : Rec)
+    → HasFound id old mid found format → rec ≡ found_or_zeros found
     → unfit format id (with_times rec block inode now) ≡ None → next ≡ kept_of format id (with_times rec block inode now)
     → skips_both (times_skipped rec) ≡ false
-    → Edits (times_edit id block inode now) laws old new (edit_answer told result)
-times-edits id block inode now laws old mid new told result found format rec next changes seen zeros fits kept busy =
+    → IsSameAt (value_edit (times_edit id block inode now)) (edit_by (change_to id next)) old
+times-same id block inode now old mid found format rec next seen zeros fits kept busy =
     let W : Rec → Rec = λ r. with_times r block inode now in
     let P : Format → Rec → Type 0 = λ f r. (unfit f id (W r) ≡ None) × (next ≡ kept_of f id (W r)) × (skips_both (times_skipped r) ≡ false) in
     let is = fact_of id old mid found format seen (λ value f o. P f (found_or_zeros o)) (λ value holds. subst (λ (r : Rec). P format r) zeros (fits, kept, busy)) in
-    edits-changed (times_edit id block inode now) (change_to id next) laws old mid new told result changes seen.up
-    (same_at (times_edit id block inode now) id next old refl
+    same_at (times_edit id block inode now) id next old refl
     (λ value holds.
     ap (λ (b : Bool). let wanted = wanted_times value id block inode now in
     unless_unfit (unfit value.format id wanted) (if b then value else with_kept value id wanted)) (is value holds).2
     ∙ edited-fits value id _ next (is value holds).0 (is value holds).1)
     (λ value holds. change_to-is value.format id _ next (is value holds).1)
-    (λ value holds. busy_same (get value.records id) (is_null_of next) (is value holds).2))
+    (λ value holds. busy_same (get value.records id) (is_null_of next) (is value holds).2)
 
--- grace periods for which the format has room are set by the change to them
-pub grace-edits : (grace : Grace) (laws : FileLaws) (old new : FileAt) (result : Result (Unit {0}) FileFault) (format : Format)
-    → Changes (SetGrace grace) laws old new result → ((value : QuotaValue) → old.holds value → format ≡ value.format)
-    → grace_unfit format grace ≡ None → Edits (grace_edit grace) laws old new (edit_answer (tt {0}) result)
-grace-edits grace laws old new result format changes is fits =
-    edits-changed (grace_edit grace) (SetGrace grace) laws old old new (tt {0}) result changes
-    (record { stays = λ value holds. holds; leaves = only_reads-none old.seen.name old.store; same = refl })
-    (record {
-      edited = λ value holds. ap (λ (out : Option (Field × ℕ)). unless_unfit out (with_grace value grace))
-          (subst (λ (f : Format). grace_unfit f grace ≡ None) (is value holds) fits);
-      change = λ value holds. refl;
-      idle = λ value holds. refl;
-      room = refl;
-    })
+-- to set grace periods for which the format has room is the change to them
+pub grace-same : (grace : Grace) (at : FileAt) (format : Format) → ((value : QuotaValue) → at.holds value → format ≡ value.format)
+    → grace_unfit format grace ≡ None → IsSameAt (value_edit (grace_edit grace)) (edit_by (SetGrace grace)) at
+grace-same grace at format is fits = record {
+  edited = λ value holds. ap (λ (out : Option (Field × ℕ)). unless_unfit out (with_grace value grace))
+      (subst (λ (f : Format). grace_unfit f grace ≡ None) (is value holds) fits);
+  change = λ value holds. refl;
+  idle = λ value holds. refl;
+  room = refl;
+}
+
+-- where nothing was looked up all is as it was
+pub is_looked_up-none : (at : FileAt) → IsLookedUp at at
+is_looked_up-none at = record { stays = λ value holds. holds; leaves = only_reads-none at.seen.name at.store; same = refl }

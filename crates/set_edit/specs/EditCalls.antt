@@ -1,5 +1,5 @@
 -- What is said of every edit of an opened quota file, whatever it sets and whatever the format.
-use Rattle.std.specs.Prelude.{◌≡◌, ◌≤◌, ◌+◌, ℕ, false, IfErr, Result, Err, if◌then◌else◌}
+use Rattle.std.specs.Prelude.{◌≡◌, ◌≤◌, ◌+◌, ℕ, false, IfErr, IsOkAnd, IsSomeAnd, List, Option, Result, Err, if◌then◌else◌}
 use Rattle.quota_types.specs.declared.field.NoRoom.{NoRoom}
 use Rattle.quota_types.specs.Rec.{is_null_of}
 use Rattle.quota_types.specs.declared.record.Rec.{Rec}
@@ -49,3 +49,7 @@ change_to id rec = if is_null_of rec then Remove id else Put id rec
 -- the value with this record of the identifier, and with none where this one is null
 abbrev pub with_or_without : QuotaValue → ℕ → Rec → QuotaValue
 with_or_without value id rec = changed_value (change_to id rec) value
+
+-- a file stands for what an edit makes of each value that was held before
+abbrev pub StandsEdited : Edit → (held : QuotaValue → Type 0) → (stands : List ℕ → QuotaValue → Type 0) → Option (List ℕ) → Type 0
+StandsEdited edit held stands file = (value : QuotaValue) → held value → IsSomeAnd file (λ bytes. IsOkAnd (edit.edited value) (stands bytes))

@@ -1,6 +1,7 @@
 ghost use Rattle.std.specs.Prelude.{◌≡◌, IsTrue};
 ghost use Rattle.opened_file.specs.Changes.{file_at, laws_of};
-ghost use Rattle.set_edit.specs.EditCalls.{Edits};
+ghost use Rattle.opened_file.specs.Committed.{CommitsOnce};
+ghost use Rattle.set_edit.specs.EditCalls.{Edits, StandsEdited};
 ghost use Rattle.set_edit.specs.Edits.{copy_edit, limits_of};
 
 use crate::{EditFault, Limits, set_limits};
@@ -27,6 +28,10 @@ pub fn copy_limits<S: Store, F: QuotaFile<S>>(
         (laws_of S.tells F.stands_for F.makes F.may_leave F.lacks_room F.may_refuse F.change_reads F.change_writes F.done_writes)
         (file_at (F.holds file.old store.old) (F.seen file.old) (S.seen store.old))
         (file_at (F.holds file.new store.new) (F.seen file.new) (S.seen store.new)) result }
+    // Nothing is committed, or once the files as they are told then, of which the named one stands for what the edit makes of it.
+    ensures commits { CommitsOnce (λ worlds. S.commits worlds store.old store.new) (StandsEdited (copy_edit from to now)
+        (F.holds file.old store.old) (F.stands_for (F.seen file.old).format) ((S.seen store.new).files (F.seen file.old).name))
+        (S.seen store.new).files }
 {
     let source = file.get(store, from)?;
     set_limits(file, store, to, &limits_of(source), now)

@@ -2,10 +2,11 @@ ghost use Rattle.std.specs.Prelude.{◌≡◌, IfErr, IfSome, IsTrue, unwrap_or}
 ghost use Rattle.quota_types.specs.Kept.{IsKept};
 ghost use Rattle.quota_types.specs.Rec.{zero_record};
 ghost use Rattle.opened_file.specs.Changes.{Changes, file_at, laws_of};
+ghost use Rattle.opened_file.specs.Committed.{CommitsOnce, StandsChanged};
 ghost use Rattle.opened_file.specs.QuotaFile.{WantsNoMemory};
 ghost use Rattle.set_edit.specs.EditFault.{file_fault};
 ghost use Rattle.set_edit.specs.Edited.{with_limits};
-ghost use Rattle.set_edit.specs.EditCalls.{change_to, Edits, ReadsOnce};
+ghost use Rattle.set_edit.specs.EditCalls.{change_to, Edits, ReadsOnce, StandsEdited};
 ghost use Rattle.set_edit.specs.Edits.{limits_edit};
 
 use crate::{EditFault, Limits};
@@ -40,6 +41,10 @@ pub fn set_limits<S: Store, F: QuotaFile<S>>(
         (S.seen store.old).reads (S.seen store.new).reads }
     // It is never refused for lack of memory.
     ensures memory { IfErr result (λ fault. IfSome (file_fault fault) WantsNoMemory) }
+    // Nothing is committed, or once the files as they are told then, of which the named one stands for what the edit makes of it.
+    ensures commits { CommitsOnce (λ worlds. S.commits worlds store.old store.new) (StandsEdited (limits_edit id limits.now now)
+        (F.holds file.old store.old) (F.stands_for (F.seen file.old).format) ((S.seen store.new).files (F.seen file.old).name))
+        (S.seen store.new).files }
 {
     let old = file.get(store, id)?;
     let rec = limited(old, limits);
@@ -75,6 +80,9 @@ pub(crate) fn put_or_remove<S: Store, F: QuotaFile<S>>(
         (file_at (F.holds file.old store.old) (F.seen file.old) (S.seen store.old))
         (file_at (F.holds file.new store.new) (F.seen file.new) (S.seen store.new)) result }
     ensures memory { IfErr result WantsNoMemory }
+    ensures commits { CommitsOnce (λ worlds. S.commits worlds store.old store.new) (StandsChanged (change_to id rec)
+        (F.holds file.old store.old) (F.stands_for (F.seen file.old).format) ((S.seen store.new).files (F.seen file.old).name))
+        (S.seen store.new).files }
 {
     if rec.is_null() {
         file.remove(store, id)

@@ -6,7 +6,8 @@ ghost use Rattle.quota_types.specs.declared.record.Rec.{Rec};
 ghost use Rattle.outside.specs.Frame.{OnlyReads};
 ghost use Rattle.quota_value.specs.QuotaValue.{QuotaValue};
 ghost use Rattle.opened_file.specs.Changes.{file_at, laws_of};
-ghost use Rattle.set_edit.specs.EditCalls.{Edits};
+ghost use Rattle.opened_file.specs.Committed.{CommitsOnce};
+ghost use Rattle.set_edit.specs.EditCalls.{Edits, StandsEdited};
 ghost use Rattle.set_edit.specs.Edits.{times_edit};
 ghost use Rattle.set_edit.specs.Times.{found_or_zeros, record_in, skips_both, time_of, times_skipped, with_times};
 
@@ -47,6 +48,10 @@ pub fn set_times<S: Store, F: QuotaFile<S>>(
     // Whatever the store tells, nothing is written where both are told as skipped.
     ensures unwritten { IfOk result (λ skipped. IsTrue (skips_both skipped)
         → OnlyReads true (F.seen file.old).name (S.seen store.old) (S.seen store.new)) }
+    // Nothing is committed, or once the files as they are told then, of which the named one stands for what the edit makes of it.
+    ensures commits { CommitsOnce (λ worlds. S.commits worlds store.old store.new) (StandsEdited (times_edit id block inode now)
+        (F.holds file.old store.old) (F.stands_for (F.seen file.old).format) ((S.seen store.new).files (F.seen file.old).name))
+        (S.seen store.new).files }
 {
     let rec = found_or_zeros(file.get(store, id)?);
     let skipped = skipped_times(&rec);

@@ -1,4 +1,4 @@
-use Rattle.std.proofs.Common.{◌^◌, ◌<◌, sym, subst, IfSome, IsTrue, Ok, Err, Option, Some, refl, arith}
+use Rattle.std.proofs.Common.{◌^◌, ◌<◌, sym, subst, IfSome, IsTrue, Ok, Err, Option, Some, refl, arith, []}
 use Rattle.std.proofs.lemmas.Result.{err_from_is_err_and}
 use Rattle.quota_types.specs.declared.record.Entry.{Entry}
 use Rattle.opened_file.specs.FileSeen.{FileSeen}
@@ -17,6 +17,7 @@ loop-entry-init g c = record {
   usable = c.requires;
   up = looks_up-within Some _ _ _ 0 _ (Ok (tt {0})) (omega arith) (looks_up-none Some _ _ (tt {0}));
   sink_later = omega arith;
+  commits = g.S.Store.commits_nothing [] _;
 }
 
 pub returns-in_err-entry-clause-fault : goal.returns-in_err-entry-clause-fault
@@ -55,6 +56,7 @@ loop-entry-preserved g c =
       usable = subst (λ (seen : FileSeen). IsTrue seen.usable) (sym found.looks.same) kept.usable;
       up = looks_up-answer Some Some _ _ _ _ _ (Ok (tt {0})) tt (one_more _ _ _ _ g.F.QuotaFile.next_reads c.loop-entry.after entry.id _ is_after is_narrow kept.up found.looks);
       sink_later = omega (arith, put.later, kept.sink_later);
+      commits = g.S.Store.commits_on [] [] _ _ _ kept.commits found.commits;
     }
 
 pub returns-clause-ok : goal.returns-clause-ok

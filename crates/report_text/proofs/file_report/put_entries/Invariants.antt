@@ -1,4 +1,4 @@
-use Rattle.std.proofs.Common.{◌*◌, ◌-◌, ◌^◌, ◌≤◌, IsTrue, Ok, Some}
+use Rattle.std.proofs.Common.{◌*◌, ◌-◌, ◌^◌, ◌≤◌, IsTrue, Ok, Some, []}
 use Rattle.id_names.specs.FirstMatch.{first_name}
 use Rattle.opened_file.specs.Changes.{file_at, laws_of}
 use Rattle.opened_file.specs.LooksUp.{LooksUp}
@@ -23,6 +23,7 @@ invariant-loop-entry g l =
           (file_at (F.holds l.fn.file l.fn.store) (F.seen l.fn.file) (S.seen l.fn.store)) (file_at (F.holds l.file l.store) (F.seen l.file) (S.seen l.store))
           (F.next_reads (F.seen l.fn.file) ((S.seen l.fn.store).files (F.seen l.fn.file).name) * (2 ^ 32 - ids_after l.after)) (Ok (tt {0}));
       sink_later : (O.seen l.fn.sink).faults ≤ (O.seen l.sink).faults;
+      commits : S.commits [] l.fn.store l.store;
     }
 
 abbrev pub decreases-loop-entry : goal.decreases-loop-entry

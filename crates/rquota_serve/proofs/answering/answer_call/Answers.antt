@@ -1,4 +1,4 @@
-use Rattle.std.proofs.Common.{◌≡◌, ℕ, List, ◌+◌, Option, Some, refl, sym, ap, ◌∙◌}
+use Rattle.std.proofs.Common.{◌≡◌, ℕ, List, [], ◌+◌, Option, Some, refl, sym, ap, ◌∙◌}
 use Rattle.std.specs.List.{slice_range}
 use Rattle.std.specs.Option.{unwrap_or}
 use Rattle.quota_types.specs.declared.file_kind.Kind.{Kind}
@@ -64,4 +64,5 @@ returns-in_default g c =
       asked = tt;
       looks = looks_in-none Some _ _ _;
       untouched = λ untold. refl;
+      commits = g.S.Store.commits_nothing [] _;
     }

@@ -1,4 +1,4 @@
-use Rattle.std.proofs.Common.{Err, refl, ◌∙◌, arith}
+use Rattle.std.proofs.Common.{[], Err, refl, ◌∙◌, arith}
 use Rattle.std.proofs.lemmas.Result.{err_from_is_err_and}
 use Rattle.quota_map.specs.AnyFile.{any_get_reads}
 use Rattle.rquota_serve.specs.ExportedValues.{ExportedValues}
@@ -17,6 +17,7 @@ loop-call-init g c = record {
   reads = λ told. reads-none _ _ _;
   started = refl;
   later = omega arith;
+  commits = g.S.Store.commits_nothing [] _;
 }
 
 pub loop-call-preserved : goal.loop-call-preserved
@@ -35,6 +36,7 @@ loop-call-preserved g c =
       reads = λ told. reads-then any_get_reads _ _ _ _ _ _ (so_far.reads told) (one.reads told);
       started = one.started ∙ so_far.started;
       later = omega (arith, so_far.later, one.later);
+      commits = S.commits_on [] [] _ _ _ so_far.commits one.commits;
     }
 
 pub returns-in_err-serve_one-clause-stopped : goal.returns-in_err-serve_one-clause-stopped

@@ -1,4 +1,4 @@
-use Rattle.std.proofs.Common.{◌≡◌, ◌*◌, ◌≤◌, IsTrue, Ok}
+use Rattle.std.proofs.Common.{◌≡◌, ◌*◌, ◌≤◌, [], IsTrue, Ok}
 use Rattle.quota_map.specs.AnyFile.{any_get_reads}
 use Rattle.rquota_serve.specs.Exports.{Serves}
 use Rattle.rquota_serve.specs.Looking.{LooksUpIn, exports_at}
@@ -16,4 +16,5 @@ invariant-loop-call g l =
       reads : IsTrue L.tells → ReadsForTaken any_get_reads (L.seen l.fn.link) (L.seen l.link) (S.seen l.fn.store).reads (S.seen l.store).reads;
       started : (L.seen l.link).started ≡ (L.seen l.fn.link).started;
       later : (L.seen l.fn.link).faults ≤ (L.seen l.link).faults;
+      commits : S.commits [] l.fn.store l.store;
     }

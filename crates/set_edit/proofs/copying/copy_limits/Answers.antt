@@ -1,9 +1,13 @@
-use Rattle.std.proofs.Common.{refl, sym, ap, subst, ◌∙◌}
+use Rattle.std.proofs.Common.{refl, sym, ap, subst, inl, ◌∙◌}
 use Rattle.std.proofs.lemmas.Result.{err_from_is_err_and}
+use Rattle.opened_file.specs.Changes.{file_at}
+use Rattle.opened_file.proofs.LooksUpLemmas.{is_looked_up}
+use Rattle.opened_file.proofs.LookupLemmas.{IsSameAt}
 use Rattle.set_edit.specs.Edited.{limits_change, limits_set}
+use Rattle.set_edit.specs.EditCalls.{value_edit}
 use Rattle.set_edit.specs.Edits.{LimitsMayLack, copy_edit, limits_edit, limits_idle, limits_of}
 use Rattle.set_edit.specs.declared.limits.Limits.{Limits}
-use Rattle.opened_file.proofs.LooksUpLemmas.{is_looked_up}
+use Rattle.set_edit.proofs.CommittedLemmas.{once_edited}
 use Rattle.set_edit.proofs.EditingLemmas.{edits-after, edits-unlooked}
 use Rattle.set_edit.proofs.copying.copy_limits.Goals as goal
 
@@ -13,16 +17,20 @@ returns g c =
     let to = c.args.to in
     let now = c.args.now in
     let copied = c.limits_of.ensures in
+    let copy = copy_edit c.args.from to now in
+    let next = limits_edit to c.limits_of.result now in
+    let up = is_looked_up _ _ _ _ _ _ looked_up.looks in
+    let same : IsSameAt (value_edit copy) (value_edit next)
+    (file_at (g.F.QuotaFile.holds c.args.file.now c.args.store.now) (g.F.QuotaFile.seen c.args.file.now) (g.S.Store.seen c.args.store.now)) = record {
+      edited = λ value holds. ap (λ (limits : Limits). limits_set value to limits now) (sym (copied ∙ ap limits_of (looked_up.found value holds)));
+      change = λ value holds. ap (λ (limits : Limits). limits_change value to limits now) (sym (copied ∙ ap limits_of (looked_up.found value holds)));
+      idle = λ value holds. ap (λ (limits : Limits). limits_idle value to limits now) (sym (copied ∙ ap limits_of (looked_up.found value holds)));
+      room = refl;
+    } in
     record {
-      edits = edits-after (copy_edit c.args.from to now) (limits_edit to c.limits_of.result now) _ _ _ _ c.set_limits.result c.set_limits.ensures.edits
-          (is_looked_up _ _ _ _ _ _ looked_up.looks)
+      edits = edits-after copy next _ _ _ _ c.set_limits.result c.set_limits.ensures.edits up
           (record {
-            value = record {
-              edited = λ value holds. ap (λ (limits : Limits). limits_set value to limits now) (sym (copied ∙ ap limits_of (looked_up.found value holds)));
-              change = λ value holds. ap (λ (limits : Limits). limits_change value to limits now) (sym (copied ∙ ap limits_of (looked_up.found value holds)));
-              idle = λ value holds. ap (λ (limits : Limits). limits_idle value to limits now) (sym (copied ∙ ap limits_of (looked_up.found value holds)));
-              room = refl;
-            };
+            value = same;
             id = refl;
             may = λ out may. (
               c.in_ok-source.source,
@@ -30,6 +38,7 @@ returns g c =
               subst (λ (limits : Limits). LimitsMayLack to limits now (g.F.QuotaFile.seen c.args.file.now).format out) copied may,
             );
           });
+      commits = once_edited g.S.Store.commits g.S.Store.commits_on g.F.QuotaFile.stands_for _ _ _ (value_edit copy) (value_edit next) _ _ _ looked_up.commits up same c.set_limits.ensures.commits;
     }
 
 pub returns-in_err-source : goal.returns-in_err-source
@@ -39,4 +48,5 @@ returns-in_err-source g c =
     record {
       edits = rw (p.1, p.2)
           (edits-unlooked (copy_edit c.args.from c.args.to c.args.now) _ _ _ _ c.in_err-source.field-0.0 looked_up.looks);
+      commits = inl looked_up.commits;
     }

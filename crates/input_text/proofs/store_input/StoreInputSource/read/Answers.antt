@@ -18,4 +18,5 @@ returns-in-Ok-clause-keeps g c =
       leaves = read.leaves;
       unsynced = inr (read.leaves.synced (inl refl));
       behind = λ told. (_, returns-in-Ok-clause-taken g c told);
+      committed = read.commits;
     }

@@ -14,7 +14,7 @@ returns-in_default g t c =
     let list = c.args.list.now in
     let all = all_of S.tells c.args.format [] (news_seen list) (Ok tt) (Ok tt) was was served served store store
     (no_news list c.in_default.ensures.cases) refl (all_none S.tells c.args.format was served store) in
-    record { added = all.added; serves = all.serves; leaves = all.leaves; reads = all.reads; refused = all.refused; within = tt }
+    record { added = all.added; serves = all.serves; leaves = all.leaves; reads = all.reads; refused = all.refused; within = tt; commits = S.commits_nothing [] _ }
 
 pub returns-in-Ok : goal.returns-in-Ok
 returns-in-Ok g t c =
@@ -36,7 +36,15 @@ returns-in-Ok g t c =
     (record { added = later.added; serves = later.serves; leaves = later.leaves; reads = later.reads; refused = later.refused; within = within_news behind c.add_all.result later.within }) in
     let whole = all_of S.tells c.args.format (one ∷ news_seen behind) (news_seen c.args.list.now) _ c.one_later.result was is served serves old new
     (ap news_seen c.in-Some.ensures.cases.0) c.one_later.ensures all in
-    record { added = whole.added; serves = whole.serves; leaves = whole.leaves; reads = whole.reads; refused = whole.refused; within = within_list c.args.list.now c.one_later.result whole.within }
+    record {
+      added = whole.added;
+      serves = whole.serves;
+      leaves = whole.leaves;
+      reads = whole.reads;
+      refused = whole.refused;
+      within = within_list c.args.list.now c.one_later.result whole.within;
+      commits = S.commits_on [] [] _ _ _ added.commits later.commits;
+    }
 
 pub returns-in-Err : goal.returns-in-Err
 returns-in-Err g t c =
@@ -57,4 +65,12 @@ returns-in-Err g t c =
     added.reads in
     let whole = all_of S.tells c.args.format (one ∷ news_seen behind) (news_seen c.args.list.now) answered answered was is served serves old new
     (ap news_seen c.in-Some.ensures.cases.0) refl all in
-    record { added = whole.added; serves = whole.serves; leaves = whole.leaves; reads = whole.reads; refused = whole.refused; within = within_list c.args.list.now answered whole.within }
+    record {
+      added = whole.added;
+      serves = whole.serves;
+      leaves = whole.leaves;
+      reads = whole.reads;
+      refused = whole.refused;
+      within = within_list c.args.list.now answered whole.within;
+      commits = added.commits;
+    }
