@@ -1,5 +1,6 @@
 pub mod AlikeLemmas
 pub mod AloneLemmas
+pub mod CommittedLemmas
 pub mod EditFileLemmas
 pub mod EditLemmas
 pub mod FormLemmas

@@ -1,10 +1,14 @@
-ghost use Rattle.std.specs.Prelude.{Option, ◌≡◌, Bool, Err, IfErr, IfOk, IsTrue, OnOk, Some, false, is_ok};
+ghost use Rattle.std.specs.Prelude.{ℕ, List, Option, ◌≡◌, Bool, Err, IfErr, IfOk, IsTrue, OnOk, Some, false, true, is_ok};
 ghost use Rattle.outside.specs.ManyCalls.{Syncs};
 ghost use Rattle.quota_value.specs.QuotaValue.{QuotaValue};
-ghost use Rattle.outside.specs.Seen.{LinkSeen, SinkSeen, SourceSeen};
-ghost use Rattle.quota_map.specs.AnyFile.{any_at, any_laws};
-ghost use Rattle.set_edit.specs.EditCalls.{Edits};
+ghost use Rattle.outside.specs.Seen.{Datagram, LinkSeen, SinkSeen, SourceSeen};
+ghost use Rattle.outside.specs.World.{KeepsOthers};
+ghost use Rattle.opened_file.specs.Committed.{CommitsOnce};
+ghost use Rattle.quota_map.specs.AnyFile.{HoldsAny, any_at, any_laws, any_seen};
+ghost use Rattle.quota_map.specs.StandsFor.{StandsForAs};
+ghost use Rattle.set_edit.specs.EditCalls.{Edits, StandsEdited};
 ghost use Rattle.refusals.specs.declared.reason.Refusal.{Refusal};
+ghost use Rattle.run_steps.specs.Committed.{CommitsSteps};
 ghost use Rattle.run_steps.specs.Done.{seen_of, tells_of};
 ghost use Rattle.refusals.specs.Outcome.{refusal_in};
 ghost use Rattle.run_steps.specs.Carrying.{CarriesOut, EditsAlone};
@@ -66,6 +70,12 @@ pub fn edit_by_words<S: Store, E: Sink>(
         → MakesWords common words file invocation.now (S.seen store.old).files (S.seen store.new).files) }
     // What was written has been synced where it was done, and where it was not too, unless a call on the store failed.
     ensures synced { IsTrue S.tells → Syncs (is_ok result) (S.seen store.old) (S.seen store.new) }
+    // All that is committed are the files of one moment, to which its steps come, and which are those of the end where it was done.
+    ensures commits { (input : List ℕ) (datagrams : List Datagram) → IsTrue S.tells
+        → CommitsSteps true (is_ok result) (EditSteps common words file invocation)
+        (KeepsOthers file (S.seen store.old).files)
+        (record { files = (S.seen store.old).files; input = input; datagrams = datagrams }) (S.seen store.new).files
+        (λ worlds. S.commits worlds store.old store.new) }
     ensures quiet { words_warn words ≡ false → err.new ≡ err.old }
 {
     let Common {
@@ -109,6 +119,11 @@ fn edit_named<S: Store, E: Sink>(
     ensures made { OnOk result (IsTrue S.tells
         → MakesNamed names.now kind format words file invocation.now (S.seen store.old).files (S.seen store.new).files) }
     ensures synced { IsTrue S.tells → Syncs (is_ok result) (S.seen store.old) (S.seen store.new) }
+    ensures commits { (input : List ℕ) (datagrams : List Datagram) → IsTrue S.tells
+        → CommitsSteps true (is_ok result) (Then (edit_read names.now words) (λ (edit : FileEditOf). FileEditSteps kind format edit file invocation))
+        (KeepsOthers file (S.seen store.old).files)
+        (record { files = (S.seen store.old).files; input = input; datagrams = datagrams }) (S.seen store.new).files
+        (λ worlds. S.commits worlds store.old store.new) }
     ensures quiet { words_warn words ≡ false → err.new ≡ err.old }
 {
     match read_edit(alloc, names, words) {
@@ -143,6 +158,11 @@ pub fn edit_file<S: Store, E: Sink>(
     ensures made { OnOk result (IsTrue S.tells
         → MakesEdit kind format (edit_meant edit.now invocation.now) file (S.seen store.old).files (S.seen store.new).files) }
     ensures synced { IsTrue S.tells → Syncs (is_ok result) (S.seen store.old) (S.seen store.new) }
+    ensures commits { (input : List ℕ) (datagrams : List Datagram) → IsTrue S.tells
+        → CommitsSteps true (is_ok result) (FileEditSteps kind format edit.now file invocation)
+        (KeepsOthers file (S.seen store.old).files)
+        (record { files = (S.seen store.old).files; input = input; datagrams = datagrams }) (S.seen store.new).files
+        (λ worlds. S.commits worlds store.old store.new) }
     ensures quiet { edit_warns edit.now ≡ false → err.new ≡ err.old }
 {
     match open_file(alloc, store, file.as_str(), kind, format) {
@@ -170,6 +190,9 @@ fn make_edit<S: Store>(
     ensures skipped { IfOk result (λ skipped. (value : QuotaValue)
         → ⟦<AnyFile as QuotaFile<S>>⟧.holds opened.old store.old value → skipped ≡ skipped_by edit.now value) }
     ensures skips { IfOk result (MaySkip edit.now) }
+    ensures commits { CommitsOnce (λ worlds. S.commits worlds store.old store.new) (StandsEdited (edit_meant edit.now now)
+        (HoldsAny S.tells (S.seen store.old).files opened.old) (StandsForAs (any_seen opened.old).format)
+        ((S.seen store.new).files (any_seen opened.old).name)) (S.seen store.new).files }
 {
     match *edit {
         FileEdit::Limits { id, limits } => unskipped(set_limits(opened, store, id, &limits, now)),

@@ -50,6 +50,7 @@ pub fn take_form<S: Store, I: Source>(
     ensures may { IfErr result (λ refusal. FormMayRefuse from refusal.cause refusal.name) }
     ensures placed { IfErr result (λ refusal. refusal.place ≡ nowhere) }
     ensures leaves { OnlyReads (is_ok result) (unwrap_or from []) (S.seen store.old) (S.seen store.new) }
+    ensures commits { S.commits [] store.old store.new }
     ensures later { (I.seen input.old).faults ≤ (I.seen input.new).faults }
     ensures keeps { I.keeps false input.old input.new }
 {
@@ -103,6 +104,7 @@ fn read_form_file<S: Store>(
     ensures may { IfErr result (λ refusal. FormMayRefuse (Some name) refusal.cause refusal.name) }
     ensures placed { IfErr result (λ refusal. refusal.place ≡ nowhere) }
     ensures leaves { OnlyReads (is_ok result) name (S.seen store.old) (S.seen store.new) }
+    ensures commits { S.commits [] store.old store.new }
 {
     match store.size(name.as_str()) {
         Ok(Some(_)) => read_form_there(names, kind, id, file, name, store),
@@ -128,6 +130,7 @@ fn read_form_there<S: Store>(
     ensures may { IfErr result (λ refusal. FormMayRefuse (Some name) refusal.cause refusal.name) }
     ensures placed { IfErr result (λ refusal. refusal.place ≡ nowhere) }
     ensures leaves { OnlyReads (is_ok result) name (S.seen store.old) (S.seen store.new) }
+    ensures commits { S.commits [] store.old store.new }
 {
     let mut source = StoreSource {
         name: name.into_string(),

@@ -1,4 +1,4 @@
-ghost use Rattle.std.specs.Prelude.{ℕ, Option, ◌≡◌, ◌≤◌, ◌++◌, Bool, Err, IsTrue, OnErr, OnOk, Some, is_ok};
+ghost use Rattle.std.specs.Prelude.{[], ℕ, Option, ◌≡◌, ◌≤◌, ◌++◌, Bool, Err, IsTrue, OnErr, OnOk, Some, is_ok};
 ghost use Rattle.id_names.specs.FirstMatch.{first_name};
 ghost use Rattle.outside.specs.Count.{Rose};
 ghost use Rattle.outside.specs.Text.{AppendsPrefix};
@@ -52,6 +52,8 @@ pub fn print_by_word<S: Store, O: Sink>(
     ensures word { (refusal : Refusal) → faulty_print common word ≡ Some refusal → result ≡ Err refusal }
     ensures store { (refusal : Refusal) → faulty_print common word ≡ Some refusal → store.new ≡ store.old }
     ensures synced { Syncs (is_ok result) (S.seen store.old) (S.seen store.new) }
+    // It only looks: nothing is committed.
+    ensures commits { S.commits [] store.old store.new }
 {
     let Common {
         kind,
@@ -84,6 +86,7 @@ fn print_named<S: Store, O: Sink>(
     ensures word { (refusal : Refusal) → refusal_in (identifier_of names.now word) ≡ Some refusal → result ≡ Err refusal }
     ensures store { (refusal : Refusal) → refusal_in (identifier_of names.now word) ≡ Some refusal → store.new ≡ store.old }
     ensures synced { Syncs (is_ok result) (S.seen store.old) (S.seen store.new) }
+    ensures commits { S.commits [] store.old store.new }
 {
     match read_identifier(names, word) {
         Ok(id) => print_opened(alloc, names, kind, format, id, file, store, out),
@@ -108,6 +111,7 @@ fn print_opened<S: Store, O: Sink>(
         (seen_of (S.seen store.old) input (O.seen out.old) err link)
         (seen_of (S.seen store.new) input (O.seen out.new) err link) result }
     ensures synced { Syncs (is_ok result) (S.seen store.old) (S.seen store.new) }
+    ensures commits { S.commits [] store.old store.new }
 {
     match open_file(alloc, store, file.as_str(), kind, format) {
         Ok(mut opened) => match opened.get(store, id) {

@@ -1,5 +1,5 @@
 -- Conversions: what was done where a new file was made, and where it was refused.
-use Rattle.std.proofs.Common.{◌≡◌, ◌≢◌, ℕ, Bool, false, IsTrue, List, [], Option, None, Some, Ok, Err, Result, inr, refl, sym, ap, subst, ◌∙◌, arith, if◌then◌else◌, true}
+use Rattle.std.proofs.Common.{◌≡◌, ◌≢◌, ◌≤◌, ℕ, Bool, false, IsTrue, List, [], Option, None, Some, Ok, Err, Result, inr, refl, sym, ap, subst, ◌∙◌, arith, if◌then◌else◌, true}
 use Rattle.std.specs.Prelude.{IsSome}
 use Rattle.std.specs.Str.{bytes_eq}
 use Rattle.std.specs.List.{slice_get}
@@ -9,6 +9,7 @@ use Rattle.quota_types.specs.declared.file_kind.Format.{Format}
 use Rattle.quota_types.specs.declared.file_kind.Kind.{Kind}
 use Rattle.outside.specs.Count.{Rose}
 use Rattle.quota_value.specs.QuotaValue.{QuotaValue}
+use Rattle.outside.specs.Replacement.{ReplacesOnly}
 use Rattle.outside.specs.Seen.{StoreSeen}
 use Rattle.outside.specs.World.{World}
 use Rattle.opened_file.specs.declared.quota_file.FileFault.{FileFault}
@@ -19,7 +20,7 @@ use Rattle.opened_file.specs.declared.replacement.ReplaceFault.{ReplaceFault}
 use Rattle.opened_file.specs.declared.replacement.ReplaceFault.TheVariants.{Store as MakingFailed, Full as TooManyBlocks, Memory as NoMemoryToMake}
 use Rattle.outside.proofs.FrameLemmas.{only_reads-none}
 use Rattle.outside.proofs.WorldLemmas.{bytes_eq-ne, bytes_eq-same}
-use Rattle.quota_map.specs.Size.{ids_in}
+use Rattle.quota_map.specs.Size.{blocks_of, ids_in}
 use Rattle.quota_map.specs.Replacing.{UnlessStore}
 use Rattle.quota_map.specs.View.{IsView, most_blocks}
 use Rattle.quota_map.proofs.SeenLemmas.{fault_seen, store_rose}
@@ -50,7 +51,11 @@ use Rattle.run_steps.proofs.ShowingLemmas.{damage_may}
 use Rattle.file_commands.specs.Conversion.{ConvertMayRefuse, ConvertSteps, MakingSteps, absent, made, targeted}
 use Rattle.file_commands.specs.ConversionCauses.{convert_refusal}
 use Rattle.file_commands.specs.FileValue.{IsMadeAnew, replace_cause}
+use Rattle.run_steps.specs.Committed.{ComesTo}
+use Rattle.run_steps.proofs.CommittedLemmas.{comes_opened}
 use Rattle.file_commands.proofs.CheckLemmas.{carries_same}
+use Rattle.run_steps.proofs.CommittedLemmas.{comes_led}
+use Rattle.file_commands.proofs.CommittedLemmas.{comes_fitting}
 use Rattle.file_commands.proofs.ReplacingLemmas.{no_room_for, replace_failed, replace_made}
 use Rattle.quota_map.proofs.SizeLemmas.{no_flat_blocks}
 
@@ -171,6 +176,22 @@ converted_anew kind before after source target tells old store is told = record 
   format_is = made_format kind before after source target tells old.files is.made is.converts;
   replaced = is.replaced told;
 }
+
+-- the steps come to the files with the new one, in which it is seen as the converted value
+pub comes_converted : (kind : Kind) (before after : Format) (source target : List ℕ) (invocation : Invocation) (tells : Bool) (old : Outside) (files : World) (new : QuotaValue) → IsTrue tells
+    → HasNoTarget tells (asked_for source target before after kind most_blocks) old.files → IsConverted tells (asked_for source target before after kind most_blocks) old.files new
+    → blocks_of new ≤ most_blocks → IsView (files target) kind (Some after) (Ok new) → ReplacesOnly target old.files files
+    → ComesTo (ConvertSteps kind before after source target invocation) old files
+comes_converted kind before after source target invocation tells old files new told free is few view only =
+    let converting = λ (value : QuotaValue). MakingSteps source target (converted after value) in
+    let next = Opening kind (Some before) source converting in
+    comes_led next old (ConvertSteps kind before after source target invocation) old files
+    (leads_looking next _ old (ap (λ (o : Outcome (Unit {0})). Then o (λ (_ : Unit {0}). next)) (sym (targets_free source target old.files free.apart (free.absent told)))))
+    (comes_opened kind (Some before) source converting old is.value files (is.read.seen told)
+    (subst (λ (r : Result QuotaValue NoRoomFor). ComesTo (MakingSteps source target r) old files) (sym is.converts)
+    (comes_fitting target new old files few
+    (subst (λ (k : Kind). IsView (files target) k (Some new.format) (Ok new)) (sym (made_kind kind before after source target tells old.files new is))
+    (subst (λ (f : Format). IsView (files target) kind (Some f) (Ok new)) (sym (made_format kind before after source target tells old.files new is)) view)) only)))
 
 -- Why it was not made.
 

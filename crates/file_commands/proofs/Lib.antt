@@ -1,4 +1,5 @@
 pub mod CheckLemmas
+pub mod CommittedLemmas
 pub mod ConversionLemmas
 pub mod GenerateLemmas
 pub mod GenerateStepLemmas

@@ -1,7 +1,7 @@
-ghost use Rattle.std.specs.Prelude.{ℕ, Option, ◌≡◌, ◌⊎◌, Bool, IsSome, IsTrue, OnErr, OnOk, false, is_ok};
+ghost use Rattle.std.specs.Prelude.{ℕ, List, Option, ◌≡◌, ◌⊎◌, Bool, IsSome, IsTrue, OnErr, OnOk, true, false, is_ok};
 ghost use Rattle.outside.specs.ManyCalls.{Syncs};
 ghost use Rattle.outside.specs.Replacement.{ReplacesOnly};
-ghost use Rattle.outside.specs.Seen.{LinkSeen, SinkSeen, SourceSeen};
+ghost use Rattle.outside.specs.Seen.{Datagram, LinkSeen, SinkSeen, SourceSeen};
 ghost use Rattle.quota_map.specs.View.{IsOpenedAs};
 ghost use Rattle.run_steps.specs.Done.{seen_of, tells_of};
 ghost use Rattle.run_steps.specs.Carrying.{CarriesOut};
@@ -9,6 +9,7 @@ ghost use Rattle.run_steps.specs.Steps.{Opening};
 ghost use Rattle.file_commands.specs.Check.{CheckMayRefuse, CheckSteps, OpenedMayRefuse, ReplaceSteps, UnfitMayRefuse, UsageMayRefuse, UsageSteps, check_uses, checked};
 ghost use Rattle.file_commands.specs.Causes.{IsFormatOf, apply_cause};
 ghost use Rattle.run_steps.specs.Changing.{edit_uses};
+ghost use Rattle.run_steps.specs.Committed.{CommitsSteps};
 ghost use Rattle.file_commands.specs.FileValue.{IsInOrder, IsMadeAnew, value_in};
 ghost use Rattle.file_commands.specs.WritingRefused.{WritingMayRefuse};
 
@@ -55,6 +56,12 @@ pub fn check_file<S: Store, I: Source>(
     ensures others { ReplacesOnly file (S.seen store.old).files (S.seen store.new).files }
     // What was written has been synced where it was done, and where it was not too, unless a call on the store failed.
     ensures synced { IsTrue S.tells → Syncs (is_ok result) (S.seen store.old) (S.seen store.new) }
+    // What is committed are the files at one moment, to which its steps come: with the new one, where it was made.
+    ensures commits { (datagrams : List Datagram) (line : Option ℕ) → IsTrue S.tells → IsTrue I.tells
+        → CommitsSteps true (is_ok result) (CheckSteps common fresh device from file (record { now = now; line = line }))
+        (ReplacesOnly file (S.seen store.old).files)
+        (record { files = (S.seen store.old).files; input = (I.seen input.old).left; datagrams = datagrams })
+        (S.seen store.new).files (λ worlds. S.commits worlds store.old store.new) }
     ensures untouched { IsSome from → input.new ≡ input.old }
     ensures keeps { I.keeps false input.old input.new }
 {
@@ -90,6 +97,11 @@ fn check_opened<S: Store, I: Source>(
     ensures named { OnErr result ((S.seen store.new).files file ≡ (S.seen store.old).files file) }
     ensures others { ReplacesOnly file (S.seen store.old).files (S.seen store.new).files }
     ensures synced { IsTrue S.tells → Syncs (is_ok result) (S.seen store.old) (S.seen store.new) }
+    ensures commits { (datagrams : List Datagram) → IsTrue S.tells → IsTrue I.tells
+        → CommitsSteps true (is_ok result) (Opening kind format file (UsageSteps kind device from file now))
+        (ReplacesOnly file (S.seen store.old).files)
+        (record { files = (S.seen store.old).files; input = (I.seen input.old).left; datagrams = datagrams })
+        (S.seen store.new).files (λ worlds. S.commits worlds store.old store.new) }
     ensures untouched { IsSome from → input.new ≡ input.old }
     ensures keeps { I.keeps false input.old input.new }
 {
@@ -125,6 +137,11 @@ fn check_value<S: Store, I: Source>(
     ensures named { OnErr result ((S.seen store.new).files file ≡ (S.seen store.old).files file) }
     ensures others { ReplacesOnly file (S.seen store.old).files (S.seen store.new).files }
     ensures synced { IsTrue S.tells → Syncs (is_ok result) (S.seen store.old) (S.seen store.new) }
+    ensures commits { (datagrams : List Datagram) → IsTrue S.tells → IsTrue I.tells
+        → CommitsSteps true (is_ok result) (UsageSteps value.kind device from file now (value_in value))
+        (ReplacesOnly file (S.seen store.old).files)
+        (record { files = (S.seen store.old).files; input = (I.seen input.old).left; datagrams = datagrams })
+        (S.seen store.new).files (λ worlds. S.commits worlds store.old store.new) }
     ensures untouched { IsSome from → input.new ≡ input.old }
     ensures keeps { I.keeps false input.old input.new }
 {
@@ -155,6 +172,10 @@ fn replace_usage<S: Store>(
     ensures named { OnErr result ((S.seen store.new).files file ≡ (S.seen store.old).files file) }
     ensures others { ReplacesOnly file (S.seen store.old).files (S.seen store.new).files }
     ensures synced { IsTrue S.tells → Syncs (is_ok result) (S.seen store.old) (S.seen store.new) }
+    ensures commits { (input : List ℕ) (datagrams : List Datagram) → IsTrue S.tells
+        → CommitsSteps true (is_ok result) (ReplaceSteps file (checked (value_in value) usage now)) (ReplacesOnly file (S.seen store.old).files)
+        (record { files = (S.seen store.old).files; input = input; datagrams = datagrams }) (S.seen store.new).files
+        (λ worlds. S.commits worlds store.old store.new) }
 {
     match apply(
         alloc,

@@ -1,8 +1,9 @@
-ghost use Rattle.std.specs.Prelude.{◌≡◌, ◌≢◌, Bool, IsTrue, OnErr, OnOk, false, is_ok};
+ghost use Rattle.std.specs.Prelude.{◌≡◌, ◌≢◌, ℕ, Bool, IsTrue, List, OnErr, OnOk, true, false, is_ok};
 ghost use Rattle.outside.specs.ManyCalls.{Syncs};
 ghost use Rattle.outside.specs.Replacement.{ReplacesOnly, replacement_name};
-ghost use Rattle.outside.specs.Seen.{LinkSeen, SinkSeen, SourceSeen};
+ghost use Rattle.outside.specs.Seen.{Datagram, LinkSeen, SinkSeen, SourceSeen};
 ghost use Rattle.run_steps.specs.Changing.{edit_uses};
+ghost use Rattle.run_steps.specs.Committed.{CommitsSteps};
 ghost use Rattle.run_steps.specs.Done.{seen_of, tells_of};
 ghost use Rattle.run_steps.specs.Carrying.{CarriesOut};
 ghost use Rattle.run_steps.specs.declared.invocation.Invocation.{Invocation};
@@ -51,6 +52,12 @@ pub fn convert_file<S: Store>(
     ensures others { ReplacesOnly target (S.seen store.old).files (S.seen store.new).files }
     // What was written has been synced where it was done, and where it was not too, unless a call on the store failed.
     ensures synced { IsTrue S.tells → Syncs (is_ok result) (S.seen store.old) (S.seen store.new) }
+    // What is committed are the files at one moment, to which its steps come: with the new one, where it was made.
+    ensures commits { (input : List ℕ) (datagrams : List Datagram) (invocation : Invocation) → IsTrue S.tells
+        → CommitsSteps true (is_ok result) (ConvertSteps kind old new source target invocation)
+        (ReplacesOnly target (S.seen store.old).files)
+        (record { files = (S.seen store.old).files; input = input; datagrams = datagrams }) (S.seen store.new).files
+        (λ worlds. S.commits worlds store.old store.new) }
 {
     match convert(
         alloc,

@@ -1,15 +1,16 @@
-ghost use Rattle.std.specs.Prelude.{◌≡◌, Bool, IfErr, IfOk, IfSome, IsTrue, Ok, OnErr, OnOk, false, is_ok};
+ghost use Rattle.std.specs.Prelude.{◌≡◌, ℕ, List, [], Bool, IfErr, IfOk, IfSome, IsTrue, Ok, OnErr, OnOk, true, false, is_ok};
 ghost use Rattle.outside.specs.Frame.{OnlyReads};
 ghost use Rattle.outside.specs.ManyCalls.{Syncs};
 ghost use Rattle.quota_value.specs.QuotaValue.{QuotaValue};
 ghost use Rattle.outside.specs.Replacement.{ReplacesOnly};
-ghost use Rattle.outside.specs.Seen.{LinkSeen, SinkSeen, SourceSeen};
+ghost use Rattle.outside.specs.Seen.{Datagram, LinkSeen, SinkSeen, SourceSeen};
 ghost use Rattle.opened_file.specs.QuotaFile.{IsLookupFault};
 ghost use Rattle.quota_map.specs.Reading.{file_refusal};
 ghost use Rattle.run_steps.specs.Done.{seen_of, tells_of};
 ghost use Rattle.run_steps.specs.Carrying.{CarriesOut};
 ghost use Rattle.file_commands.specs.Check.{HasKept, ReplaceSteps, new_format, new_value};
 ghost use Rattle.run_steps.specs.Changing.{edit_uses};
+ghost use Rattle.run_steps.specs.Committed.{CommitsSteps};
 ghost use Rattle.file_commands.specs.FileValue.{IsInOrder, IsMadeAnew, IsWritable, replace_cause, value_in};
 ghost use Rattle.file_commands.specs.WritingRefused.{WritingMayRefuse};
 
@@ -82,6 +83,7 @@ pub fn read_value<S: Store>(
     ensures may { IfErr result (λ fault. IfSome (file_refusal fault)
         (⟦<AnyFile as QuotaFile<S>>⟧.may_refuse (⟦<AnyFile as QuotaFile<S>>⟧.seen opened).format)) }
     ensures leaves { OnlyReads (is_ok result) (⟦<AnyFile as QuotaFile<S>>⟧.seen opened).name (S.seen store.old) (S.seen store.new) }
+    ensures commits { S.commits [] store.old store.new }
 {
     let format = QuotaFile::<S>::format(&opened);
     let grace = QuotaFile::<S>::grace(&opened);
@@ -120,6 +122,11 @@ pub fn write_value<S: Store>(
     // No other file has changed but the one under whose name the new one is written first.
     ensures others { ReplacesOnly file (S.seen store.old).files (S.seen store.new).files }
     ensures synced { IsTrue S.tells → Syncs (is_ok result) (S.seen store.old) (S.seen store.new) }
+    // What is committed are the files at one moment, to which its steps come: with the new one, where it was made.
+    ensures commits { (input : List ℕ) (datagrams : List Datagram) → IsTrue S.tells
+        → CommitsSteps true (is_ok result) (ReplaceSteps file (Ok (value_in value.now))) (ReplacesOnly file (S.seen store.old).files)
+        (record { files = (S.seen store.old).files; input = input; datagrams = datagrams }) (S.seen store.new).files
+        (λ worlds. S.commits worlds store.old store.new) }
 {
     match replace_file(
         alloc,

@@ -1,4 +1,4 @@
-ghost use Rattle.std.specs.Prelude.{◌≡◌, ◌+◌, ◌≤◌, ◌++◌, ℕ, List, None, Ok, Bool, IfErr, IfOk, IsTrue, decimal, length, sum_by, is_ok};
+ghost use Rattle.std.specs.Prelude.{◌≡◌, ◌+◌, ◌≤◌, ◌++◌, [], ℕ, List, None, Ok, Bool, true, IfErr, IfOk, IsTrue, decimal, length, sum_by, is_ok};
 ghost use Rattle.std.specs.List.Sorted.{IsStrictlyIncreasing};
 ghost use Rattle.quota_types.specs.Rec.{kib_of};
 ghost use Rattle.quota_types.specs.declared.file_kind.Format.TheVariants.{V2R1};
@@ -8,10 +8,11 @@ ghost use Rattle.outside.specs.ManyCalls.{Syncs};
 ghost use Rattle.quota_value.specs.Listed.{ids_of, records_of};
 ghost use Rattle.quota_value.specs.QuotaValue.{QuotaValue};
 ghost use Rattle.outside.specs.Replacement.{ReplacesOnly};
-ghost use Rattle.outside.specs.Seen.{LinkSeen, SinkSeen, SourceSeen};
+ghost use Rattle.outside.specs.Seen.{Datagram, LinkSeen, SinkSeen, SourceSeen};
 ghost use Rattle.quota_map.specs.View.{IsView, most_blocks};
 ghost use Rattle.refusals.specs.Refusals.{nowhere};
 ghost use Rattle.run_steps.specs.Act.{ToOut};
+ghost use Rattle.run_steps.specs.Committed.{CommitsSteps};
 ghost use Rattle.quota_map.specs.Size.{blocks_of};
 ghost use Rattle.run_steps.specs.Done.{IsUnwritten, seen_of, tells_of};
 ghost use Rattle.run_steps.specs.Carrying.{CarriesOut};
@@ -66,6 +67,11 @@ pub fn generate_file<S: Store, O: Sink>(
     ensures others { ReplacesOnly file (S.seen store.old).files (S.seen store.new).files }
     // What was written has been synced where it was done, and where it was not too, unless a call on the store failed.
     ensures synced { IsTrue S.tells → Syncs (is_ok result) (S.seen store.old) (S.seen store.new) }
+    // What is committed are the files at one moment, to which its steps come: behind the replacement, where it was made.
+    ensures commits { (input : List ℕ) (datagrams : List Datagram) → IsTrue S.tells
+        → CommitsSteps true (is_ok result) (GenerateSteps seed count file now) (ReplacesOnly file (S.seen store.old).files)
+        (record { files = (S.seen store.old).files; input = input; datagrams = datagrams }) (S.seen store.new).files
+        (λ worlds. S.commits worlds store.old store.new) }
 {
     match generated_value(alloc, seed, count, now) {
         Ok(value) => write_made(alloc, &value, count, file, store, out, now),
@@ -124,6 +130,10 @@ fn write_made<S: Store, O: Sink>(
         (seen_of (S.seen store.new) input (O.seen out.new) err link) result }
     ensures others { ReplacesOnly file (S.seen store.old).files (S.seen store.new).files }
     ensures synced { IsTrue S.tells → Syncs (is_ok result) (S.seen store.old) (S.seen store.new) }
+    ensures commits { (input : List ℕ) (datagrams : List Datagram) → IsTrue S.tells
+        → CommitsSteps true (is_ok result) (WrittenSteps count file now (value_in value.now)) (ReplacesOnly file (S.seen store.old).files)
+        (record { files = (S.seen store.old).files; input = input; datagrams = datagrams }) (S.seen store.new).files
+        (λ worlds. S.commits worlds store.old store.new) }
 {
     match replace_file(
         alloc,
@@ -161,6 +171,7 @@ fn tell_made<S: Store, O: Sink>(
         (seen_of (S.seen store.new) input (O.seen out.new) err link) result }
     ensures unwritten { IsUnwritten (S.seen store.old) (S.seen store.new) }
     ensures synced { Syncs (is_ok result) (S.seen store.old) (S.seen store.new) }
+    ensures commits { S.commits [] store.old store.new }
 {
     let Ok(name) = Word::copy_of(alloc, file.as_str()) else {
         return Err(Refusal::of(Cause::Memory, file));
@@ -194,6 +205,7 @@ fn report_length<S: Store>(
     ensures unwritten { IsUnwritten (S.seen store.old) (S.seen store.new) }
     ensures later { (S.seen store.old).faults ≤ (S.seen store.new).faults }
     ensures synced { Syncs (is_ok result) (S.seen store.old) (S.seen store.new) }
+    ensures commits { S.commits [] store.old store.new }
 {
     let mut gathered = Gathered::new(alloc);
     let names = Names::none(alloc);

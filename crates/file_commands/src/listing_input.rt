@@ -43,6 +43,7 @@ pub fn take_usage<S: Store, I: Source>(
     ensures may { IfErr result (λ refusal. InputMayRefuse AListing from refusal.cause refusal.name) }
     ensures placed { IfErr result (λ refusal. refusal.place ≡ nowhere) }
     ensures leaves { OnlyReads (is_ok result) (unwrap_or from []) (S.seen store.old) (S.seen store.new) }
+    ensures commits { S.commits [] store.old store.new }
     ensures later { (I.seen input.old).faults ≤ (I.seen input.new).faults }
     ensures keeps { I.keeps false input.old input.new }
 {
@@ -92,6 +93,7 @@ fn scan_file<S: Store>(
     ensures may { IfErr result (λ refusal. InputMayRefuse AListing (Some name) refusal.cause refusal.name) }
     ensures placed { IfErr result (λ refusal. refusal.place ≡ nowhere) }
     ensures leaves { OnlyReads (is_ok result) name (S.seen store.old) (S.seen store.new) }
+    ensures commits { S.commits [] store.old store.new }
 {
     match store.size(name.as_str()) {
         Ok(Some(_)) => scan_there(alloc, kind, device, name, store),
@@ -116,6 +118,7 @@ fn scan_there<S: Store>(
     ensures may { IfErr result (λ refusal. InputMayRefuse AListing (Some name) refusal.cause refusal.name) }
     ensures placed { IfErr result (λ refusal. refusal.place ≡ nowhere) }
     ensures leaves { OnlyReads (is_ok result) name (S.seen store.old) (S.seen store.new) }
+    ensures commits { S.commits [] store.old store.new }
 {
     let mut source = StoreSource {
         name: name.into_string(),

@@ -1,4 +1,4 @@
-ghost use Rattle.std.specs.Prelude.{ℕ, Option, ◌≡◌, Bool, is_ok};
+ghost use Rattle.std.specs.Prelude.{ℕ, Option, [], ◌≡◌, Bool, is_ok};
 ghost use Rattle.outside.specs.Seen.{LinkSeen, SinkSeen, SourceSeen};
 ghost use Rattle.outside.specs.ManyCalls.{Syncs};
 ghost use Rattle.run_steps.specs.Done.{seen_of, tells_of};
@@ -37,6 +37,8 @@ pub fn report_file<S: Store, O: Sink>(
         (seen_of (S.seen store.old) input (O.seen out.old) err link)
         (seen_of (S.seen store.new) input (O.seen out.new) err link) result }
     ensures synced { Syncs (is_ok result) (S.seen store.old) (S.seen store.new) }
+    // It only looks at the files.
+    ensures commits { S.commits [] store.old store.new }
 {
     let Common {
         kind,
@@ -67,6 +69,7 @@ pub(crate) fn report_opened<S: Store, O: Sink>(
         (seen_of (S.seen store.old) input (O.seen out.old) err link)
         (seen_of (S.seen store.new) input (O.seen out.new) err link) result }
     ensures synced { Syncs (is_ok result) (S.seen store.old) (S.seen store.new) }
+    ensures commits { S.commits [] store.old store.new }
 {
     match open_file(alloc, store, file.as_str(), kind, format) {
         Ok(mut opened) => {

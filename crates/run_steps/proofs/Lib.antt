@@ -1,5 +1,6 @@
 pub mod ActLemmas
 pub mod CarryingLemmas
+pub mod CommittedLemmas
 pub mod DoingLemmas
 pub mod IdentifierLemmas
 pub mod InARowLemmas

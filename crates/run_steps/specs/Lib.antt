@@ -2,6 +2,7 @@ pub mod Act
 pub mod Carrying
 pub mod Causes
 pub mod Changing
+pub mod Committed
 pub mod Done
 pub mod InputLine
 pub mod Meaning

@@ -34,6 +34,7 @@ pub fn read_names<S: Store>(
     ensures may { IfErr result (λ refusal. NamesMayRefuse names refusal.cause refusal.name) }
     ensures placed { IfErr result (λ refusal. refusal.place ≡ nowhere) }
     ensures leaves { OnlyReads (is_ok result) (unwrap_or names []) (S.seen store.old) (S.seen store.new) }
+    ensures commits { S.commits [] store.old store.new }
     ensures untouched { names ≡ None → store.new ≡ store.old }
 {
     match names {
@@ -55,6 +56,7 @@ fn read_names_file<S: Store>(
     ensures may { IfErr result (λ refusal. FileOfNamesMayRefuse name refusal.cause refusal.name) }
     ensures placed { IfErr result (λ refusal. refusal.place ≡ nowhere) }
     ensures leaves { OnlyReads (is_ok result) name (S.seen store.old) (S.seen store.new) }
+    ensures commits { S.commits [] store.old store.new }
 {
     match load(alloc, store, name.as_str(), MOST_NAMES) {
         Ok(bytes) => match Names::read(alloc, &bytes, kind) {

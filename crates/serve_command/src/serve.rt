@@ -58,6 +58,8 @@ pub fn serve_files<S: Store, L: Link>(
     ensures reads { OnOk result (IsTrue S.tells → (S.seen store.new).reads
         ≤ (S.seen store.old).reads + serving_reads format calls exports (S.seen store.old).files) }
     ensures synced { Syncs (is_ok result) (S.seen store.old) (S.seen store.new) }
+    // Nothing is committed.
+    ensures commits { S.commits [] store.old store.new }
 {
     let mut opened = Exports::new(alloc);
     match add_all(alloc, format, exports.as_slice(), &mut opened, store) {
@@ -94,6 +96,7 @@ fn answer_calls<S: Store, L: Link>(
         (L.seen link.old) (L.seen link.new)) }
     ensures reads { OnOk result ((S.seen store.new).reads ≤ (S.seen store.old).reads + 5 * calls) }
     ensures synced { Syncs (is_ok result) (S.seen store.old) (S.seen store.new) }
+    ensures commits { S.commits [] store.old store.new }
 {
     if link.start(port).is_err() {
         return Err(Refusal::of(Cause::LinkFault, file));

@@ -61,6 +61,8 @@ pub fn add_all<S: Store>(
     ensures unwritten { IsUnwritten (S.seen store.old) (S.seen store.new) }
     ensures later { (S.seen store.old).faults ≤ (S.seen store.new).faults }
     ensures synced { Syncs (is_ok result) (S.seen store.old) (S.seen store.new) }
+    // Nothing is committed.
+    ensures commits { S.commits [] store.old store.new }
 {
     let news = news_of(list);
     match exports.add_all(alloc, store, news.as_slice(), format) {

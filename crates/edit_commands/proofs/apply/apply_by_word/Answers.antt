@@ -6,6 +6,7 @@ use Rattle.run_steps.proofs.PhaseLemmas.{carries_naming, naming_refused}
 use Rattle.edit_commands.proofs.RefusedEditLemmas.{left_for-read}
 use Rattle.edit_commands.proofs.WordLemmas.{faulty_word_given, faulty_word_none}
 use Rattle.edit_commands.proofs.AloneLemmas.{edits_alone-after, edits_alone-read}
+use Rattle.edit_commands.proofs.CommittedLemmas.{comes_named, committed_since, read_committed}
 use Rattle.edit_commands.proofs.apply.apply_by_word.Goals as goal
 
 pub returns-in-Ok-clause-carries : goal.returns-in-Ok-clause-carries
@@ -55,3 +56,13 @@ returns-in-Err-clause-alone g c = edits_alone-read c.args.file _ _ _ c.in-Err.en
 
 pub returns-in-Err-clause-synced : goal.returns-in-Err-clause-synced
 returns-in-Err-clause-synced g c = λ told. syncs-read _ _ _ c.in-Err.ensures.leaves
+
+pub returns-in-Ok-clause-commits : goal.returns-in-Ok-clause-commits
+returns-in-Ok-clause-commits g c = λ datagrams told heard.
+    let read = c.in-Ok.ensures in
+    committed_since _ _ _ c.args.file _ _ _ _ _ datagrams _ _ read.leaves.files (λ worlds it. g.met.S.Store.commits_behind_none worlds _ _ _ read.commits it)
+    (λ world to. comes_named c.args.common.kind c.args.common.names c.in-Ok.names _ _ world (read.read told) to) (c.apply_named.ensures.commits datagrams told heard)
+
+pub returns-in-Err-clause-commits : goal.returns-in-Err-clause-commits
+returns-in-Err-clause-commits g c = λ datagrams told heard.
+    read_committed _ c.args.file _ _ _ (λ worlds. g.met.S.Store.commits_more worlds _ _) c.in-Err.ensures.commits c.in-Err.ensures.leaves.files

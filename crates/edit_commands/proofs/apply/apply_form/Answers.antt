@@ -9,6 +9,8 @@ use Rattle.run_steps.proofs.PhaseLemmas.{placed_nowhere}
 use Rattle.run_steps.proofs.TakingLemmas.{carries_taking, fault_more, has_taken, input_refused}
 use Rattle.edit_commands.proofs.RefusedEditLemmas.{left_for-read}
 use Rattle.edit_commands.proofs.AloneLemmas.{edits_alone-after, edits_alone-read}
+use Rattle.run_steps.proofs.CommittedLemmas.{comes_taking}
+use Rattle.edit_commands.proofs.CommittedLemmas.{committed_since, read_committed}
 use Rattle.edit_commands.proofs.apply.apply_form.Goals as goal
 
 pub returns-in-Ok-clause-carries : goal.returns-in-Ok-clause-carries
@@ -49,3 +51,17 @@ returns-in-Err-clause-alone g c = edits_alone-read c.args.file _ _ _ c.in-Err.en
 
 pub returns-in-Err-clause-synced : goal.returns-in-Err-clause-synced
 returns-in-Err-clause-synced g c = λ told. syncs-read _ _ _ c.in-Err.ensures.leaves
+
+pub returns-in-Ok-clause-commits : goal.returns-in-Ok-clause-commits
+returns-in-Ok-clause-commits g c = λ datagrams told heard.
+    let I = g.I.Source in
+    let took = c.in-Ok.ensures in
+    committed_since _ _ _ c.args.file _ _ _ _ (I.seen c.take_form.new.input).left datagrams _ _ took.leaves.files (λ worlds it. g.met.S.Store.commits_behind_none worlds _ _ _ took.commits it)
+    (λ world to.
+    comes_taking c.args.from (λ limits. true) _ _ c.in-Ok.limits _ _ world (rw c.as_str.ensures at (took.read told heard))
+    (has_taken c.args.from true _ _ (took.behind heard) (λ all none. took.ended none heard) (λ some. ap (λ i. (I.seen i).left) (took.untouched some))) to)
+    (c.edit_file.ensures.commits (I.seen c.take_form.new.input).left datagrams told)
+
+pub returns-in-Err-clause-commits : goal.returns-in-Err-clause-commits
+returns-in-Err-clause-commits g c = λ datagrams told heard.
+    read_committed _ c.args.file _ _ _ (λ worlds. g.met.S.Store.commits_more worlds _ _) c.in-Err.ensures.commits c.in-Err.ensures.leaves.files

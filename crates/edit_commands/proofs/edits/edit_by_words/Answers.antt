@@ -7,6 +7,7 @@ use Rattle.run_steps.proofs.PhaseLemmas.{carries_naming, naming_refused}
 use Rattle.edit_commands.proofs.RefusedEditLemmas.{left_for-read}
 use Rattle.edit_commands.proofs.WordLemmas.{faulty_given, faulty_none}
 use Rattle.edit_commands.proofs.AloneLemmas.{edits_alone-after, edits_alone-read}
+use Rattle.edit_commands.proofs.CommittedLemmas.{comes_named, committed_since, read_committed}
 use Rattle.edit_commands.proofs.MadeLemmas.{words_made}
 use Rattle.edit_commands.proofs.edits.edit_by_words.Goals as goal
 
@@ -72,3 +73,13 @@ returns-in-Ok-clause-made g c =
 
 pub returns-in-Err-clause-synced : goal.returns-in-Err-clause-synced
 returns-in-Err-clause-synced g c = λ told. syncs-read _ _ _ c.in-Err.ensures.leaves
+
+pub returns-in-Ok-clause-commits : goal.returns-in-Ok-clause-commits
+returns-in-Ok-clause-commits g c = λ input datagrams told.
+    let read = rw c.names_wanted-names.ensures at c.in-Ok.ensures in
+    committed_since _ _ _ c.args.file _ _ _ input input datagrams _ _ read.leaves.files (λ worlds it. g.met.S.Store.commits_behind_none worlds _ _ _ read.commits it)
+    (λ world to. comes_named c.args.common.kind (names_wanted c.args.words c.args.common.names) c.in-Ok.names _ _ world (read.read told) to) (c.edit_named.ensures.commits input datagrams told)
+
+pub returns-in-Err-clause-commits : goal.returns-in-Err-clause-commits
+returns-in-Err-clause-commits g c = λ input datagrams told.
+    read_committed _ c.args.file _ _ _ (λ worlds. g.met.S.Store.commits_more worlds _ _) c.in-Err.ensures.commits c.in-Err.ensures.leaves.files

@@ -2,20 +2,24 @@ use Rattle.std.proofs.Common.{ℕ, IsTrue, List, inl, inr, refl, sym, ap, ◌∙
 use Rattle.std.proofs.lemmas.Bool.{false≢true}
 use Rattle.outside.specs.World.{World}
 use Rattle.outside.proofs.FrameLemmas.{syncs-after_read, syncs-less, syncs-read}
+use Rattle.opened_file.proofs.CommittedLemmas.{once_behind}
 use Rattle.quota_map.specs.AnyFile.{any_seen}
 use Rattle.quota_map.specs.View.{fresh_seen}
 use Rattle.edit_steps.specs.EditStep.{edit_cause}
 use Rattle.set_edit.proofs.EditingLemmas.{edits-syncs}
 use Rattle.edit_commands.specs.Edits.{warnings}
 use Rattle.edit_commands.specs.EditWords.{edit_meant, skipped_by}
+use Rattle.edit_steps.proofs.CommittedLemmas.{made_stepped, refused_stepped}
 use Rattle.edit_steps.proofs.EditFileLemmas.{any_cause, any_made, any_refused, edit_may}
 use Rattle.edit_commands.proofs.EditFileLemmas.{any_left_for, file_edit_may, keeps_format, skips_quiet, skips_warn}
 use Rattle.edit_commands.proofs.EditLemmas.{edit_made, edit_unsaid}
 use Rattle.edit_commands.proofs.RefusedEditLemmas.{edit_unmade, left_for-read}
+use Rattle.run_steps.specs.Act.{InPlace}
 use Rattle.run_steps.proofs.LookingLemmas.{carries_looking}
 use Rattle.run_steps.proofs.OpeningLemmas.{not_opened}
 use Rattle.run_steps.proofs.PhaseLemmas.{carries_opening}
 use Rattle.edit_commands.proofs.AloneLemmas.{edits_alone-after, edits_alone-edits, edits_alone-read}
+use Rattle.edit_commands.proofs.CommittedLemmas.{comes_stepped, made_committed, read_committed, refused_committed}
 use Rattle.edit_commands.proofs.MadeLemmas.{makes_opened}
 use Rattle.edit_commands.proofs.edits.edit_file.Goals as goal
 
@@ -144,3 +148,52 @@ returns-in-Ok-write_warnings-clause-made g c = λ told value view busy.
     let was = opened.fresh ∙ ap (λ (n : List ℕ). fresh_seen n (any_seen c.in-Ok.opened).format) name in
     makes_opened c.args.file _ _ _ _ _ _ _ value _ c.in-Ok-make_edit.skipped was opened.leaves.files (opened.held told value (rw (sym name) at view)) busy
     c.in-Ok-make_edit.ensures.edits
+
+pub returns-in-Ok-write_warnings-clause-commits : goal.returns-in-Ok-write_warnings-clause-commits
+returns-in-Ok-write_warnings-clause-commits g c = λ input datagrams told.
+    let opened = c.in-Ok.ensures in
+    let name = c.as_str.ensures in
+    let was = opened.fresh ∙ ap (λ (n : List ℕ). fresh_seen n (any_seen c.in-Ok.opened).format) name in
+    let made = c.in-Ok-make_edit.ensures in
+    let view = opened.seen told in
+    let alone = edits_alone-after c.args.file _ _ _ _ opened.leaves (edits_alone-edits c.args.file _ _ _ _ _ _ _ _ was made.edits) in
+    made_committed _ _ c.args.file _ _ _ _ (λ worlds. g.met.S.Store.commits_more worlds _ _)
+    (once_behind g.S.Store.commits g.S.Store.commits_on _ _ _ _ _ _ opened.commits made.commits (λ whole. whole))
+    (comes_stepped c.args.kind c.args.format c.args.edit.now c.args.file c.args.invocation _ _ _ view.0 opened.leaves.files (rw name at view.1)
+    (made_stepped InPlace c.args.file _ _ _ _ _ _ _ view.0 c.in-Ok-make_edit.skipped (keeps_format c.args.edit.now c.args.invocation.now) was told
+    (opened.held told view.0 view.1) made.edits))
+    alone.others
+
+pub returns-in-Err-write_warnings-clause-commits : goal.returns-in-Err-write_warnings-clause-commits
+returns-in-Err-write_warnings-clause-commits g c = λ input datagrams told.
+    let opened = c.in-Ok.ensures in
+    let name = c.as_str.ensures in
+    let was = opened.fresh ∙ ap (λ (n : List ℕ). fresh_seen n (any_seen c.in-Ok.opened).format) name in
+    let made = c.in-Ok-make_edit.ensures in
+    let view = opened.seen told in
+    let alone = edits_alone-after c.args.file _ _ _ _ opened.leaves (edits_alone-edits c.args.file _ _ _ _ _ _ _ _ was made.edits) in
+    made_committed _ _ c.args.file _ _ _ _ (λ worlds. g.met.S.Store.commits_more worlds _ _)
+    (once_behind g.S.Store.commits g.S.Store.commits_on _ _ _ _ _ _ opened.commits made.commits (λ whole. whole))
+    (comes_stepped c.args.kind c.args.format c.args.edit.now c.args.file c.args.invocation _ _ _ view.0 opened.leaves.files (rw name at view.1)
+    (made_stepped InPlace c.args.file _ _ _ _ _ _ _ view.0 c.in-Ok-make_edit.skipped (keeps_format c.args.edit.now c.args.invocation.now) was told
+    (opened.held told view.0 view.1) made.edits))
+    alone.others
+
+pub returns-in-Err-make_edit-clause-commits : goal.returns-in-Err-make_edit-clause-commits
+returns-in-Err-make_edit-clause-commits g c = λ input datagrams told.
+    let opened = c.in-Ok.ensures in
+    let name = c.as_str.ensures in
+    let was = opened.fresh ∙ ap (λ (n : List ℕ). fresh_seen n (any_seen c.in-Ok.opened).format) name in
+    let made = c.in-Err-make_edit.ensures in
+    let view = opened.seen told in
+    let alone = edits_alone-after c.args.file _ _ _ _ opened.leaves (edits_alone-edits c.args.file _ _ _ _ _ _ _ _ was made.edits) in
+    refused_committed _ c.args.file _ _ _ _ (λ worlds. g.met.S.Store.commits_more worlds _ _)
+    (once_behind g.S.Store.commits g.S.Store.commits_on _ _ _ _ _ _ opened.commits made.commits (λ whole. whole))
+    (λ whole. comes_stepped c.args.kind c.args.format c.args.edit.now c.args.file c.args.invocation _ _ _ view.0 opened.leaves.files (rw name at view.1)
+    (refused_stepped InPlace c.args.file _ _ _ _ _ _ _ view.0 c.in-Err-make_edit.fault (keeps_format c.args.edit.now c.args.invocation.now) was told
+    (opened.held told view.0 view.1) made.edits whole))
+    alone.others
+
+pub returns-in-Err-clause-commits : goal.returns-in-Err-clause-commits
+returns-in-Err-clause-commits g c = λ input datagrams told.
+    read_committed _ c.args.file _ _ _ (λ worlds. g.met.S.Store.commits_more worlds _ _) c.in-Err.ensures.commits c.in-Err.ensures.leaves.files

@@ -1,4 +1,4 @@
-use Rattle.std.proofs.Common.{Err, inl, inr, refl, ap, ◌∙◌}
+use Rattle.std.proofs.Common.{[], Err, inl, inr, refl, ap, ◌∙◌}
 use Rattle.std.proofs.lemmas.Result.{on_ok_weaker}
 use Rattle.outside.proofs.FrameLemmas.{syncs-none}
 use Rattle.refusals.specs.declared.reason.Refusal.{Refusal}
@@ -6,6 +6,8 @@ use Rattle.edit_commands.specs.EditWords.{edit_read}
 use Rattle.run_steps.proofs.PhaseLemmas.{carries_then}
 use Rattle.edit_commands.proofs.WordLemmas.{passed_not, refused_as, warns_read, words_refused}
 use Rattle.edit_commands.proofs.AloneLemmas.{edits_alone-none}
+use Rattle.run_steps.proofs.CommittedLemmas.{comes_passed}
+use Rattle.edit_commands.proofs.CommittedLemmas.{committed_since, read_committed}
 use Rattle.edit_commands.proofs.edits.edit_named.Goals as goal
 
 pub returns-in-Ok-clause-carries : goal.returns-in-Ok-clause-carries
@@ -49,3 +51,11 @@ returns-in-Ok-clause-made g c = on_ok_weaker c.edit_file.result (λ made told. (
 
 pub returns-in-Err-clause-synced : goal.returns-in-Err-clause-synced
 returns-in-Err-clause-synced g c = λ told. syncs-none _
+
+pub returns-in-Ok-clause-commits : goal.returns-in-Ok-clause-commits
+returns-in-Ok-clause-commits g c = λ input datagrams told.
+    committed_since _ _ _ c.args.file _ _ _ input input datagrams _ _ refl (λ worlds it. it)
+    (λ world to. comes_passed (edit_read c.args.names.now c.args.words) c.in-Ok.edit _ _ world c.in-Ok.ensures to) (c.edit_file.ensures.commits input datagrams told)
+
+pub returns-in-Err-clause-commits : goal.returns-in-Err-clause-commits
+returns-in-Err-clause-commits g c = λ input datagrams told. read_committed _ c.args.file _ _ _ (λ worlds. g.met.S.Store.commits_more worlds _ _) (g.S.Store.commits_nothing [] _) refl

@@ -21,3 +21,15 @@ returns-in-Grace-clause-edits g c =
 
 pub returns-in-Times-clause-edits : goal.returns-in-Times-clause-edits
 returns-in-Times-clause-edits g c = rw c.in-Times.is c.set_times.ensures.edits
+
+pub returns-in-Limits-clause-commits : goal.returns-in-Limits-clause-commits
+returns-in-Limits-clause-commits g c = rw c.in-Limits.is c.set_limits.ensures.commits
+
+pub returns-in-Copy-clause-commits : goal.returns-in-Copy-clause-commits
+returns-in-Copy-clause-commits g c = rw c.in-Copy.is c.copy_limits.ensures.commits
+
+pub returns-in-Grace-clause-commits : goal.returns-in-Grace-clause-commits
+returns-in-Grace-clause-commits g c = rw c.in-Grace.is c.set_grace_periods.ensures.commits
+
+pub returns-in-Times-clause-commits : goal.returns-in-Times-clause-commits
+returns-in-Times-clause-commits g c = rw c.in-Times.is c.set_times.ensures.commits

@@ -4,10 +4,13 @@ use Rattle.quota_types.specs.declared.file_kind.Format.{Format}
 use Rattle.outside.proofs.FrameLemmas.{only_reads-none}
 use Rattle.quota_types.specs.declared.file_kind.Kind.{Kind}
 use Rattle.quota_value.specs.QuotaValue.{QuotaValue}
-use Rattle.run_steps.specs.Done.{seen_of, tells_of}
+use Rattle.run_steps.specs.Done.{seen_of, tells_of, Outside}
 use Rattle.run_steps.specs.Carrying.{CarriesOut}
 use Rattle.file_commands.specs.Check.{UsageMayRefuse, UsageSteps, check_uses, new_format, new_value}
 use Rattle.file_commands.proofs.CheckLemmas.{anew_since}
+use Rattle.std.specs.Result.{is_ok}
+use Rattle.outside.specs.Replacement.{ReplacesOnly}
+use Rattle.run_steps.specs.Committed.{CommitsSteps}
 use Rattle.file_commands.proofs.check.check_file.Goals as goal
 
 pub returns-then-fresh-clause-carries : goal.returns-then-fresh-clause-carries
@@ -40,3 +43,17 @@ returns-then-fresh-clause-anew g c =
 
 pub returns-clause-anew : goal.returns-clause-anew
 returns-clause-anew g c = rw c.if-fresh.false c.check_opened.ensures.anew
+
+pub returns-then-fresh-clause-commits : goal.returns-then-fresh-clause-commits
+returns-then-fresh-clause-commits g c = λ datagrams line told input_told.
+    let S = g.S.Store in
+    let is = c.new-value.ensures in
+    let made = new_value c.args.common.kind c.args.common.format in
+    let old : Outside = record { files = (S.seen c.args.store.now).files; input = (g.I.Source.seen c.args.input.now).left; datagrams = datagrams } in
+    let all = λ (k : Kind) (v : QuotaValue). CommitsSteps true (is_ok c.check_value.result) (UsageSteps k c.args.device c.args.from c.args.file c.args.now v)
+    (ReplacesOnly c.args.file old.files) old (S.seen c.check_value.new.store).files (λ worlds. S.commits worlds c.args.store.now c.check_value.new.store) in
+    rw c.if-fresh.true
+    (subst (λ (k : Kind). all k made) is.kind (subst (λ (v : QuotaValue). all c.new-value.result.kind v) is.value (c.check_value.ensures.commits datagrams told input_told)))
+
+pub returns-clause-commits : goal.returns-clause-commits
+returns-clause-commits g c = λ datagrams line told input_told. rw c.if-fresh.false (c.check_opened.ensures.commits datagrams told input_told)

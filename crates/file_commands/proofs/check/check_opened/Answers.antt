@@ -1,4 +1,4 @@
-use Rattle.std.proofs.Common.{◌≡◌, inl, inr, sym, ap, subst, ◌∙◌}
+use Rattle.std.proofs.Common.{◌≡◌, inl, inr, sym, ap, subst, ◌∙◌, true, false, [], refl}
 use Rattle.std.proofs.lemmas.Result.{on_ok_weaker}
 use Rattle.quota_types.specs.declared.file_kind.Format.{Format}
 use Rattle.quota_types.specs.declared.file_kind.Kind.{Kind}
@@ -12,6 +12,13 @@ use Rattle.file_commands.specs.FileValue.{value_in}
 use Rattle.file_commands.proofs.CheckLemmas.{anew_since, carries_same, not_read_whole}
 use Rattle.run_steps.proofs.OpeningLemmas.{not_opened}
 use Rattle.run_steps.proofs.PhaseLemmas.{carries_as, carries_opening}
+use Rattle.std.specs.Result.{is_ok}
+use Rattle.quota_value.specs.QuotaValue.{QuotaValue}
+use Rattle.run_steps.specs.Committed.{ComesTo}
+use Rattle.run_steps.specs.Done.{Outside}
+use Rattle.run_steps.specs.Steps.{Opening}
+use Rattle.run_steps.proofs.CommittedLemmas.{comes_opened, looked_committed}
+use Rattle.file_commands.proofs.CommittedLemmas.{committed_since}
 use Rattle.file_commands.proofs.check.check_opened.Goals as goal
 
 pub returns-in-Ok-read_value-clause-carries : goal.returns-in-Ok-read_value-clause-carries
@@ -78,3 +85,35 @@ returns-in-Ok-read_value-clause-anew g c =
     read.kind
     (λ f is. subst (λ (g : Format). IsOpenedAs c.args.format g) (sym (is ∙ read.format)) opened.as_asked) (anew told))
     c.check_value.ensures.anew
+
+pub returns-in-Ok-read_value-clause-commits : goal.returns-in-Ok-read_value-clause-commits
+returns-in-Ok-read_value-clause-commits g c = λ datagrams told input_told.
+    let S = g.S.Store in
+    let opened = c.in-Ok.ensures in
+    let read = c.in-Ok-read_value.ensures in
+    let found = c.in-Ok-read_value.value in
+    let file = c.as_str.ensures in
+    let left = (g.I.Source.seen c.args.input.now).left in
+    let old : Outside = record { files = (S.seen c.args.store.now).files; input = left; datagrams = datagrams } in
+    let next = UsageSteps c.args.kind c.args.device c.args.from c.args.file c.args.now in
+    let value = (rw file at (opened.seen told)).0 in
+    let view = (rw file at (opened.seen told)).1 in
+    let is : value_in found ≡ value = read.value value (opened.held told value (rw (sym file) at view)) (view_kind _ c.args.kind c.args.format value view) in
+    committed_since (is_ok c.check_value.result) (UsageSteps found.kind c.args.device c.args.from c.args.file c.args.now (value_in found))
+    (Opening c.args.kind c.args.format c.args.file next) c.args.file
+    (record { files = (S.seen c.read_value.new.store).files; input = left; datagrams = datagrams }) old _ _ _
+    (read.leaves.files ∙ opened.leaves.files) (λ worlds. g.met.S.Store.commits_behind_none worlds _ _ _ (g.met.S.Store.commits_behind_none [] _ _ _ opened.commits read.commits))
+    (λ world to. comes_opened c.args.kind c.args.format c.args.file next old value world view
+    (subst (λ (v : QuotaValue). ComesTo (next v) old world) is
+    (subst (λ (k : Kind). ComesTo (UsageSteps k c.args.device c.args.from c.args.file c.args.now (value_in found)) old world) read.kind to)))
+    (c.check_value.ensures.commits datagrams told input_told)
+
+pub returns-in-Err-read_value-clause-commits : goal.returns-in-Err-read_value-clause-commits
+returns-in-Err-read_value-clause-commits g c = λ datagrams told input_told.
+    let S = g.S.Store in
+    looked_committed true false _ _ _ _ _ (λ worlds. g.met.S.Store.commits_more worlds _ _) (g.met.S.Store.commits_behind_none [] _ _ _ c.in-Ok.ensures.commits c.in-Err-read_value.ensures.commits)
+    (c.in-Err-read_value.ensures.leaves.files ∙ c.in-Ok.ensures.leaves.files) (λ other differ differs. refl)
+
+pub returns-in-Err-clause-commits : goal.returns-in-Err-clause-commits
+returns-in-Err-clause-commits g c = λ datagrams told input_told.
+    looked_committed true false _ _ _ _ _ (λ worlds. g.met.S.Store.commits_more worlds _ _) c.in-Err.ensures.commits c.in-Err.ensures.leaves.files (λ other differ differs. refl)

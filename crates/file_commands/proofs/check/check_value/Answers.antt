@@ -10,6 +10,11 @@ use Rattle.quota_types.specs.declared.file_kind.Format.{Format}
 use Rattle.file_commands.proofs.CheckLemmas.{anew_since}
 use Rattle.run_steps.proofs.PhaseLemmas.{placed_nowhere}
 use Rattle.run_steps.proofs.TakingLemmas.{carries_taking, fault_more, has_taken, input_refused}
+use Rattle.std.specs.Result.{is_ok}
+use Rattle.run_steps.specs.Done.{Outside}
+use Rattle.run_steps.proofs.CommittedLemmas.{looked_committed}
+use Rattle.run_steps.proofs.CommittedLemmas.{comes_taking}
+use Rattle.file_commands.proofs.CommittedLemmas.{committed_since}
 use Rattle.file_commands.proofs.check.check_value.Goals as goal
 
 pub returns-in-Ok-clause-carries : goal.returns-in-Ok-clause-carries
@@ -44,3 +49,21 @@ returns-in-Ok-clause-anew g c =
     (λ anew told. anew_since c.args.value.kind c.args.value.kind (λ (f : Format). f ≡ c.args.value.format) (λ (f : Format). f ≡ c.args.value.format)
     _ c.args.file _ _ (g.S.Store.seen c.replace_usage.new.store) c.in-Ok.ensures.leaves refl (λ f is. is) (anew told))
     c.replace_usage.ensures.anew
+
+pub returns-in-Ok-clause-commits : goal.returns-in-Ok-clause-commits
+returns-in-Ok-clause-commits g c = λ datagrams told input_told.
+    let S = g.S.Store in
+    let I = g.I.Source in
+    let took = c.in-Ok.ensures in
+    let old : Outside = record { files = (S.seen c.args.store.now).files; input = (I.seen c.args.input.now).left; datagrams = datagrams } in
+    let left = (I.seen c.take_usage.new.input).left in
+    committed_since (is_ok c.replace_usage.result) _ _ c.args.file (record { files = (S.seen c.take_usage.new.store).files; input = left; datagrams = datagrams }) old _ _ _
+    took.leaves.files (λ worlds. g.met.S.Store.commits_behind_none worlds _ _ _ took.commits)
+    (λ world. comes_taking c.args.from (λ (u : UsageMap). true) _ (λ (u : UsageMap). ReplaceSteps c.args.file (checked (value_in c.args.value) u c.args.now)) c.in-Ok.usage
+    old left world (took.read told input_told)
+    (has_taken c.args.from true _ _ (took.behind input_told) (λ all none. took.ended none input_told) (λ some. ap (λ i. (I.seen i).left) (took.untouched some))))
+    (c.replace_usage.ensures.commits left datagrams told)
+
+pub returns-in-Err-clause-commits : goal.returns-in-Err-clause-commits
+returns-in-Err-clause-commits g c = λ datagrams told input_told.
+    looked_committed true false _ _ _ _ _ (λ worlds. g.met.S.Store.commits_more worlds _ _) c.in-Err.ensures.commits c.in-Err.ensures.leaves.files (λ other differ differs. refl)

@@ -1,9 +1,15 @@
-use Rattle.std.proofs.Common.{inr, refl, sym}
+use Rattle.std.proofs.Common.{inr, refl, sym, true, false, [], subst}
 use Rattle.outside.proofs.FrameLemmas.{syncs-none}
 use Rattle.refusals.specs.declared.cause.Cause.TheVariants.{Memory}
 use Rattle.refusals.specs.Refusals.{refusal_of}
 use Rattle.run_steps.proofs.PhaseLemmas.{carries_as, memory_no_output, nothing_carried}
 use Rattle.file_commands.specs.Generate.{generate_uses}
+use Rattle.std.specs.Result.{is_ok}
+use Rattle.outside.specs.Replacement.{ReplacesOnly}
+use Rattle.run_steps.specs.Committed.{CommitsSteps}
+use Rattle.run_steps.specs.Done.{Outside}
+use Rattle.run_steps.specs.Steps.{Steps}
+use Rattle.run_steps.proofs.CommittedLemmas.{looked_committed}
 use Rattle.file_commands.proofs.generate.generate_file.Goals as goal
 
 pub returns-in-Ok-clause-carries : goal.returns-in-Ok-clause-carries
@@ -19,3 +25,15 @@ returns-in-Err-clause-carries g c = λ input err link input_tells err_tells link
 
 pub returns-in-Err-clause-synced : goal.returns-in-Err-clause-synced
 returns-in-Err-clause-synced g c = λ told. syncs-none _
+
+pub returns-in-Ok-clause-commits : goal.returns-in-Ok-clause-commits
+returns-in-Ok-clause-commits g c = λ input datagrams told.
+    let S = g.S.Store in
+    let old : Outside = record { files = (S.seen c.args.store.now).files; input = input; datagrams = datagrams } in
+    subst (λ (steps : Steps). CommitsSteps true (is_ok c.write_made.result) steps (ReplacesOnly c.args.file old.files) old (S.seen c.write_made.new.store).files
+    (λ worlds. S.commits worlds c.args.store.now c.write_made.new.store))
+    (sym (c.in-Ok.ensures.steps c.args.file)) (c.write_made.ensures.commits input datagrams told)
+
+pub returns-in-Err-clause-commits : goal.returns-in-Err-clause-commits
+returns-in-Err-clause-commits g c = λ input datagrams told.
+    looked_committed true false _ _ _ _ _ (λ worlds. g.met.S.Store.commits_more worlds _ _) (g.S.Store.commits_nothing [] _) refl (λ other differ differs. refl)
