@@ -228,7 +228,7 @@ line_no_output names place cause said may is =
     subst (λ (c : Cause). LineMayRefuse names place c said) sink may
 
 -- lines behind which a refusal comes do what the lines do, and then end with it
-lines_add : (way : Way) (file : List ℕ) (now : ℕ) (lines : List LineEdit) (value : QuotaValue) (behind : Option Refusal) → AddsEnd behind (LineSteps way file now lines value) (EditsThen way file now lines value behind)
+pub lines_add : (way : Way) (file : List ℕ) (now : ℕ) (lines : List LineEdit) (value : QuotaValue) (behind : Option Refusal) → AddsEnd behind (LineSteps way file now lines value) (EditsThen way file now lines value behind)
 lines_add way file now [] value behind = adds_none behind
 lines_add way file now (line ∷ lines) value behind =
     let edit = edit_of line now in

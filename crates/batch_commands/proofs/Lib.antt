@@ -3,6 +3,7 @@ pub mod BatchInputLemmas
 pub mod BatchLemmas
 pub mod CountLemmas
 pub mod FullLemmas
+pub mod LinesCommittedLemmas
 pub mod LookLemmas
 pub mod MeaningLemmas
 pub mod MemoryLemmas

@@ -1,6 +1,6 @@
 -- Edits of lines of a file in memory: what was carried out there is what the lines do, and what is known of it whatever the lines do.
-use Rattle.std.proofs.Common.{◌≡◌, ℕ, Bool, true, false, List, [], Option, None, Some, Ok, Err, Result, inl, inr, sym, ap, subst, ◌∙◌, arith}
-use Rattle.std.specs.Prelude.{◌<◌, ◌≤◌, IfErr}
+use Rattle.std.proofs.Common.{◌≡◌, ◌≢◌, ℕ, Bool, true, false, List, [], Option, None, Some, Ok, Err, Result, inl, inr, refl, sym, ap, subst, ◌∙◌, arith}
+use Rattle.std.specs.Prelude.{◌<◌, ◌≤◌, IfErr, IsErrAnd}
 use Rattle.std.proofs.lemmas.Bool.{false≢true}
 use Rattle.std.proofs.lemmas.Option.{same_Some}
 use Rattle.opened_file.specs.declared.quota_file.OpenFault.{OpenFault}
@@ -8,6 +8,7 @@ use Rattle.opened_file.specs.declared.quota_file.OpenFault.TheVariants.{Store as
 use Rattle.quota_map.proofs.SeenLemmas.{IsOfCall}
 use Rattle.file_in_memory.specs.OneFile.{only_file}
 use Rattle.opened_file.specs.EditsOne.{EditsOne, StaysUnlessWritten}
+use Rattle.outside.specs.Count.{Rose}
 use Rattle.outside.specs.Frame.{OnlyReads}
 use Rattle.quota_value.specs.QuotaValue.{QuotaValue}
 use Rattle.quota_map.specs.View.{IsView}
@@ -16,12 +17,14 @@ use Rattle.quota_types.specs.declared.file_kind.Kind.{Kind}
 use Rattle.outside.specs.Seen.{LinkSeen, SinkSeen, SourceSeen, StoreSeen}
 use Rattle.outside.specs.World.{KeepsOthers, World}
 use Rattle.refusals.specs.declared.cause.Cause.{Cause}
+use Rattle.refusals.specs.declared.cause.Cause.TheVariants.{LinkFault, Memory, SinkFault, SourceFault, StoreFault}
 use Rattle.refusals.specs.declared.reason.Refusal.{Refusal}
 use Rattle.refusals.specs.Status.{status_of}
 use Rattle.run_steps.specs.Act.{Follows}
 use Rattle.run_steps.specs.Done.{Outside, RunTells, seen_of, tells_of}
 use Rattle.run_steps.specs.Meaning.{EndsBy}
 use Rattle.run_steps.specs.Carrying.{CarriesOut}
+use Rattle.run_steps.specs.Run.{HasReason}
 use Rattle.run_steps.specs.Steps.{Steps}
 use Rattle.run_steps.specs.Writes.{WritesFor}
 use Rattle.batch_commands.specs.declared.batch.EditedLines.{EditedLines}
@@ -93,13 +96,13 @@ own_refused steps may tells before after input out err link (Ok passed) own carr
 own_refused steps may tells before after input out err link (Err refusal) own carries = record { allowed = carries.may_refuse; placed = carries.placed; own = own }
 
 -- nothing is seen
-pub no_source : SourceSeen
+abbrev pub no_source : SourceSeen
 no_source = record { left = []; faults = 0 }
 
-pub no_sink : SinkSeen
+abbrev pub no_sink : SinkSeen
 no_sink = record { written = []; faults = 0 }
 
-pub no_link : LinkSeen
+abbrev pub no_link : LinkSeen
 no_link = record { left = []; answers = []; started = record { times = 0; last = None }; faults = 0 }
 
 pub memory_edit : (steps : Steps) (may : Cause → List ℕ → Type 0) (count : ℕ) (file bytes name : List ℕ) (before after : StoreSeen) (edited : Edited) → HasBytes file bytes before → after.files ≡ only_file name edited.bytes.items
@@ -112,6 +115,29 @@ memory_edit steps may count file bytes name before after edited has is writes fe
       same = λ none. same_bytes file bytes name before after edited.bytes.items has is named leaves.written (writes ∙ none);
       refused = own_refused steps may (tells_of true true true true true) before after no_source no_sink no_sink no_link edited.lines.ended own (carries no_source no_sink no_sink no_link true true true true);
     }
+
+-- a count that stands at 0 has not risen
+unrisen : Rose 0 0 → ⊥
+unrisen rose = omega (arith, rose)
+
+-- the cause is a fault of the store, since nothing else is seen that could fail, and its count rose
+fault_rose : (before after : StoreSeen) (stated : Type 0) (cause : Cause) → 4 ≤ status_of cause → cause ≢ Memory
+    → HasReason line_uses (seen_of before no_source no_sink no_sink no_link) (seen_of after no_source no_sink no_sink no_link) stated cause → Rose before.faults after.faults
+fault_rose before after stated StoreFault high other reason = reason
+fault_rose before after stated SourceFault high other reason = absurd (unrisen reason)
+fault_rose before after stated SinkFault high other (inl rose) = absurd (unrisen rose)
+fault_rose before after stated SinkFault high other (inr warned) = absurd (false≢true warned.0)
+fault_rose before after stated LinkFault high other reason = absurd (false≢true reason.0)
+fault_rose before after stated Memory high other reason = absurd (other refl)
+fault_rose before after stated _ high other reason = omega (arith, high)
+
+-- Edits in memory that ended since something failed did so by a call on the file that failed.
+pub memory_failed : (steps : Steps) (may : Cause → List ℕ → Type 0) (before after : StoreSeen) (ended : Result (Unit {0}) Refusal) → IsErrAnd ended (λ (refusal : Refusal). 4 ≤ status_of refusal.cause)
+    → IfErr ended (λ (refusal : Refusal). refusal.cause ≢ Memory) → CarriesInMemory steps may before after ended → Rose before.faults after.faults
+memory_failed steps may before after (Ok passed) failed other carries = absurd failed
+memory_failed steps may before after (Err refusal) failed other carries =
+    let one = carries no_source no_sink no_sink no_link true true true true in
+    fault_rose before after _ refusal.cause failed other one.refused
 
 -- The file in memory, once it was opened.
 

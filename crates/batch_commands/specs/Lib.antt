@@ -1,4 +1,5 @@
 pub mod Batch
 pub mod BatchReading
 pub mod FullForLines
+pub mod LinesCommitted
 pub mod Together

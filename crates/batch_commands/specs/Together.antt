@@ -1,6 +1,7 @@
 -- Edits of many lines that are made together: in memory, after which the file is replaced once. Source: this project's own.
-use Rattle.std.specs.Prelude.{◌≡◌, ◌⊎◌, ◌+◌, ◌*◌, ◌<◌, ◌≤◌, ◌^◌, ℕ, Bool, IsTrue, true, false, List, Option, Some, None, Result, Ok, Err, IfErr, OnOk, length, ⊤}
-use Rattle.file_in_memory.specs.OneFile.{only_file}
+use Rattle.std.specs.Prelude.{◌≡◌, ◌⊎◌, ◌+◌, ◌*◌, ◌<◌, ◌≤◌, ◌^◌, ℕ, All, Bool, IsTrue, true, false, List, Option, Some, None, Result, Ok, Err, IfErr, OnOk, length, ⊤}
+use Rattle.file_in_memory.specs.OneFile.{one_file_seen, only_file}
+use Rattle.outside.specs.Count.{Rose}
 use Rattle.outside.specs.Frame.{IsUnfailed}
 use Rattle.outside.specs.Replacement.{replacement_name}
 use Rattle.outside.specs.Seen.{LinkSeen, SinkSeen, SourceSeen, StoreSeen}
@@ -30,6 +31,8 @@ use Rattle.batch_commands.specs.declared.batch_line.LineEdit.{LineEdit}
 use Rattle.batch_commands.specs.declared.together.Attempt.{Attempt}
 use Rattle.batch_commands.specs.declared.together.Attempt.TheVariants.{Ended, NotMade}
 use Rattle.batch_commands.specs.declared.together.Edited.{Edited}
+use Rattle.batch_commands.specs.declared.together.GivenUp.{GivenUp}
+use Rattle.batch_commands.specs.declared.together.GivenUp.TheVariants.{NoMemory as WithoutMemory, Failed, TooLong}
 use Rattle.batch_commands.specs.declared.together.Whole.{Whole}
 
 -- a fact of how edits that were to be made together ended, where they were made
@@ -140,6 +143,19 @@ replace_cause Wanting = WantOfMemory
 -- Nothing was read, or a file of this length once, where so many lines may make as many calls of `write` as a replacement of it.
 abbrev pub ReadsWhole : (count length before now : ℕ) → Type 0
 ReadsWhole count length before now = (now ≡ before) ⊎ ((pieces_of length ≤ 12 * count) × (now ≤ before + pieces_of length))
+
+-- The least number of bytes in which a flat file has room for as many as it has, and for the record of each of these lines, of 40 bytes.
+pub record IsFlatReach (size : ℕ) (lines : List LineEdit) (most : ℕ) : Type 0 where
+  pub reaches : size ≤ most
+  pub holds : All (λ (line : LineEdit). 40 * (line.id + 1) ≤ most) lines
+  pub least : (room : ℕ) → size ≤ room → All (λ (line : LineEdit). 40 * (line.id + 1) ≤ room) lines → most ≤ room
+
+-- Why lines are not edited in a copy of a file, which may have so many bytes, and of whose calls so many had failed: one more of them
+-- failed, or it has more bytes; or there was not enough memory to come so far, where that may be.
+abbrev pub IsGivenUp : (wanting : Type 0) (most faults : ℕ) → GivenUp → Type 0
+IsGivenUp wanting most faults WithoutMemory = wanting
+IsGivenUp wanting most faults (Failed copy) = Rose faults (one_file_seen copy).faults
+IsGivenUp wanting most faults (TooLong bytes) = most < length bytes.items
 
 -- a fact where there was not enough memory
 abbrev pub IfWanting : Type 0 → Result (Unit {0}) Refusal → Type 0

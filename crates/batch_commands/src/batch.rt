@@ -1,20 +1,23 @@
-ghost use Rattle.std.specs.Prelude.{ℕ, ◌+◌, ◌*◌, ◌≤◌, Option, None, ◌≡◌, ◌≢◌, Bool, Ok, false, IfErr, IsSome, IsTrue, OnOk, length, is_ok};
+ghost use Rattle.std.specs.Prelude.{ℕ, ◌+◌, ◌*◌, ◌≤◌, List, Option, None, ◌≡◌, ◌≢◌, Bool, Ok, false, IfErr, IsSome, IsTrue, OnOk, length, is_ok};
 ghost use Rattle.quota_types.specs.declared.file_kind.Format.{Format as FormatOf};
 ghost use Rattle.file_blocks.specs.Block.{file_of};
 ghost use Rattle.outside.specs.ManyCalls.{Syncs};
 ghost use Rattle.quota_value.specs.QuotaValue.{QuotaValue};
-ghost use Rattle.outside.specs.Seen.{LinkSeen, SinkSeen, SourceSeen};
+ghost use Rattle.outside.specs.Seen.{Datagram, LinkSeen, SinkSeen, SourceSeen};
 ghost use Rattle.opened_file.specs.EditsOne.{EditsOne};
 ghost use Rattle.outside.specs.Replacement.{ReplacesOnly};
+ghost use Rattle.outside.specs.World.{KeepsOthers};
 ghost use Rattle.quota_map.specs.View.{IsOpenedAs, IsView, fresh_seen, opening_reads};
 ghost use Rattle.refusals.specs.declared.cause.Cause.TheVariants.{Memory};
 ghost use Rattle.run_steps.specs.Act.{Together, Way};
+ghost use Rattle.run_steps.specs.Committed.{CommitsSteps};
 ghost use Rattle.run_steps.specs.Done.{IsUnwritten, RunTells, seen_of, tells_of};
 ghost use Rattle.run_steps.specs.Carrying.{CarriesOut};
 ghost use Rattle.run_steps.specs.Steps.{Opening};
 ghost use Rattle.run_steps.specs.Writes.{ReadsWithin};
 ghost use Rattle.batch_commands.specs.Batch.{BatchMayRefuse, BatchSteps, LineEditMayRefuse, NamedBatchMayRefuse, ReadSteps, batch_reads, batch_uses, input_edits, line_reads, line_uses, way_of};
 ghost use Rattle.batch_commands.specs.BatchReading.{LineSteps};
+ghost use Rattle.batch_commands.specs.LinesCommitted.{CommitsFrom};
 ghost use Rattle.batch_commands.specs.Together.{HasMade, IfOwn, IfWanting, refusal_in};
 
 use crate::batch_input::{Batch, take_batch};
@@ -57,6 +60,12 @@ pub fn apply_lines<S: Store, I: Source>(
     ensures others { ReplacesOnly file (S.seen store.old).files (S.seen store.new).files }
     // What was written has been synced where it was done, and where it was not too, unless a call on the store failed.
     ensures synced { IsTrue S.tells → Syncs (is_ok result) (S.seen store.old) (S.seen store.new) }
+    // All that was committed is files that the steps come to, behind some first lines, in which no file has changed but this one and the
+    // one with `.new` added to its name.
+    ensures commits { (datagrams : List Datagram) (line : Option ℕ) → IsTrue S.tells → IsTrue I.tells
+        → CommitsSteps false (is_ok result) (BatchSteps common from file (record { now = now; line = line })) (ReplacesOnly file (S.seen store.old).files)
+        (record { files = (S.seen store.old).files; input = (I.seen input.old).left; datagrams = datagrams }) (S.seen store.new).files
+        (λ worlds. S.commits worlds store.old store.new) }
     // Where it was done without a file of names, and out of the standard input, no more was read than the opening of the file takes,
     // seventeen blocks for each line that asks for an edit, and the file once more where lines that may be edited together may fill it.
     ensures reads { OnOk result (IsTrue S.tells → IsTrue I.tells
@@ -96,6 +105,10 @@ fn apply_named<S: Store, I: Source>(
     ensures wanting { IfWanting (IsUnwritten (S.seen store.old) (S.seen store.new)) result }
     ensures others { ReplacesOnly file (S.seen store.old).files (S.seen store.new).files }
     ensures synced { IsTrue S.tells → Syncs (is_ok result) (S.seen store.old) (S.seen store.new) }
+    ensures commits { (datagrams : List Datagram) → IsTrue S.tells → IsTrue I.tells
+        → CommitsSteps false (is_ok result) (Opening kind format file (ReadSteps names.now from file now)) (ReplacesOnly file (S.seen store.old).files)
+        (record { files = (S.seen store.old).files; input = (I.seen input.old).left; datagrams = datagrams }) (S.seen store.new).files
+        (λ worlds. S.commits worlds store.old store.new) }
     ensures reads { from ≡ None → OnOk result (IsTrue S.tells → IsTrue I.tells → (S.seen store.new).reads ≤ (S.seen store.old).reads
         + (opening_reads format (file_of (S.seen store.old).files file)
         + line_reads format (input_edits names.now (I.seen input.old).left) (length (file_of (S.seen store.old).files file)))) }
@@ -135,6 +148,12 @@ fn apply_opened<S: Store, I: Source>(
     ensures wanting { IfWanting (IsUnwritten (S.seen store.old) (S.seen store.new)) result }
     ensures others { ReplacesOnly file (S.seen store.old).files (S.seen store.new).files }
     ensures synced { IsTrue S.tells → Syncs (is_ok result) (S.seen store.old) (S.seen store.new) }
+    ensures commits { (datagrams : List Datagram) → IsTrue S.tells → IsTrue I.tells
+        → (value : QuotaValue) → ⟦<AnyFile as QuotaFile<S>>⟧.holds opened store.old value
+        → IsView ((S.seen store.old).files file) kind format (Ok value)
+        → CommitsSteps false (is_ok result) (ReadSteps names.now from file now value) (ReplacesOnly file (S.seen store.old).files)
+        (record { files = (S.seen store.old).files; input = (I.seen input.old).left; datagrams = datagrams }) (S.seen store.new).files
+        (λ worlds. S.commits worlds store.old store.new) }
     ensures reads { IsOpenedAs format (⟦<AnyFile as QuotaFile<S>>⟧.seen opened).format
         → (value : QuotaValue) → (IsTrue S.tells → ⟦<AnyFile as QuotaFile<S>>⟧.holds opened store.old value)
         → (IsTrue S.tells → IsView ((S.seen store.old).files file) kind format (Ok value))
@@ -192,6 +211,10 @@ fn edit_lines<S: Store>(
     ensures wanting { IfWanting (IsUnwritten (S.seen store.old) (S.seen store.new)) result }
     ensures others { ReplacesOnly file (S.seen store.old).files (S.seen store.new).files }
     ensures synced { IsTrue S.tells → Syncs (is_ok result) (S.seen store.old) (S.seen store.new) }
+    ensures commits { IsTrue S.tells → (value : QuotaValue) → ⟦<AnyFile as QuotaFile<S>>⟧.holds opened store.old value
+        → IsView ((S.seen store.old).files file) kind format (Ok value)
+        → CommitsFrom (LineSteps (way_of lines.now) file now lines.now value) (ReplacesOnly file (S.seen store.old).files)
+        (S.seen store.old).files (S.seen store.new).files (λ worlds. S.commits worlds store.old store.new) }
     ensures reads { IsOpenedAs format (⟦<AnyFile as QuotaFile<S>>⟧.seen opened).format
         → (value : QuotaValue) → (IsTrue S.tells → ⟦<AnyFile as QuotaFile<S>>⟧.holds opened store.old value)
         → (IsTrue S.tells → IsView ((S.seen store.old).files file) kind format (Ok value))
@@ -244,6 +267,10 @@ pub fn edit_all<S: Store>(
     ensures memory { IfErr result.ended (λ refusal. refusal.cause ≢ Memory) }
     ensures leaves { EditsOne file (S.seen store.old) (S.seen store.new) }
     ensures synced { IsTrue S.tells → Syncs (is_ok result.ended) (S.seen store.old) (S.seen store.new) }
+    // All that was committed is files that the steps of the lines come to, behind some of them or all, in which no other file has changed.
+    ensures commits { IsTrue S.tells → (way : Way) (value : QuotaValue) → ⟦<AnyFile as QuotaFile<S>>⟧.holds opened.old store.old value
+        → CommitsFrom (LineSteps way file now lines.now value) (KeepsOthers file (S.seen store.old).files)
+        (S.seen store.old).files (S.seen store.new).files (λ worlds. S.commits worlds store.old store.new) }
     ensures reads { OnOk result.ended ((S.seen store.new).reads ≤ (S.seen store.old).reads + 17 * length lines.now) }
 {
     for (made, line) in lines.iter().enumerate() {

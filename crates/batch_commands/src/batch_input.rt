@@ -73,6 +73,7 @@ pub fn take_batch<S: Store, I: Source>(
     ensures placed { IfErr result (λ refusal. refusal.place ≡ nowhere) }
     ensures leaves { OnlyReads false (unwrap_or from []) (S.seen store.old) (S.seen store.new) }
     ensures synced { IfOk result (λ batch. batch.refusal ≡ None → AddsNone (S.seen store.old).unsynced (S.seen store.new).unsynced) }
+    ensures commits { S.commits [] store.old store.new }
     ensures later { (I.seen input.old).faults ≤ (I.seen input.new).faults }
     ensures keeps { I.keeps false input.old input.new }
 {
@@ -120,6 +121,7 @@ fn take_file<S: Store>(
     ensures placed { IfErr result (λ refusal. refusal.place ≡ nowhere) }
     ensures leaves { OnlyReads false name (S.seen store.old) (S.seen store.new) }
     ensures synced { IfOk result (λ batch. batch.refusal ≡ None → AddsNone (S.seen store.old).unsynced (S.seen store.new).unsynced) }
+    ensures commits { S.commits [] store.old store.new }
 {
     match store.size(name.as_str()) {
         Ok(Some(_)) => take_there(alloc, names, name, store),
@@ -145,6 +147,7 @@ fn take_there<S: Store>(
     ensures placed { IfErr result (λ refusal. refusal.place ≡ nowhere) }
     ensures leaves { OnlyReads false name (S.seen store.old) (S.seen store.new) }
     ensures synced { IfOk result (λ batch. batch.refusal ≡ None → AddsNone (S.seen store.old).unsynced (S.seen store.new).unsynced) }
+    ensures commits { S.commits [] store.old store.new }
 {
     let Ok(place) = Word::copy_of(alloc, name.as_str()) else {
         return Err(Refusal::of(Cause::Memory, name));

@@ -1,4 +1,4 @@
-ghost use Rattle.std.specs.Prelude.{◌≡◌, ◌⊎◌, ◌+◌, ◌*◌, ◌<◌, ◌≤◌, ◌^◌, ℕ, Bool, true, Option, None, Some, IfErr, IfOk, IfSome, IsErrAnd, IsSome, IsTrue, List, Ok, OnOk, false, length, is_ok};
+ghost use Rattle.std.specs.Prelude.{◌≡◌, ◌⊎◌, ◌+◌, ◌*◌, ◌<◌, ◌≤◌, ◌^◌, ℕ, Bool, true, Option, None, Some, IfErr, IfOk, IfSome, IsErrAnd, IsSome, IsTrue, List, [], Ok, OnOk, false, length, is_ok, ⊤};
 ghost use Rattle.std.specs.Option.{option_map};
 ghost use Rattle.outside.specs.ManyCalls.{Syncs};
 ghost use Rattle.outside.specs.Replacement.{ReplacesOnly, replacement_name};
@@ -15,7 +15,9 @@ ghost use Rattle.run_steps.specs.Done.{IsUnwritten, seen_of, tells_of};
 ghost use Rattle.run_steps.specs.Carrying.{CarriesOut};
 ghost use Rattle.batch_commands.specs.Batch.{LineEditMayRefuse, line_uses, way_of, whole_reads};
 ghost use Rattle.batch_commands.specs.BatchReading.{LineSteps};
-ghost use Rattle.batch_commands.specs.Together.{AreNeverDone, AreNotTogether, HasBytes, IfEnded, IfNotMade, IfWanting, IsEditOf, IsMadeInMemory, IsOnlyRead, IsWithin, MayPay, ReadsWhole, StandsAlone, is_of_call, refusal_in, replace_cause};
+ghost use Rattle.batch_commands.specs.LinesCommitted.{CommitsFrom};
+ghost use Rattle.batch_commands.specs.declared.together.GivenUp.TheVariants.{NoMemory};
+ghost use Rattle.batch_commands.specs.Together.{AreNeverDone, AreNotTogether, HasBytes, IfEnded, IfNotMade, IfWanting, IsEditOf, IsFlatReach, IsGivenUp, IsMadeInMemory, IsOnlyRead, IsWithin, MayPay, ReadsWhole, StandsAlone, is_of_call, refusal_in, replace_cause};
 
 use crate::batch::{EditedLines, edit_all};
 use crate::batch_line::LineEdit;
@@ -64,6 +66,25 @@ pub struct Whole {
     pub most: u64,
 }
 
+/// Why lines are not edited in a copy of a file.
+#[derive(Debug, Drop)]
+pub enum GivenUp {
+    /// There is not enough memory to name the copy or to open it.
+    NoMemory,
+    /// A call on the copy failed, which is left so.
+    Failed(OneFile),
+    /// The copy came to have these bytes, more than it may.
+    TooLong(Vec<u8>),
+}
+
+impl From<AllocError> for GivenUp {
+    ghost from_gives = { λ _ cause. cause ≡ NoMemory };
+
+    fn from(_: AllocError) -> Self {
+        GivenUp::NoMemory
+    }
+}
+
 /// A file in memory, for which lines were edited, up to one that was refused.
 #[derive(Debug, Drop)]
 pub struct Edited {
@@ -104,6 +125,11 @@ pub fn edit_together<S: Store>(
     ensures reads_only { IfNotMade result (λ _. IsOnlyRead true (S.seen store.old) (S.seen store.new)) }
     ensures others { ReplacesOnly file (S.seen store.old).files (S.seen store.new).files }
     ensures synced { IfEnded result (λ ended. IsTrue S.tells → Syncs (is_ok ended) (S.seen store.old) (S.seen store.new)) }
+    // All that was committed is files that the steps come to; and where they were not made, nothing was.
+    ensures commits { IsTrue S.tells → (value : QuotaValue) → IsView ((S.seen store.old).files file) kind format (Ok value)
+        → IfEnded result (λ _. CommitsFrom (LineSteps (way_of lines.now) file now lines.now value)
+        (ReplacesOnly file (S.seen store.old).files) (S.seen store.old).files (S.seen store.new).files (λ worlds. S.commits worlds store.old store.new)) }
+    ensures none_committed { IfNotMade result (λ _. S.commits [] store.old store.new) }
     // Where all was done, no more was read than twelve blocks a line.
     ensures reads { IfEnded result (λ ended. OnOk ended (IsTrue S.tells
         → (S.seen store.new).reads ≤ (S.seen store.old).reads + 12 * length lines.now)) }
@@ -139,6 +165,7 @@ fn read_whole<S: Store>(
     ensures refused { IfErr result (IsLoadFault (S.seen store.old).faults (S.seen store.new).faults S.tells
         ((S.seen store.old).files name.now) (length (file_of (S.seen store.old).files name.now))) }
     ensures leaves { IsOnlyRead (is_ok result) (S.seen store.old) (S.seen store.new) }
+    ensures commits { S.commits [] store.old store.new }
     ensures reads { IsTrue S.tells → ReadsWhole (length lines.now) (length (file_of (S.seen store.old).files name.now))
         (S.seen store.old).reads (S.seen store.new).reads }
     ensures unread { IfOk result (λ found. found ≡ None → (S.seen store.new).reads ≡ (S.seen store.old).reads) }
@@ -164,6 +191,7 @@ fn size_alone<S: Store>(alloc: Global, name: &str, store: &mut S) -> Result<Opti
     ensures refused { IfErr result (IsLoadFault (S.seen store.old).faults (S.seen store.new).faults S.tells
         ((S.seen store.old).files name.now) (length (file_of (S.seen store.old).files name.now))) }
     ensures leaves { IsOnlyRead (is_ok result) (S.seen store.old) (S.seen store.new) }
+    ensures commits { S.commits [] store.old store.new }
     ensures reads { (S.seen store.new).reads ≡ (S.seen store.old).reads }
 {
     let new_name = name_of_new(alloc, name)?;
@@ -182,6 +210,8 @@ fn most_bytes(format: Option<Format>, lines: &[LineEdit], size: u64) -> Option<u
     ensures grows { IfSome result (λ most. IsTrue (asks_tree format) → most ≤ size + 2048 + 4096 * length lines.now) }
     ensures enough { IfSome result (λ most. IsTrue (asks_tree format) → size + 4096 * length lines.now ≤ most) }
     ensures empty { IfSome result (λ most. IsTrue (asks_tree format) → 2048 + 4096 * length lines.now ≤ most) }
+    // Of a flat file it has room for the record of each line, and for no more.
+    ensures room { IfSome result (λ most. asks_tree format ≡ false → IsFlatReach size lines.now most) }
 {
     let most = reach(format, lines, size);
     if most <= MOST_BYTES && pieces(most) <= (lines.len() as u64).saturating_mul(MOST_WRITES) {
@@ -197,17 +227,25 @@ fn reach(format: Option<Format>, lines: &[LineEdit], size: u64) -> u64
     ensures grows { IsTrue (asks_tree format) → result ≤ size + 2048 + 4096 * length lines.now }
     ensures enough { IsTrue (asks_tree format) → result ≤ 2 ^ 42 → size + 4096 * length lines.now ≤ result }
     ensures empty { IsTrue (asks_tree format) → result ≤ 2 ^ 42 → 2048 + 4096 * length lines.now ≤ result }
+    ensures room { asks_tree format ≡ false → IsFlatReach size lines.now result }
 {
     match format {
-        Some(Format::V1) => lines
-            .iter()
-            .map(|line| FLAT_RECORD * (u64::from(line.id) + 1))
-            .fold(0, u64::max)
-            .max(size),
+        Some(Format::V1) => flat_reach(lines, size),
         _ => size
             .max(EMPTY_TREE)
             .saturating_add((lines.len() as u64).saturating_mul(MOST_GROWTH)),
     }
+}
+
+/// How many bytes a flat file of this many may have once these lines are edited: those up to the end of its last record.
+fn flat_reach(lines: &[LineEdit], size: u64) -> u64
+    ensures { IsFlatReach size lines.now result }
+{
+    let mut most = size;
+    for line in lines {
+        most = most.max(FLAT_RECORD * (u64::from(line.id) + 1));
+    }
+    most
 }
 
 /// How many calls of `write` this many bytes take.
@@ -240,6 +278,11 @@ fn edit_bytes<S: Store>(
     ensures wanting { IfEnded result (IfWanting (IsUnwritten (S.seen store.old) (S.seen store.new))) }
     ensures others { ReplacesOnly file (S.seen store.old).files (S.seen store.new).files }
     ensures synced { IfEnded result (λ ended. IsTrue S.tells → Syncs (is_ok ended) (S.seen store.old) (S.seen store.new)) }
+    ensures commits { IsTrue S.tells → (others : ℕ) (value : QuotaValue) → StandsAlone (S.seen store.old).files file whole.bytes.items
+        → IsView (Some whole.bytes.items) kind format (Ok value)
+        → IfEnded result (λ _. CommitsFrom (LineSteps (Together others) file now lines.now value)
+        (ReplacesOnly file (S.seen store.old).files) (S.seen store.old).files (S.seen store.new).files (λ worlds. S.commits worlds store.old store.new)) }
+    ensures none_committed { IfNotMade result (λ _. S.commits [] store.old store.new) }
     // Where it does not pay, one of the lines is refused in every file, or they may fill this one.
     ensures never { MayPay format (length lines.now) whole → (value : QuotaValue) → IsView (Some whole.bytes.items) kind format (Ok value)
         → IfNotMade result (λ _. AreNotTogether format file now lines.now value (length whole.bytes.items)) }
@@ -256,7 +299,7 @@ fn edit_bytes<S: Store>(
 ///
 /// # Errors
 ///
-/// There is not enough memory.
+/// There is not enough memory, for the name of the copy, for opening it, or for its bytes.
 fn edit_in_memory(
     alloc: Global,
     kind: Kind,
@@ -265,12 +308,14 @@ fn edit_in_memory(
     name: &str,
     whole: Whole,
     now: u64,
-) -> Result<Option<Edited>, AllocError>
+) -> Result<Option<Edited>, GivenUp>
     ensures made { IfOk result (λ found. IfSome found (λ edited. (others : ℕ) (value : QuotaValue)
         → IsView (Some whole.bytes.items) kind format (Ok value)
         → IsMadeInMemory (LineSteps (Together others) name.now now lines.now value) name.now whole.bytes.items edited)) }
     ensures edits { IfOk result (λ found. IfSome found (IsEditOf (LineEditMayRefuse format name.now) (length lines.now) whole.bytes.items)) }
     ensures within { IfOk result (λ found. IfSome found (IsWithin whole.most (length lines.now))) }
+    // A copy that was opened is given up only where a call on it failed, or where it has more bytes than it may.
+    ensures given_up { IfErr result (IsGivenUp ⊤ whole.most 0) }
     ensures opens { IfOk result (λ found. found ≡ None → (value : QuotaValue) → IsView (Some whole.bytes.items) kind format (Ok value) → ⊥) }
 {
     let Whole { bytes, most } = whole;
@@ -278,13 +323,8 @@ fn edit_in_memory(
     let mut memory = OneFile::new(String::from_str(alloc, name)?, bytes);
     match open_file(alloc, &mut memory, name, kind, format) {
         Ok(opened) => Ok(Some(edit_opened(opened, lines, file, memory, most, now)?)),
-        Err(fault) => {
-            if is_of_call(fault) {
-                Err(AllocError)
-            } else {
-                Ok(None)
-            }
-        }
+        Err(fault) if is_of_call(fault) => Err(GivenUp::NoMemory),
+        Err(_) => Ok(None),
     }
 }
 
@@ -299,7 +339,7 @@ fn is_of_call(fault: OpenFault) -> bool
 ///
 /// # Errors
 ///
-/// There is not enough memory, or the copy has more than `most` bytes, which no edit makes of it.
+/// A call on the copy failed for lack of memory, or it has more than `most` bytes, which no edit makes of it. It is handed back so.
 fn edit_opened(
     mut opened: AnyFile,
     lines: &[LineEdit],
@@ -307,7 +347,7 @@ fn edit_opened(
     mut memory: OneFile,
     most: u64,
     now: u64,
-) -> Result<Edited, AllocError>
+) -> Result<Edited, GivenUp>
     requires { ⟦<AnyFile as QuotaFile<OneFile>>⟧.seen opened ≡ fresh_seen file (⟦<AnyFile as QuotaFile<OneFile>>⟧.seen opened).format }
     ensures made { IfOk result (λ edited. (bytes : List ℕ) → HasBytes file bytes (⟦<OneFile as Store>⟧.seen memory)
         → (others : ℕ) (value : QuotaValue) → ⟦<AnyFile as QuotaFile<OneFile>>⟧.holds opened memory value
@@ -317,15 +357,17 @@ fn edit_opened(
         → (value : QuotaValue) → ⟦<AnyFile as QuotaFile<OneFile>>⟧.holds opened memory value
         → IsEditOf (LineEditMayRefuse asked file) (length lines.now) bytes edited) }
     ensures within { IfOk result (IsWithin most (length lines.now)) }
+    ensures given_up { IfErr result (λ cause. (value : QuotaValue) → ⟦<AnyFile as QuotaFile<OneFile>>⟧.holds opened memory value
+        → IsGivenUp ⊥ most (⟦<OneFile as Store>⟧.seen memory).faults cause) }
 {
     let edited = edit_all(&mut opened, lines, file, &mut memory, now);
     if is_fault(&edited.ended) {
-        return Err(AllocError);
+        return Err(GivenUp::Failed(memory));
     }
     let writes = memory.writes();
     let bytes = memory.into_bytes();
     if bytes.len() as u64 > most {
-        return Err(AllocError);
+        return Err(GivenUp::TooLong(bytes));
     }
     Ok(Edited {
         bytes,
@@ -362,6 +404,11 @@ fn put_back<S: Store>(alloc: Global, file: Word, edited: Edited, store: &mut S) 
         → IfEnded result (IfWanting (IsUnwritten (S.seen store.old) (S.seen store.new))) }
     ensures others { ReplacesOnly file (S.seen store.old).files (S.seen store.new).files }
     ensures synced { IfEnded result (λ ended. IsTrue S.tells → Syncs (is_ok ended) (S.seen store.old) (S.seen store.new)) }
+    ensures commits { IsTrue S.tells → (bytes : List ℕ) (now : ℕ) (lines : List LineEdit) (value : QuotaValue) (others : ℕ)
+        → StandsAlone (S.seen store.old).files file bytes → IsMadeInMemory (LineSteps (Together others) file now lines value) file bytes edited
+        → IfEnded result (λ _. CommitsFrom (LineSteps (Together others) file now lines value)
+        (ReplacesOnly file (S.seen store.old).files) (S.seen store.old).files (S.seen store.new).files (λ worlds. S.commits worlds store.old store.new)) }
+    ensures none_committed { IfNotMade result (λ _. S.commits [] store.old store.new) }
     // Where it is not put there it does not pay, and a line was refused.
     ensures unpaid { IfNotMade result (λ _. length edited.bytes.items ≤ 2 ^ 42
         → 12 * edited.lines.made < pieces_of (length edited.bytes.items)) }

@@ -1,10 +1,19 @@
-use Rattle.std.proofs.Common.{inl, inr, ap}
+use Rattle.std.proofs.Common.{inl, inr, ap, List, [], false}
 use Rattle.outside.proofs.FrameLemmas.{keeps_other_two-then, syncs-after_read, syncs-read}
 use Rattle.run_steps.proofs.OpeningLemmas.{unwritten}
 use Rattle.run_steps.proofs.PhaseLemmas.{carries_naming, naming_refused}
 use Rattle.batch_commands.proofs.ReadsLemmas.{named_within}
 use Rattle.batch_commands.proofs.TogetherLemmas.{replaces-read}
 use Rattle.batch_commands.proofs.WantingLemmas.{wanting_since}
+use Rattle.std.specs.Prelude.{is_ok}
+use Rattle.id_names.specs.NamesFile.{NameLine}
+use Rattle.outside.specs.World.{World}
+use Rattle.run_steps.specs.Done.{Outside}
+use Rattle.run_steps.specs.Naming.{names_seen}
+use Rattle.run_steps.specs.Steps.{Opening, Then}
+use Rattle.run_steps.proofs.CommittedLemmas.{comes_looked, comes_passed}
+use Rattle.batch_commands.specs.Batch.{BatchSteps, ReadSteps}
+use Rattle.batch_commands.proofs.LinesCommittedLemmas.{none_committed, phase_committed}
 use Rattle.batch_commands.proofs.batch.apply_lines.Goals as goal
 
 pub returns-in-Ok-clause-carries : goal.returns-in-Ok-clause-carries
@@ -42,3 +51,28 @@ returns-in-Ok-clause-wanting g c = wanting_since c.apply_named.result _ _ _ (unw
 
 pub returns-in-Err-clause-wanting : goal.returns-in-Err-clause-wanting
 returns-in-Err-clause-wanting g c = λ is. unwritten _ _ _ c.in-Err.ensures.leaves
+
+pub returns-in-Ok-clause-commits : goal.returns-in-Ok-clause-commits
+returns-in-Ok-clause-commits g c = λ datagrams line told input_told.
+    let S = g.S.Store in
+    let common = c.args.common in
+    let file = c.args.file in
+    let read = c.in-Ok.ensures in
+    let names = c.in-Ok.names in
+    let between = c.read_names.new.store in
+    let last = c.apply_named.new.store in
+    let old = (S.seen c.args.store.now).files in
+    let input = (g.I.Source.seen c.args.input.now).left in
+    let start : Outside = record { files = old; input = input; datagrams = datagrams } in
+    let next = λ (lines : List NameLine). Opening common.kind common.format file (ReadSteps lines c.args.from file c.args.now) in
+    let steps = BatchSteps common c.args.from file (record { now = c.args.now; line = line }) in
+    let ended = is_ok c.apply_named.result in
+    phase_committed ended ended (next names) steps file old (S.seen between).files (S.seen last).files input input datagrams (λ worlds. S.commits worlds between last)
+    (λ worlds. S.commits worlds c.args.store.now last) read.leaves.files (λ worlds it. S.commits_on [] worlds _ _ _ read.commits it)
+    (λ world to. comes_looked (λ (files : World). Then (names_seen common.kind common.names files) next) start world
+    (comes_passed (names_seen common.kind common.names old) names next start world (read.read told) to))
+    (c.apply_named.ensures.commits datagrams told input_told)
+
+pub returns-in-Err-clause-commits : goal.returns-in-Err-clause-commits
+returns-in-Err-clause-commits g c = λ datagrams line told input_told.
+    none_committed false _ _ _ _ (λ worlds. g.S.Store.commits worlds c.args.store.now c.read_names.new.store) c.in-Err.ensures.commits

@@ -1,4 +1,4 @@
-use Rattle.std.proofs.Common.{◌≡◌, inl, inr, Ok, List, ℕ, sym, subst, ap, length, arith}
+use Rattle.std.proofs.Common.{◌≡◌, inl, inr, Ok, List, ℕ, sym, subst, ap, length, arith, [], false}
 use Rattle.std.proofs.lemmas.Result.{on_ok_weaker}
 use Rattle.file_blocks.specs.Block.{file_of}
 use Rattle.outside.specs.World.{World}
@@ -6,9 +6,14 @@ use Rattle.quota_map.specs.View.{IsView}
 use Rattle.outside.proofs.FrameLemmas.{keeps_other_two-then, syncs-after_read, syncs-read}
 use Rattle.run_steps.proofs.OpeningLemmas.{not_opened, unwritten}
 use Rattle.run_steps.proofs.PhaseLemmas.{carries_opening}
-use Rattle.batch_commands.specs.Batch.{input_edits, line_reads}
+use Rattle.batch_commands.specs.Batch.{ReadSteps, input_edits, line_reads}
 use Rattle.batch_commands.proofs.TogetherLemmas.{replaces-read, told_first}
 use Rattle.batch_commands.proofs.WantingLemmas.{wanting_since}
+use Rattle.std.specs.Prelude.{is_ok}
+use Rattle.run_steps.specs.Done.{Outside}
+use Rattle.run_steps.specs.Steps.{Opening}
+use Rattle.run_steps.proofs.CommittedLemmas.{comes_opened}
+use Rattle.batch_commands.proofs.LinesCommittedLemmas.{none_committed, phase_committed}
 use Rattle.batch_commands.proofs.batch.apply_named.Goals as goal
 
 pub returns-in-Ok-clause-carries : goal.returns-in-Ok-clause-carries
@@ -60,3 +65,27 @@ returns-in-Ok-clause-wanting g c = wanting_since c.apply_opened.result _ _ _ (un
 
 pub returns-in-Err-clause-wanting : goal.returns-in-Err-clause-wanting
 returns-in-Err-clause-wanting g c = λ is. unwritten _ _ _ c.in-Err.ensures.leaves
+
+pub returns-in-Ok-clause-commits : goal.returns-in-Ok-clause-commits
+returns-in-Ok-clause-commits g c = λ datagrams told input_told.
+    let S = g.S.Store in
+    let file = c.args.file in
+    let opened = c.in-Ok.ensures in
+    let between = c.open_file.new.store in
+    let last = c.apply_opened.new.store in
+    let old = (S.seen c.args.store.now).files in
+    let input = (g.I.Source.seen c.args.input.now).left in
+    let start : Outside = record { files = old; input = input; datagrams = datagrams } in
+    let next = ReadSteps c.args.names.now c.args.from file c.args.now in
+    let seen = (rw c.as_str.ensures at opened.seen) told in
+    let value = seen.0 in
+    let ended = is_ok c.apply_opened.result in
+    phase_committed ended ended (next value) (Opening c.args.kind c.args.format file next) file old (S.seen between).files (S.seen last).files input input datagrams
+    (λ worlds. S.commits worlds between last) (λ worlds. S.commits worlds c.args.store.now last) opened.leaves.files (λ worlds it. S.commits_on [] worlds _ _ _ opened.commits it)
+    (λ world to. comes_opened c.args.kind c.args.format file next start value world seen.1 to)
+    (c.apply_opened.ensures.commits datagrams told input_told value (opened.held told value (rw (sym c.as_str.ensures) at seen.1))
+    (subst (λ (files : World). IsView (files file) c.args.kind c.args.format (Ok value)) (sym opened.leaves.files) seen.1))
+
+pub returns-in-Err-clause-commits : goal.returns-in-Err-clause-commits
+returns-in-Err-clause-commits g c = λ datagrams told input_told.
+    none_committed false _ _ _ _ (λ worlds. g.S.Store.commits worlds c.args.store.now c.open_file.new.store) c.in-Err.ensures.commits

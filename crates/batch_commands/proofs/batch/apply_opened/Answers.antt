@@ -1,4 +1,4 @@
-use Rattle.std.proofs.Common.{false, ◌≤◌, ◌+◌, length, Ok, Err, Option, inl, inr, sym, ap, subst}
+use Rattle.std.proofs.Common.{false, ◌≤◌, ◌+◌, length, Ok, Err, Option, inl, inr, sym, ap, subst, [], true}
 use Rattle.std.specs.Prelude.{IfSome}
 use Rattle.std.proofs.lemmas.Bool.{false≢true}
 use Rattle.file_blocks.specs.Block.{file_of}
@@ -18,6 +18,7 @@ use Rattle.run_steps.proofs.TakingLemmas.{carries_taking, fault_more, has_taken,
 use Rattle.batch_commands.proofs.TogetherLemmas.{replaces-read}
 use Rattle.batch_commands.proofs.ReadsLemmas.{asked_reads}
 use Rattle.batch_commands.proofs.WantingLemmas.{line_wants, wanting_since}
+use Rattle.batch_commands.proofs.LinesCommittedLemmas.{applied_committed, none_committed}
 use Rattle.batch_commands.proofs.batch.apply_opened.Goals as goal
 
 pub returns-in-Some-clause-carries : goal.returns-in-Some-clause-carries
@@ -128,3 +129,64 @@ returns-in-Ok-clause-wanting g c = wanting_since (Err c.in-Err-edit_lines.refusa
 
 pub returns-clause-wanting : goal.returns-clause-wanting
 returns-clause-wanting g c = λ is. unwritten _ _ _ c.in-Err.ensures.leaves
+
+pub returns-in-Some-clause-commits : goal.returns-in-Some-clause-commits
+returns-in-Some-clause-commits g c = λ datagrams told input_told value held seen.
+    let S = g.S.Store in
+    let took = c.in-Ok.ensures in
+    let asked : AskedEdits = record { edits = c.in-Ok.batch.edits.items; refusal = c.in-Ok.batch.refusal } in
+    let same = took.leaves.files in
+    let between = c.take_batch.new.store in
+    let last = c.edit_lines.new.store in
+    let input = (g.I.Source.seen c.args.input.now).left in
+    let left = (g.I.Source.seen c.take_batch.new.input).left in
+    applied_committed false c.args.names.now c.args.from c.args.file c.args.now value asked (S.seen c.args.store.now).files (S.seen between).files (S.seen last).files
+    input left datagrams (λ worlds. S.commits worlds between last) (λ worlds. S.commits worlds c.args.store.now last) same
+    (λ worlds it. S.commits_on [] worlds _ _ _ took.commits it) (took.read told input_told)
+    (has_taken c.args.from (is_to_end asked) input left (took.behind input_told) (λ all none. took.ended (ends_none asked.refusal all) none input_told)
+    (λ some. ap (λ i. (g.I.Source.seen i).left) (took.untouched some)))
+    (rw c.as_slice.ensures.value at (c.in-Ok-edit_lines.ensures.commits told value
+    (subst (λ (files : World). HoldsAny S.tells files c.args.opened value) (sym same) held)
+    (subst (λ (files : World). IsView (files c.args.file) c.args.kind c.args.format (Ok value)) (sym same) seen)))
+
+pub returns-in-Ok-edit_lines-clause-commits : goal.returns-in-Ok-edit_lines-clause-commits
+returns-in-Ok-edit_lines-clause-commits g c = λ datagrams told input_told value held seen.
+    let S = g.S.Store in
+    let took = c.in-Ok.ensures in
+    let asked : AskedEdits = record { edits = c.in-Ok.batch.edits.items; refusal = c.in-Ok.batch.refusal } in
+    let same = took.leaves.files in
+    let between = c.take_batch.new.store in
+    let last = c.edit_lines.new.store in
+    let input = (g.I.Source.seen c.args.input.now).left in
+    let left = (g.I.Source.seen c.take_batch.new.input).left in
+    applied_committed true c.args.names.now c.args.from c.args.file c.args.now value asked (S.seen c.args.store.now).files (S.seen between).files (S.seen last).files
+    input left datagrams (λ worlds. S.commits worlds between last) (λ worlds. S.commits worlds c.args.store.now last) same
+    (λ worlds it. S.commits_on [] worlds _ _ _ took.commits it) (took.read told input_told)
+    (has_taken c.args.from (is_to_end asked) input left (took.behind input_told) (λ all none. took.ended (ends_none asked.refusal all) none input_told)
+    (λ some. ap (λ i. (g.I.Source.seen i).left) (took.untouched some)))
+    (rw c.as_slice.ensures.value at (c.in-Ok-edit_lines.ensures.commits told value
+    (subst (λ (files : World). HoldsAny S.tells files c.args.opened value) (sym same) held)
+    (subst (λ (files : World). IsView (files c.args.file) c.args.kind c.args.format (Ok value)) (sym same) seen)))
+
+pub returns-in-Ok-clause-commits : goal.returns-in-Ok-clause-commits
+returns-in-Ok-clause-commits g c = λ datagrams told input_told value held seen.
+    let S = g.S.Store in
+    let took = c.in-Ok.ensures in
+    let asked : AskedEdits = record { edits = c.in-Ok.batch.edits.items; refusal = c.in-Ok.batch.refusal } in
+    let same = took.leaves.files in
+    let between = c.take_batch.new.store in
+    let last = c.edit_lines.new.store in
+    let input = (g.I.Source.seen c.args.input.now).left in
+    let left = (g.I.Source.seen c.take_batch.new.input).left in
+    applied_committed false c.args.names.now c.args.from c.args.file c.args.now value asked (S.seen c.args.store.now).files (S.seen between).files (S.seen last).files
+    input left datagrams (λ worlds. S.commits worlds between last) (λ worlds. S.commits worlds c.args.store.now last) same
+    (λ worlds it. S.commits_on [] worlds _ _ _ took.commits it) (took.read told input_told)
+    (has_taken c.args.from (is_to_end asked) input left (took.behind input_told) (λ all none. took.ended (ends_none asked.refusal all) none input_told)
+    (λ some. ap (λ i. (g.I.Source.seen i).left) (took.untouched some)))
+    (rw c.as_slice.ensures.value at (c.in-Err-edit_lines.ensures.commits told value
+    (subst (λ (files : World). HoldsAny S.tells files c.args.opened value) (sym same) held)
+    (subst (λ (files : World). IsView (files c.args.file) c.args.kind c.args.format (Ok value)) (sym same) seen)))
+
+pub returns-clause-commits : goal.returns-clause-commits
+returns-clause-commits g c = λ datagrams told input_told value held seen.
+    none_committed false _ _ _ _ (λ worlds. g.S.Store.commits worlds c.args.store.now c.take_batch.new.store) c.in-Err.ensures.commits

@@ -15,6 +15,8 @@ use Rattle.batch_commands.proofs.CountLemmas.{all_made, refused_made}
 use Rattle.edit_steps.proofs.EditFileLemmas.{any_cause, any_made, any_refused, limits_keep_format}
 use Rattle.batch_commands.proofs.ReadsLemmas.{line_few}
 use Rattle.batch_commands.proofs.WantingLemmas.{wants_none}
+use Rattle.edit_steps.proofs.CommittedLemmas.{made_stepped, refused_stepped}
+use Rattle.batch_commands.proofs.LinesCommittedLemmas.{lines_committed, nothing_committed}
 use Rattle.batch_commands.proofs.batch.edit_all.Goals as goal
 
 pub loop-made-init : goal.loop-made-init
@@ -25,6 +27,7 @@ loop-made-init g c = record {
   reads = omega arith;
   within = omega arith;
   synced = λ told. syncs-none _;
+  commits = λ told way start held. nothing_committed _ _ _ _ (λ worlds. g.S.Store.commits worlds c.args.store.now c.args.store.now) (g.S.Store.commits_nothing [] c.args.store.now);
 }
 
 pub loop-made-preserved : goal.loop-made-preserved
@@ -52,6 +55,23 @@ loop-made-preserved g c =
       reads = let few = line_few (any_seen c.loop-made.opened) before.reads after.reads c.in-Ok.ensures.reads in omega (arith, kept.reads, few);
       within = omega (arith, c.loop-made-test.true);
       synced = λ told. syncs-then _ _ _ (kept.synced told) (edits-syncs _ _ _ _ _ c.in-Ok.ensures.edits told);
+      commits = λ told way start held.
+          let lines = c.args.lines.now in
+          let made = c.loop-made.made in
+          let opened = c.loop-made.opened in
+          let first = c.args.store.now in
+          let between = c.loop-made.store in
+          let last = c.set_limits.new.store in
+          let holds = HoldsAny S.tells before.files opened in
+          let are = subst (λ (l : List LineEdit). AreMade way file c.args.now lines l start made (S.seen first) before holds) (drop_more lines made _ c.loop-made-test.true)
+          (kept.made told way start held) in
+          let all : EditsOne file (S.seen first) after = edits_one-then _ _ _ _ kept.leaves leaves in
+          lines_committed way file c.args.now lines _ (drop (made + 1) lines) start made (S.seen first) before after holds
+          (λ worlds. S.commits worlds first between) (λ worlds. S.commits worlds between last) (λ worlds. S.commits worlds first last) _
+          are (λ worlds more one two. S.commits_on worlds more _ _ _ one two) c.set_limits.ensures.commits
+          (λ is. made_stepped are.next file _ S.tells opened c.set_limits.new.file before after format are.value tt (limits_keep_format _ _ c.args.now) was told are.held
+          c.in-Ok.ensures.edits)
+          all.files (kept.commits told way start held);
     }
 
 pub returns-clause-carries : goal.returns-clause-carries
@@ -148,3 +168,34 @@ returns-clause-few g c = omega arith
 
 pub returns-in-Err-clause-few : goal.returns-in-Err-clause-few
 returns-in-Err-clause-few g c = omega (arith, c.loop-made.invariant.within)
+
+pub returns-clause-commits : goal.returns-clause-commits
+returns-clause-commits g c = λ told way value held. c.loop-made.invariant.commits told way value held
+
+pub returns-in-Err-clause-commits : goal.returns-in-Err-clause-commits
+returns-in-Err-clause-commits g c = λ told way value held.
+    let S = g.S.Store in
+    let kept = c.loop-made.invariant in
+    let file = c.args.file in
+    let before = S.seen c.loop-made.store in
+    let after = S.seen c.set_limits.new.store in
+    let format = (any_seen c.args.opened.now).format in
+    let was : any_seen c.loop-made.opened ≡ fresh_seen file format = kept.same ∙ c.requires in
+    let named : (any_seen c.loop-made.opened).name ≡ file = ap (λ (s : FileSeen). s.name) was in
+    let leaves : EditsOne file before after = rw named at c.set_limits.ensures.edits.value.leaves in
+    let lines = c.args.lines.now in
+    let made = c.loop-made.made in
+    let opened = c.loop-made.opened in
+    let first = c.args.store.now in
+    let between = c.loop-made.store in
+    let last = c.set_limits.new.store in
+    let holds = HoldsAny S.tells before.files opened in
+    let are = subst (λ (l : List LineEdit). AreMade way file c.args.now lines l value made (S.seen first) before holds) (drop_more lines made _ c.loop-made-test.true)
+    (kept.made told way value held) in
+    let all : EditsOne file (S.seen first) after = edits_one-then _ _ _ _ kept.leaves leaves in
+    lines_committed way file c.args.now lines _ (drop (made + 1) lines) value made (S.seen first) before after holds
+    (λ worlds. S.commits worlds first between) (λ worlds. S.commits worlds between last) (λ worlds. S.commits worlds first last) _
+    are (λ worlds more one two. S.commits_on worlds more _ _ _ one two) c.set_limits.ensures.commits
+    (λ is. refused_stepped are.next file _ S.tells opened c.set_limits.new.file before after format are.value c.in-Err.fault (limits_keep_format _ _ c.args.now) was told are.held
+    c.in-Err.ensures.edits is)
+    all.files (kept.commits told way value held)

@@ -1,4 +1,4 @@
-use Rattle.std.proofs.Common.{true, length, refl, sym, subst, arith}
+use Rattle.std.proofs.Common.{true, length, refl, sym, subst, arith, List, []}
 use Rattle.std.proofs.lemmas.Result.{on_ok_weaker}
 use Rattle.file_blocks.specs.Block.{file_of}
 use Rattle.outside.specs.World.{World}
@@ -10,6 +10,7 @@ use Rattle.batch_commands.proofs.MemoryLemmas.{no_link, no_sink, no_source}
 use Rattle.batch_commands.proofs.ReadsLemmas.{placed_reads}
 use Rattle.batch_commands.proofs.TogetherLemmas.{carries_read, told_first}
 use Rattle.batch_commands.proofs.WantingLemmas.{wanting_never}
+use Rattle.batch_commands.proofs.LinesCommittedLemmas.{looked_before, placed_committed}
 use Rattle.batch_commands.proofs.batch.edit_lines.Goals as goal
 
 pub returns-in-Ended-clause-carries : goal.returns-in-Ended-clause-carries
@@ -46,3 +47,21 @@ returns-clause-reads g c = λ as_asked value held seen.
     c.edit_all.result.ended way old new (tells_of S.tells true true true true)
     (on_ok_weaker c.edit_all.result.ended (λ done. done (record { store = told; input = refl; link = refl })) carried.done)
     c.edit_all.ensures.reads (c.in-NotMade.ensures.reads_more told value (seen told)))
+
+pub returns-in-Ended-clause-commits : goal.returns-in-Ended-clause-commits
+returns-in-Ended-clause-commits g c = λ told value held view. c.in-Ended.ensures.commits told value view
+
+pub returns-clause-commits : goal.returns-clause-commits
+returns-clause-commits g c = λ told value held view.
+    let S = g.S.Store in
+    let same = c.in-NotMade.ensures.reads_only.files in
+    let steps = LineSteps (way_of c.args.lines.now) c.args.file c.args.now c.args.lines.now value in
+    let old = (S.seen c.args.store.now).files in
+    let middle = (S.seen c.edit_together.new.store).files in
+    let new = (S.seen c.edit_all.new.store).files in
+    let latter = λ (worlds : List World). S.commits worlds c.edit_together.new.store c.edit_all.new.store in
+    looked_before steps c.args.file old middle new latter (λ worlds. S.commits worlds c.args.store.now c.edit_all.new.store) same
+    (λ worlds it. S.commits_on [] worlds _ _ _ c.in-NotMade.ensures.none_committed it)
+    (placed_committed steps c.args.file middle new latter
+    (rw c.in-NotMade.ensures.back at (c.edit_all.ensures.commits told (way_of c.args.lines.now) value
+    (subst (λ (files : World). HoldsAny S.tells files c.args.opened value) (sym same) held))))

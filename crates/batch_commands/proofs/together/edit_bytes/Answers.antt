@@ -1,9 +1,10 @@
-use Rattle.std.proofs.Common.{true, length, refl}
+use Rattle.std.proofs.Common.{true, length, refl, []}
 use Rattle.run_steps.specs.Act.{Together}
 use Rattle.run_steps.specs.Done.{seen_of, tells_of}
 use Rattle.batch_commands.specs.BatchReading.{LineSteps}
 use Rattle.batch_commands.proofs.RefusedLemmas.{not_together}
 use Rattle.batch_commands.proofs.TogetherLemmas.{not_made_weaker, only_read-none, wanting_carried}
+use Rattle.batch_commands.proofs.LinesCommittedLemmas.{nothing_committed}
 use Rattle.batch_commands.proofs.together.edit_bytes.Goals as goal
 
 pub returns-in-Ok-Some-clause-carries : goal.returns-in-Ok-Some-clause-carries
@@ -16,8 +17,8 @@ returns-in-Ok-Some-clause-carries g c = λ others several value stands view inpu
 pub returns-in-Ok-Some-clause-wanting : goal.returns-in-Ok-Some-clause-wanting
 returns-in-Ok-Some-clause-wanting g c = c.put_back.ensures.wanting c.args.format (length c.args.lines.now) c.args.whole.bytes.items (rw c.as_str.ensures at (rw c.in-Ok-Some.field-0-is at c.in-Ok-Some.ensures.edits))
 
-pub returns-in-Err-clause-carries : goal.returns-in-Err-clause-carries
-returns-in-Err-clause-carries g c = λ others several value stands view input out err link input_tells out_tells err_tells link_tells.
+pub returns-clause-carries : goal.returns-clause-carries
+returns-clause-carries g c = λ others several value stands view input out err link input_tells out_tells err_tells link_tells.
     let S = g.S.Store in
     let store = S.seen c.args.store.now in
     rw c.of.ensures
@@ -33,3 +34,13 @@ returns-in-Ok-Some-clause-never g c = λ may value view.
 
 pub returns-in-Ok-None-clause-never : goal.returns-in-Ok-None-clause-never
 returns-in-Ok-None-clause-never g c = λ may value view. absurd (c.in-Ok-None.ensures.opens c.in-Ok-None.field-0-is value view)
+
+pub returns-in-Ok-Some-clause-commits : goal.returns-in-Ok-Some-clause-commits
+returns-in-Ok-Some-clause-commits g c = λ told others value alone view.
+    let made = rw c.as_str.ensures at (rw c.in-Ok-Some.field-0-is at c.in-Ok-Some.ensures.made) in
+    c.put_back.ensures.commits told c.args.whole.bytes.items c.args.now c.args.lines.now value others alone (made others value view)
+
+pub returns-clause-commits : goal.returns-clause-commits
+returns-clause-commits g c = λ told others value alone view.
+    let S = g.S.Store in
+    nothing_committed _ _ _ _ (λ worlds. S.commits worlds c.args.store.now c.args.store.now) (S.commits_nothing [] c.args.store.now)

@@ -1,9 +1,9 @@
-use Rattle.std.proofs.Common.{◌≡◌, ◌⊎◌, ◌+◌, ◌≤◌, Ok, Some, length, sym, ap, subst, arith}
+use Rattle.std.proofs.Common.{◌≡◌, ◌⊎◌, ◌+◌, ◌≤◌, Ok, Some, length, sym, ap, subst, arith, []}
 use Rattle.std.specs.Prelude.{Option, List, ℕ}
 use Rattle.file_blocks.specs.Block.{bytes_of, file_of}
 use Rattle.outside.specs.World.{World}
 use Rattle.quota_map.specs.View.{IsView}
-use Rattle.run_steps.specs.Act.{Way}
+use Rattle.run_steps.specs.Act.{Together, Way}
 use Rattle.run_steps.specs.Done.{seen_of, tells_of}
 use Rattle.run_steps.specs.Carrying.{CarriesOut}
 use Rattle.batch_commands.specs.Batch.{LineEditMayRefuse, line_uses, way_of, whole_reads}
@@ -13,6 +13,9 @@ use Rattle.batch_commands.specs.declared.together.Attempt.{Attempt}
 use Rattle.batch_commands.specs.declared.together.Attempt.TheVariants.{Ended, NotMade}
 use Rattle.batch_commands.proofs.ReadsLemmas.{whole_or_never, whole_twelve}
 use Rattle.batch_commands.proofs.TogetherLemmas.{ended_any, ended_read, on_ok_any, unread_carried, view_some, way_many}
+use Rattle.outside.specs.Replacement.{ReplacesOnly}
+use Rattle.batch_commands.specs.LinesCommitted.{CommitsFrom}
+use Rattle.batch_commands.proofs.LinesCommittedLemmas.{ended_weaker, looked_before, nothing_committed}
 use Rattle.batch_commands.proofs.together.edit_together.Goals as goal
 
 pub returns-in-Ok-Some-clause-carries : goal.returns-in-Ok-Some-clause-carries
@@ -68,3 +71,28 @@ returns-in-Ok-Some-clause-reads_more g c =
         → IfNotMade attempt (λ name. T → (value : V) → P value → B value)
     not_made_weaker_all (Ended result) is weaker = tt
     not_made_weaker_all (NotMade name) is weaker = λ told value of. weaker told value of (is told value of)
+
+pub returns-in-Ok-Some-clause-commits : goal.returns-in-Ok-Some-clause-commits
+returns-in-Ok-Some-clause-commits g c = λ told value view.
+    let S = g.S.Store in
+    let file = c.args.file in
+    let whole = (rw c.as_str.ensures at (rw c.in-Ok-Some.field-0-is at c.in-Ok-Some.ensures.whole)) told in
+    let same = c.in-Ok-Some.ensures.leaves.files in
+    let many = way_many c.args.lines.now (omega arith) in
+    let old = (S.seen c.args.store.now).files in
+    let middle = (S.seen c.read_whole.new.store).files in
+    let new = (S.seen c.edit_bytes.new.store).files in
+    let latter = λ (worlds : List World). S.commits worlds c.read_whole.new.store c.edit_bytes.new.store in
+    let commits = λ (worlds : List World). S.commits worlds c.args.store.now c.edit_bytes.new.store in
+    let steps = λ (way : Way). LineSteps way file c.args.now c.args.lines.now value in
+    ended_weaker c.edit_bytes.result (λ _. CommitsFrom (steps (Together many.0)) (ReplacesOnly file middle) middle new latter)
+    (λ _. CommitsFrom (steps (way_of c.args.lines.now)) (ReplacesOnly file old) old new commits)
+    (λ _ those. subst (λ (way : Way). CommitsFrom (steps way) (ReplacesOnly file old) old new commits) (sym many.2)
+    (looked_before (steps (Together many.0)) file old middle new latter commits same (λ worlds it. S.commits_on [] worlds _ _ _ c.in-Ok-Some.ensures.commits it) those))
+    (c.edit_bytes.ensures.commits told many.0 value (subst (λ (w : World). StandsAlone w file c.in-Ok-Some.whole.bytes.items) (sym same) whole)
+    (subst (λ (f : Option (List ℕ)). IsView f c.args.kind c.args.format (Ok value)) whole.named view))
+
+pub returns-in-Err-clause-commits : goal.returns-in-Err-clause-commits
+returns-in-Err-clause-commits g c = λ told value view.
+    let S = g.S.Store in
+    nothing_committed _ _ _ _ (λ worlds. S.commits worlds c.args.store.now c.read_whole.new.store) c.in-Err.ensures.commits

@@ -1,8 +1,9 @@
-use Rattle.std.proofs.Common.{refl, arith}
+use Rattle.std.proofs.Common.{refl, arith, []}
 use Rattle.run_steps.specs.Done.{seen_of, tells_of}
 use Rattle.batch_commands.specs.Batch.{LineEditMayRefuse}
 use Rattle.batch_commands.proofs.TogetherLemmas.{kept_takes, put_carried, refused_carried, replaced_takes}
 use Rattle.batch_commands.proofs.RefusedLemmas.{pays_unless}
+use Rattle.batch_commands.proofs.LinesCommittedLemmas.{nothing_committed, replaced_committed}
 use Rattle.batch_commands.proofs.together.put_back.Goals as goal
 
 pub returns-then-edited-eq0-clause-carries : goal.returns-then-edited-eq0-clause-carries
@@ -40,3 +41,20 @@ returns-in-Err-clause-carries g c = λ asked bytes now lines value edits others 
 
 pub returns-then-not-pays-clause-refused : goal.returns-then-not-pays-clause-refused
 returns-then-not-pays-clause-refused g c = λ asked count whole may within. pays_unless asked count whole c.args.edited may within (c.if-not-pays.ensures.no refl)
+
+pub returns-then-edited-eq0-clause-commits : goal.returns-then-edited-eq0-clause-commits
+returns-then-edited-eq0-clause-commits g c = λ told bytes now lines value others alone made.
+    let S = g.S.Store in
+    nothing_committed _ _ _ _ (λ worlds. S.commits worlds c.args.store.now c.args.store.now) (S.commits_nothing [] c.args.store.now)
+
+pub returns-in-Ok-clause-commits : goal.returns-in-Ok-clause-commits
+returns-in-Ok-clause-commits g c = λ told bytes now lines value others alone made.
+    let S = g.S.Store in
+    replaced_committed others c.args.file now lines value bytes c.args.edited (S.seen c.args.store.now).files (S.seen c.replace.new.store).files
+    (λ worlds. S.commits worlds c.args.store.now c.replace.new.store) alone made (rw (c.as_str.ensures, c.as_slice.ensures.value) at (c.replace.ensures.commits told))
+
+pub returns-in-Err-clause-commits : goal.returns-in-Err-clause-commits
+returns-in-Err-clause-commits g c = λ told bytes now lines value others alone made.
+    let S = g.S.Store in
+    replaced_committed others c.args.file now lines value bytes c.args.edited (S.seen c.args.store.now).files (S.seen c.replace.new.store).files
+    (λ worlds. S.commits worlds c.args.store.now c.replace.new.store) alone made (rw (c.as_str.ensures, c.as_slice.ensures.value) at (c.replace.ensures.commits told))
