@@ -2,7 +2,10 @@
 use Rattle.std.proofs.Common.{◌≡◌, ◌≢◌, ◌∙◌, ℕ, ◌≤◌, ◌+◌, Bool, true, false, IsTrue, List, [], ◌∷◌, Option, None, Some, Ok, Err, Result, is_ok, inl, inr, refl, sym, subst, arith}
 use Rattle.std.specs.Prelude.{IfErr, IfSome, IsErr, IsErrAnd, OnErr, OnOk, ◌↔◌}
 use Rattle.std.proofs.lemmas.Bool.{false≢true}
+use Rattle.std.proofs.lemmas.Result.{on_ok_weaker}
 use Rattle.outside.specs.ManyCalls.{Syncs}
+use Rattle.outside.specs.Seen.{StoreSeen}
+use Rattle.outside.specs.World.{World}
 use Rattle.outside.proofs.FrameLemmas.{syncs-none}
 use Rattle.run_steps.specs.Carrying.{CarriesOut}
 use Rattle.quota_types.specs.declared.file_kind.Format.{Format}
@@ -24,14 +27,14 @@ use Rattle.command_words.specs.Usage.{IsUsageFault, usage_refusal}
 use Rattle.command_words.specs.Asked.{command_of}
 use Rattle.command_words.proofs.KnownLemmas.{IsKnown, is_known}
 use Rattle.command_words.proofs.NameLemmas.{never_new}
-use Rattle.run_steps.specs.Done.{IsUnwritten, IsWorldTold, RunSeen, RunTells, outside_of}
+use Rattle.run_steps.specs.Done.{IsUnwritten, RunSeen, RunTells, outside_of}
 use Rattle.run_steps.specs.Naming.{NamesMayRefuse}
 use Rattle.run_steps.specs.Showing.{ShowingMayRefuse}
 use Rattle.run_steps.specs.Writes.{ReadsWithin}
 use Rattle.run_steps.specs.declared.invocation.Invocation.{Invocation}
 use Rattle.run_steps.proofs.PhaseLemmas.{carries_more, nothing_carried, stop_carried}
 use Rattle.edit_commands.specs.Apply.{ApplyMayRefuse}
-use Rattle.batch_commands.specs.Batch.{BatchMayRefuse}
+use Rattle.batch_commands.specs.Batch.{BatchMayRefuse, batch_uses, if_neither}
 use Rattle.edit_commands.specs.EditWords.{names_wanted}
 use Rattle.edit_commands.specs.Edits.{EditMayRefuse, FileEditMayRefuse}
 use Rattle.edit_commands.specs.Print.{PrintMayRefuse}
@@ -48,8 +51,8 @@ use Rattle.serve_command.specs.Serve.{ServeMayRefuse}
 use Rattle.serve_steps.specs.Exporting.{ExportingMayRefuse}
 use Rattle.serve_command.specs.Words.{CanServe}
 use Rattle.serve_command.proofs.WordLemmas.{asked_serves}
-use Rattle.command_table.specs.Description.{ChangesWithin, Description, IsLeftByEdit}
-use Rattle.command_table.specs.CarriedOut.{IsCarriedOut}
+use Rattle.command_table.specs.Description.{ChangesOnly, ChangesWithin, Description, IsLeftByEdit}
+use Rattle.command_table.specs.CarriedOut.{AreReadsTold, IsCarriedOut}
 use Rattle.command_table.specs.Table.{asked_by, described, not_here, refused, unknown_command}
 
 -- No command that was read is refused for its words.
@@ -157,7 +160,7 @@ read_carried table command asked invocation tells old new result is carried =
       named = carried.named;
       edited = carried.edited;
       unwritten = carried.unwritten;
-      within = record { alone = carried.within.alone; anew = carried.within.anew; few = carried.within.few };
+      within = record { files = record { alone = carried.within.files.alone; anew = carried.within.files.anew }; few = carried.within.few };
       reads = carried.reads;
       made = carried.made;
       synced = carried.synced;
@@ -182,6 +185,13 @@ holds_of_one : (file : Option (List ℕ)) (holds : List ℕ → Type 0) → ((on
 holds_of_one None holds all = tt
 holds_of_one (Some one) holds all = all one
 
+-- files that have not changed
+pub only_itself : (command : Description) (files : World) → ChangesOnly command files files
+only_itself command files = record {
+  alone = holds_of_one command.alone _ (λ file other differ. refl);
+  anew = holds_of_one command.anew _ (λ file other differ differs. refl);
+}
+
 -- as many calls as there were are no more than others
 most_same : (most : Option ℕ) (writes : ℕ) → IfSome most (λ (m : ℕ). writes ≤ writes + m)
 most_same None writes = tt
@@ -196,8 +206,7 @@ not_read table (Ok command) invocation tells old NoMemory is = record {
   edited = holds_of_one (table command).edits _ (λ file told other. inl refl);
   unwritten = λ said memory. record { files = refl; writes = refl };
   within = record {
-    alone = holds_of_one (table command).alone _ (λ file other differ. refl);
-    anew = holds_of_one (table command).anew _ (λ file other differ differs. refl);
+    files = record { alone = (only_itself (table command) old.store.files).alone; anew = (only_itself (table command) old.store.files).anew };
     few = most_same (table command).most_writes old.store.writes;
   };
   reads = tt;
@@ -215,7 +224,7 @@ not_read table (Err refusal) invocation tells old (UsageOf kind word) is =
       named = tt;
       edited = tt;
       unwritten = λ said. absurd (false≢true said);
-      within = record { alone = tt; anew = tt; few = tt };
+      within = record { files = record { alone = tt; anew = tt }; few = tt };
       reads = tt;
       made = tt;
       synced = λ told. syncs-none old.store;
@@ -233,7 +242,7 @@ not_here_carried invocation tells old = record {
   named = tt;
   edited = tt;
   unwritten = λ said. absurd (false≢true said);
-  within = record { alone = tt; anew = tt; few = tt };
+  within = record { files = record { alone = tt; anew = tt }; few = tt };
   reads = tt;
   made = tt;
   synced = λ told. syncs-none old.store;
@@ -289,7 +298,7 @@ pub carried_alone : (d : Description) (invocation : Invocation) (tells : RunTell
     → IfSome d.replaces (λ (file : List ℕ). OnErr result (IsTrue tells.store → new.store.files file ≡ old.store.files file))
     → IfSome d.edits (λ (file : List ℕ). IfErr result (λ (refusal : Refusal). IsTrue tells.store
     → IsLeftByEdit (status_of refusal.cause) old.store.files new.store.files file))
-    → ChangesWithin d old.store new.store → OnOk result (IsWorldTold tells → ReadsWithin (d.most_reads (outside_of old)) old.store new.store)
+    → ChangesWithin d old.store new.store → OnOk result (AreReadsTold d.uses tells → ReadsWithin (d.most_reads (outside_of old)) old.store new.store)
     → OnOk result (IsTrue tells.store → d.made invocation (outside_of old) new.store.files)
     → (IsTrue tells.store → Syncs (is_ok result) old.store new.store) → IsCarriedOut d invocation tells old new result
 carried_alone d invocation tells old new result unwritten finished one same carries named edited within reads made synced = record {
@@ -311,3 +320,11 @@ carried_alone d invocation tells old new result unwritten finished one same carr
 pub of_refusal_weaker : (result : Result (Unit {0}) Refusal) (one other : Refusal → Type 0) → ((refusal : Refusal) → one refusal → other refusal) → IfErr result one → IfErr result other
 of_refusal_weaker (Ok value) one other so is = tt
 of_refusal_weaker (Err refusal) one other so is = so refusal is
+
+-- the bound of reads of lines rests on the standard input where they come from it, and nothing is said of other lines
+pub lines_within : (names from : Option (List ℕ)) (reads : ℕ) (result : Result (Unit {0}) Refusal) (tells : RunTells) (old new : StoreSeen)
+    → OnOk result (IsTrue tells.store → IsTrue tells.input → ReadsWithin (if_neither names from reads) old new)
+    → OnOk result (AreReadsTold (batch_uses from) tells → ReadsWithin (if_neither names from reads) old new)
+lines_within names None reads result tells old new few = on_ok_weaker result (λ within told. within told.store (told.input refl)) few
+lines_within None (Some from) reads result tells old new few = of_done result _ (λ told. tt)
+lines_within (Some names) (Some from) reads result tells old new few = of_done result _ (λ told. tt)

@@ -1,4 +1,5 @@
 pub mod CommandLemmas
+pub mod CommittedLemmas
 pub mod FullLemmas
 pub mod InputLemmas
 pub mod LookLemmas

@@ -1,5 +1,5 @@
 -- What is said of a command, and what all that carry one out keep to.
-use Rattle.std.specs.Prelude.{◌≡◌, ◌≢◌, ◌≤◌, ◌⊎◌, ◌+◌, ℕ, Bool, IfSome, List, Option}
+use Rattle.std.specs.Prelude.{◌≡◌, ◌≢◌, ◌≤◌, ◌⊎◌, ◌+◌, ℕ, Bool, false, IfSome, List, Option}
 use Rattle.outside.specs.Replacement.{ReplacesOnly}
 use Rattle.outside.specs.Seen.{StoreSeen}
 use Rattle.outside.specs.World.{KeepsOthers, World}
@@ -68,9 +68,19 @@ abbrev pub IsLeftByEdit : (status : ℕ) (old new : World) → List ℕ → Type
 IsLeftByEdit status old new file =
     status ≢ 0 → (new file ≡ old file) ⊎ ((status ≡ 4) × ((value : QuotaValue) × MayBeLeft value (old file) (new file)))
 
--- However a command ended, and whatever is told, no other file has changed than the only one that it changes, or than the only one that
--- it makes anew and the one with `.new` added to that name, and there were no more calls of `write` to the store than it makes.
+-- No other file has changed than the only one that a command changes, or than the only one that it makes anew and the one with `.new`
+-- added to that name.
+pub record ChangesOnly (command : Description) (old new : World) : Type 0 where
+  pub alone : IfSome command.alone (λ (file : List ℕ). KeepsOthers file old new)
+  pub anew : IfSome command.anew (λ (file : List ℕ). ReplacesOnly file old new)
+
+-- Files that a command may commit: no other one has changed than it changes, and none where it changes none.
+pub record MayCommit (command : Description) (old world : World) : Type 0 where
+  pub only : ChangesOnly command old world
+  pub none : command.uses.changes ≡ false → world ≡ old
+
+-- However a command ended, and whatever is told, no other file has changed than it changes, and there were no more calls of `write` to the
+-- store than it makes.
 pub record ChangesWithin (command : Description) (old new : StoreSeen) : Type 0 where
-  pub alone : IfSome command.alone (λ (file : List ℕ). KeepsOthers file old.files new.files)
-  pub anew : IfSome command.anew (λ (file : List ℕ). ReplacesOnly file old.files new.files)
+  pub files : ChangesOnly command old.files new.files
   pub few : IfSome command.most_writes (λ (most : ℕ). new.writes ≤ old.writes + most)

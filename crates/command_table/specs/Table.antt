@@ -17,7 +17,7 @@ use Rattle.run_steps.specs.Changing.{edit_uses}
 use Rattle.run_steps.specs.Done.{Outside, RunSeen, RunTells}
 use Rattle.run_steps.specs.Run.{Uses}
 use Rattle.run_steps.specs.Showing.{showing_uses}
-use Rattle.run_steps.specs.Steps.{Stop}
+use Rattle.run_steps.specs.Steps.{Steps, Stop}
 use Rattle.run_steps.specs.declared.invocation.Invocation.{Invocation}
 use Rattle.edit_commands.specs.Apply.{ApplyMayRefuse, ApplySteps, apply_uses}
 use Rattle.batch_commands.specs.Batch.{BatchMayRefuse, BatchSteps, batch_reads, batch_uses}
@@ -55,12 +55,14 @@ reads_unsaid old = None
 abbrev pub makes_none : Invocation → Outside → World → Type 0
 makes_none invocation old files = ⊤
 
--- the report of a file
-abbrev pub reporting : Common → Options → List ℕ → Description
-reporting common options file = record {
-  steps = ReportSteps common options file;
-  uses = showing_uses;
-  may = ReportMayRefuse common file;
+-- A row of the table, which says of a command its steps, the objects that it uses and the causes for which it may be refused, and of all
+-- else the least: it changes no file that is named, no word of it is faulty by itself, nothing bounds its calls, nothing more is known
+-- or said, and no conditions are known that suffice. A command says beside it what is more.
+abbrev pub row : (Invocation → Steps) → Uses → (Cause → List ℕ → Type 0) → Description
+row steps uses may = record {
+  steps = steps;
+  uses = uses;
+  may = may;
   faulty = None;
   replaces = None;
   edits = None;
@@ -73,189 +75,93 @@ reporting common options file = record {
   known = ⊤;
   unfinished = λ (invocation : Invocation) (tells : RunTells) (old new : RunSeen). ⊤;
   full = edits_none;
-  links = links_as showing_uses;
+  links = links_as uses;
+  suffices = λ (invocation : Invocation) (old : Outside). ⊥;
+}
+
+-- the report of a file
+abbrev pub reporting : Common → Options → List ℕ → Description
+reporting common options file = record (row (ReportSteps common options file) showing_uses (ReportMayRefuse common file)) {
   suffices = λ (invocation : Invocation). CanReport common file;
 }
 
 -- An edit of a file. New times may be refused once they were set, where the error output fails in a warning.
 abbrev pub editing : Common → EditWords → List ℕ → Description
-editing common words file = record {
-  steps = EditSteps common words file;
-  uses = edit_uses (words_warn words);
-  may = EditMayRefuse common words file;
+editing common words file = record (row (EditSteps common words file) (edit_uses (words_warn words)) (EditMayRefuse common words file)) {
   faulty = faulty_edit common words;
-  replaces = None;
   edits = if words_warn words then None else Some file;
-  unwritten = false;
   alone = Some file;
-  anew = None;
   most_writes = Some 12;
-  most_reads = reads_unsaid;
   made = λ (invocation : Invocation) (old : Outside) (files : World). MakesWords common words file invocation.now old.files files;
-  known = ⊤;
-  unfinished = λ (invocation : Invocation) (tells : RunTells) (old new : RunSeen). ⊤;
   full = λ (invocation : Invocation) (old : Outside) (files : World) (refusal : Refusal) (blocks limit : ℕ).
       (refusal.name ≡ file) × IsFullForWords common words file invocation.now old files blocks limit;
-  links = links_as (edit_uses (words_warn words));
   suffices = CanEdit common words file;
 }
 
 -- new limits of many identifiers, a line each
 abbrev pub editing_lines : Common → Option (List ℕ) → List ℕ → Description
-editing_lines common input file = record {
-  steps = BatchSteps common input file;
-  uses = batch_uses input;
-  may = BatchMayRefuse common input file;
-  faulty = None;
-  replaces = None;
-  edits = None;
+editing_lines common input file = record (row (BatchSteps common input file) (batch_uses input) (BatchMayRefuse common input file)) {
   unwritten = true;
-  alone = None;
   anew = Some file;
-  most_writes = None;
   most_reads = λ (old : Outside). batch_reads common input file old.files old.input;
-  made = makes_none;
-  known = ⊤;
-  unfinished = λ (invocation : Invocation) (tells : RunTells) (old new : RunSeen). ⊤;
   full = λ (invocation : Invocation) (old : Outside) (files : World) (refusal : Refusal) (blocks limit : ℕ).
       (refusal.name ≡ file) × IsFullForLine common input file invocation.now old files blocks limit;
-  links = links_as (batch_uses input);
   suffices = CanEditLines common input file;
 }
 
 -- the limits of an identifier as a form
 abbrev pub printing : Common → (name file : List ℕ) → Description
-printing common name file = record {
-  steps = PrintSteps common name file;
-  uses = showing_uses;
-  may = PrintMayRefuse common name file;
+printing common name file = record (row (PrintSteps common name file) showing_uses (PrintMayRefuse common name file)) {
   faulty = faulty_print common name;
-  replaces = None;
-  edits = None;
-  unwritten = false;
-  alone = None;
-  anew = None;
-  most_writes = None;
-  most_reads = reads_unsaid;
-  made = makes_none;
-  known = ⊤;
-  unfinished = λ (invocation : Invocation) (tells : RunTells) (old new : RunSeen). ⊤;
-  full = edits_none;
-  links = links_as showing_uses;
   suffices = λ (invocation : Invocation). CanPrint common name file;
 }
 
 -- a form becomes the limits of an identifier
 abbrev pub applying : Common → Option (List ℕ) → (name file : List ℕ) → Description
-applying common input name file = record {
-  steps = ApplySteps common input name file;
-  uses = apply_uses input;
-  may = ApplyMayRefuse common input name file;
+applying common input name file = record (row (ApplySteps common input name file) (apply_uses input) (ApplyMayRefuse common input name file)) {
   faulty = faulty_print common name;
-  replaces = None;
   edits = Some file;
-  unwritten = false;
   alone = Some file;
-  anew = None;
   most_writes = Some 12;
-  most_reads = reads_unsaid;
-  made = makes_none;
-  known = ⊤;
-  unfinished = λ (invocation : Invocation) (tells : RunTells) (old new : RunSeen). ⊤;
   full = λ (invocation : Invocation) (old : Outside) (files : World) (refusal : Refusal) (blocks limit : ℕ).
       (refusal.name ≡ file) × IsFullForForm common input name file invocation.now old files blocks limit;
-  links = links_as (apply_uses input);
   suffices = CanApply common input name file;
 }
 
 -- the usage in a listing becomes that of a file
 abbrev pub checking : Common → (fresh : Bool) → (device : Option ℕ) → Option (List ℕ) → List ℕ → Description
-checking common fresh device input file = record {
-  steps = CheckSteps common fresh device input file;
-  uses = check_uses input;
-  may = CheckMayRefuse common fresh input file;
-  faulty = None;
+checking common fresh device input file = record (row (CheckSteps common fresh device input file) (check_uses input) (CheckMayRefuse common fresh input file)) {
   replaces = Some file;
-  edits = None;
-  unwritten = false;
-  alone = None;
   anew = Some file;
-  most_writes = None;
-  most_reads = reads_unsaid;
-  made = makes_none;
-  known = ⊤;
-  unfinished = λ (invocation : Invocation) (tells : RunTells) (old new : RunSeen). ⊤;
-  full = edits_none;
-  links = links_as (check_uses input);
   suffices = CanCheck common fresh device input file;
 }
 
 -- A file in another format. The file that is read is not the one that the new one is written under first: no words ask for such a
 -- command, since no name of a file ends so.
 abbrev pub converting : Kind → (old new : Format) → (source target : List ℕ) → Description
-converting kind old new source target = record {
-  steps = ConvertSteps kind old new source target;
-  uses = edit_uses false;
-  may = ConvertMayRefuse kind old new source target;
-  faulty = None;
+converting kind old new source target = record (row (ConvertSteps kind old new source target) (edit_uses false) (ConvertMayRefuse kind old new source target)) {
   replaces = Some target;
-  edits = None;
-  unwritten = false;
-  alone = None;
   anew = Some target;
-  most_writes = None;
-  most_reads = reads_unsaid;
-  made = makes_none;
   known = source ≢ replacement_name target;
-  unfinished = λ (invocation : Invocation) (tells : RunTells) (old new : RunSeen). ⊤;
-  full = edits_none;
-  links = links_as (edit_uses false);
   suffices = λ (invocation : Invocation). CanConvert kind old new source target;
 }
 
 -- Calls that are answered out of exported files. One call is to be answered at least, and the files may be exported one after another:
 -- no words ask for anything else. The link is said to have failed only where fewer datagrams were taken, or the last reply was not sent.
 abbrev pub serving : Option Format → (calls port : ℕ) → List ExportOption → Description
-serving format calls port exports = record {
-  steps = ServeSteps format calls port exports;
-  uses = serve_uses;
-  may = ServeMayRefuse format exports;
-  faulty = None;
-  replaces = None;
-  edits = None;
-  unwritten = false;
-  alone = None;
-  anew = None;
-  most_writes = None;
+serving format calls port exports = record (row (ServeSteps format calls port exports) serve_uses (ServeMayRefuse format exports)) {
   most_reads = λ (old : Outside). Some (serving_reads format calls exports old.files);
-  made = makes_none;
   known = (0 < calls) × MayExport [] exports;
   unfinished = λ (invocation : Invocation) (tells : RunTells) (old new : RunSeen). IsTrue tells.link
       → Stopped (λ (exported : ExportedValues). IsTrue tells.store × AreExported format old.store.files exports nothing_exported exported) calls old.link new.link;
-  full = edits_none;
-  links = links_as serve_uses;
   suffices = λ (invocation : Invocation) (old : Outside). (exported : ExportedValues) × AreExported format old.files exports nothing_exported exported;
 }
 
 -- A file out of a listing that is made, and a line on it. A count is one of 32 bits: no words ask for another one.
 abbrev pub generating : (seed count : ℕ) → List ℕ → Description
-generating seed count file = record {
-  steps = λ (invocation : Invocation). GenerateSteps seed count file invocation.now;
-  uses = generate_uses;
-  may = GenerateMayRefuse file;
-  faulty = None;
-  replaces = None;
-  edits = None;
-  unwritten = false;
-  alone = None;
+generating seed count file = record (row (λ (invocation : Invocation). GenerateSteps seed count file invocation.now) generate_uses (GenerateMayRefuse file)) {
   anew = Some file;
-  most_writes = None;
-  most_reads = reads_unsaid;
-  made = makes_none;
   known = count < 2 ^ 32;
-  unfinished = λ (invocation : Invocation) (tells : RunTells) (old new : RunSeen). ⊤;
-  full = edits_none;
-  links = links_as generate_uses;
   suffices = λ (invocation : Invocation) (old : Outside). count < 2 ^ 32;
 }
 
@@ -265,24 +171,8 @@ use_nothing = record { input = false; out = false; link = false; changes = false
 
 -- words that are refused are refused in every line and at every moment
 abbrev pub refused : Refusal → Description
-refused refusal = record {
-  steps = λ (invocation : Invocation). Stop refusal;
-  uses = use_nothing;
-  may = λ (cause : Cause) (name : List ℕ). refusal_of cause name ≡ refusal;
+refused refusal = record (row (λ (invocation : Invocation). Stop refusal) use_nothing (λ (cause : Cause) (name : List ℕ). refusal_of cause name ≡ refusal)) {
   faulty = Some refusal;
-  replaces = None;
-  edits = None;
-  unwritten = false;
-  alone = None;
-  anew = None;
-  most_writes = None;
-  most_reads = reads_unsaid;
-  made = makes_none;
-  known = ⊤;
-  unfinished = λ (invocation : Invocation) (tells : RunTells) (old new : RunSeen). ⊤;
-  full = edits_none;
-  links = links_as use_nothing;
-  suffices = λ (invocation : Invocation) (old : Outside). ⊥;
 }
 
 -- what is said of a command that is unknown

@@ -1,4 +1,5 @@
 mod AskedLemmas
+mod CommittedLemmas
 mod EffectLemmas
 mod RunLemmas
 mod RowLemmas

@@ -27,7 +27,7 @@ use Rattle.quota_cli.specs.Headline.{HasEffect, HasEffectUpToErr, HasSaid, IsRef
 use Rattle.quota_cli.specs.Script.{StandsInScript}
 use Rattle.command_words.specs.Asked.{command_of}
 use Rattle.command_table.specs.Description.{IsLeftByEdit, IsOnlyRead}
-use Rattle.command_table.specs.CarriedOut.{StopsIt, IsCarriedOut}
+use Rattle.command_table.specs.CarriedOut.{AreReadsTold, StopsIt, IsCarriedOut}
 use Rattle.run_steps.proofs.ActLemmas.{done_and_said, more_err, nothing_before}
 use Rattle.run_steps.proofs.MeaningLemmas.{received, sure_ends, to_end}
 use Rattle.run_steps.proofs.PartLemmas.{part_but_err}
@@ -71,7 +71,7 @@ no_reason warns link old new said LinkFault later failed none = none.link failed
 no_reason warns link old new said _ later failed none = failed
 
 -- no refusal has status 0
-no_status_0 : (cause : Cause) → status_of cause ≡ 0 → ⊥
+pub no_status_0 : (cause : Cause) → status_of cause ≡ 0 → ⊥
 no_status_0 cause is = status_in-some (group_of cause) is
 
 -- the cases of the reason for which a command was refused
@@ -355,8 +355,8 @@ run_keeps typed tells old new said result status carried stands finished usage w
   edited = run_edited (asked typed).edits (λ (s : ℕ) (file : List ℕ). IsTrue tells.store → IsLeftByEdit s old.store.files new.store.files file) result status finished.status_is
       (λ file told other. absurd (other refl)) carried.edited;
   unwritten = λ said. run_wanting (IsUnwritten old.store new.store) result status finished.status_is (carried.unwritten said);
-  within = record { alone = carried.within.alone; anew = carried.within.anew; few = carried.within.few };
-  reads = run_held (IsWorldTold tells → ReadsWithin ((asked typed).most_reads (outside_of old)) old.store new.store) result status finished.status_is carried.reads;
+  within = record { files = record { alone = carried.within.files.alone; anew = carried.within.files.anew }; few = carried.within.few };
+  reads = run_held (AreReadsTold (uses_asked typed) tells → ReadsWithin ((asked typed).most_reads (outside_of old)) old.store new.store) result status finished.status_is carried.reads;
   made = run_held (IsTrue tells.store → (asked typed).made typed.invocation (outside_of old) new.store.files) result status finished.status_is carried.made;
   synced = λ so told. run_synced result status old.store new.store finished.status_is (carried.synced told) so;
   untaken = λ one. run_untaken (new.link ≡ old.link) result status finished.status_is (carried.untaken one);

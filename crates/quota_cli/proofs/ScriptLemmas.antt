@@ -37,11 +37,11 @@ use Rattle.script_lines.specs.declared.script.ScriptFault.{ScriptFault}
 use Rattle.script_lines.specs.declared.script.ScriptFault.TheVariants.{Source, Memory as NoMemory}
 use Rattle.command_table.specs.CarriedOut.{IsCarriedOut, StopsIt}
 use Rattle.command_table.specs.Table.{asked_by, described}
-use Rattle.command_table.proofs.CommandLemmas.{of_done}
+use Rattle.command_table.proofs.CommandLemmas.{of_done, only_itself}
 use Rattle.command_table.proofs.InputLemmas.{spares_input}
 use Rattle.command_table.proofs.SureLemmas.{asked_sure, command_sure}
 use Rattle.quota_cli.specs.Carrying.{AreCarried, Ascends, IsLineCarried, unread_cause}
-use Rattle.quota_cli.specs.Script.{ComesTo, IsLeftUnfinished, IsLineUnfinished, IsOfLine, IsOfLines, StandsInScript, LineSteps, LinesSteps, LinesSuffice, RunningMayRefuse, ScriptSteps, asked_in_script, comes_to_link, is_come_to, is_up_to, line_invocation, script_uses, scripting}
+use Rattle.quota_cli.specs.Script.{ReachesLine, IsLeftUnfinished, IsLineUnfinished, IsOfLine, IsOfLines, StandsInScript, LineSteps, LinesSteps, LinesSuffice, RunningMayRefuse, ScriptSteps, asked_in_script, comes_to_link, is_come_to, is_up_to, line_invocation, script_uses, scripting}
 use Rattle.run_steps.specs.Steps.{Steps}
 use Rattle.run_steps.proofs.RowLemmas.{part_in_line}
 
@@ -233,7 +233,7 @@ text_carried text invocation tells old new result carried = record {
   named = carried.named;
   edited = carried.edited;
   unwritten = carried.unwritten;
-  within = record { alone = carried.within.alone; anew = carried.within.anew; few = carried.within.few };
+  within = record { files = record { alone = carried.within.files.alone; anew = carried.within.files.anew }; few = carried.within.few };
   reads = carried.reads;
   made = carried.made;
   synced = carried.synced;
@@ -261,11 +261,7 @@ text_wanting text invocation tells old =
       named = every_file asked.replaces _ (λ file told. refl);
       edited = every_file asked.edits _ (λ file told other. inl refl);
       unwritten = λ said memory. record { files = refl; writes = refl };
-      within = record {
-        alone = every_file asked.alone _ (λ file other differ. refl);
-        anew = every_file asked.anew _ (λ file other differ differs. refl);
-        few = as_many asked.most_writes old.store.writes;
-      };
+      within = record { files = only_itself asked old.store.files; few = as_many asked.most_writes old.store.writes };
       reads = tt;
       made = tt;
       synced = λ told. syncs-none old.store;
@@ -287,13 +283,13 @@ lines_lead invocation old input said is taken =
     (leads_reading whole next (outside_of old) input.left (subst (λ (s : ScriptSaid). IsTaken (is_none s.refusal) old.input.left input.left) (sym is) taken))
 
 -- the input is read to its end where the script is not refused itself
-script_taken : (refusal : Option Refusal) (old left : List ℕ) → IsBehind old left → (refusal ≡ None → left ≡ []) → IsTaken (is_none refusal) old left
+pub script_taken : (refusal : Option Refusal) (old left : List ℕ) → IsBehind old left → (refusal ≡ None → left ≡ []) → IsTaken (is_none refusal) old left
 script_taken None old left behind ended = record { taken = behind.0; behind = behind.1; all = λ all. ended refl }
 script_taken (Some refusal) old left behind ended = record { taken = behind.0; behind = behind.1; all = λ all. absurd (false≢true all) }
 
 -- what follows for each line follows for the one that was reached
 comes_to_weaker : (one other : LineSaid → RunSeen → Type 0) (now : ℕ) (lines : List LineSaid) (tells : RunTells) (old : RunSeen) → ((line : LineSaid) (before : RunSeen) → one line before → other line before)
-    → ComesTo one now lines tells old → ComesTo other now lines tells old
+    → ReachesLine one now lines tells old → ReachesLine other now lines tells old
 comes_to_weaker one other now [] tells old so at = absurd at
 comes_to_weaker one other now (line ∷ lines) tells old so (inl held) = inl (so line old held)
 comes_to_weaker one other now (line ∷ lines) tells old so (inr (middle, done, at)) = inr (middle, done, comes_to_weaker one other now lines tells middle so at)
@@ -329,7 +325,7 @@ script_carried invocation tells old input new result said later is behind ended 
   named = tt;
   edited = tt;
   unwritten = λ said. absurd (false≢true said);
-  within = record { alone = tt; anew = tt; few = tt };
+  within = record { files = record { alone = tt; anew = tt }; few = tt };
   reads = of_done result _ (λ told. tt);
   made = of_done result _ (λ told. tt);
   synced = carried.synced;
@@ -411,7 +407,7 @@ script_unread invocation tells old input fault later rose = record {
   named = tt;
   edited = tt;
   unwritten = λ said. absurd (false≢true said);
-  within = record { alone = tt; anew = tt; few = tt };
+  within = record { files = record { alone = tt; anew = tt }; few = tt };
   reads = tt;
   made = tt;
   synced = λ told. syncs-none old.store;

@@ -18,6 +18,7 @@ use Rattle.run_steps.specs.Writes.{ReadsWithin}
 use Rattle.run_steps.specs.declared.invocation.Invocation.{Invocation}
 use Rattle.command_words.specs.Asked.{command_of}
 use Rattle.command_table.specs.Description.{ChangesWithin, Description, IsLeftByEdit, IsOnlyRead}
+use Rattle.command_table.specs.CarriedOut.{AreReadsTold}
 use Rattle.command_table.specs.Table.{asked_by}
 use Rattle.quota_cli.specs.Script.{StandsInScript, commanded}
 
@@ -171,7 +172,7 @@ pub record Keeps (typed : CommandLine) (tells : RunTells) (old new : RunSeen) (s
   -- opening the file, seventeen for each line that asks for an edit, and those that read the file whole once, where there are at least
   -- two such lines, the file has at most twelve pieces of 1,024 bytes for each of them, and they may fill it: it is a tree file that with
   -- 4,096 bytes for each of them, and for two more, has at least as many bytes as 1,048,576 blocks.
-  pub reads : status ≡ 0 → IsWorldTold tells → ReadsWithin ((asked typed).most_reads (outside_of old)) old.store new.store
+  pub reads : status ≡ 0 → AreReadsTold (uses_asked typed) tells → ReadsWithin ((asked typed).most_reads (outside_of old)) old.store new.store
   -- With status 0 the files are what a change of such a file makes of them, beside standing for the edited value, where the words ask
   -- for new limits, new times or new grace periods: of a tree file into which a record was put, that it has no more blocks than before
   -- unless none is free then, and that a block became a data block only where none had room.

@@ -20,7 +20,7 @@ use Rattle.run_steps.specs.Steps.{Before, Ending, InLine, Reading, Steps}
 use Rattle.run_steps.specs.declared.invocation.Invocation.{Invocation}
 use Rattle.script_lines.specs.Script.{LineSaid, ScriptMayRefuse, script_said}
 use Rattle.command_table.specs.Description.{Description}
-use Rattle.command_table.specs.Table.{asked_by, described}
+use Rattle.command_table.specs.Table.{asked_by, described, row}
 
 -- Lines.
 
@@ -70,9 +70,9 @@ pub record IsLineDone (now : ℕ) (line : LineSaid) (tells : RunTells) (old new 
   pub later : IsLater old new
 
 -- One of the lines was reached, once those before it were carried out, and this holds of it and of what they left.
-abbrev pub ComesTo : (holds : LineSaid → RunSeen → Type 0) → (now : ℕ) → List LineSaid → RunTells → RunSeen → Type 0
-ComesTo holds now [] tells old = ⊥
-ComesTo holds now (line ∷ lines) tells old = holds line old ⊎ ((middle : RunSeen) × IsLineDone now line tells old middle × ComesTo holds now lines tells middle)
+abbrev pub ReachesLine : (holds : LineSaid → RunSeen → Type 0) → (now : ℕ) → List LineSaid → RunTells → RunSeen → Type 0
+ReachesLine holds now [] tells old = ⊥
+ReachesLine holds now (line ∷ lines) tells old = holds line old ⊎ ((middle : RunSeen) × IsLineDone now line tells old middle × ReachesLine holds now lines tells middle)
 
 -- a line uses the link, and not all that was to be done with it was done
 abbrev pub IsLineUnfinished : (now : ℕ) → LineSaid → RunTells → RunSeen → RunSeen → Type 0
@@ -81,7 +81,7 @@ IsLineUnfinished now line tells old new =
 
 -- One of the lines uses the link and was left unfinished, once those before it were carried out.
 abbrev pub IsLeftUnfinished : (now : ℕ) → List LineSaid → RunTells → RunSeen → RunSeen → Type 0
-IsLeftUnfinished now lines tells old new = ComesTo (λ (line : LineSaid) (before : RunSeen). IsLineUnfinished now line tells before new) now lines tells old
+IsLeftUnfinished now lines tells old new = ReachesLine (λ (line : LineSaid) (before : RunSeen). IsLineUnfinished now line tells before new) now lines tells old
 
 -- One of the lines was refused since the file that it edits is full, once those before it were carried out: the one in which the
 -- refusal stands.
@@ -125,7 +125,7 @@ pub record IsOfLine (now : ℕ) (line : LineSaid) (tells : RunTells) (old new : 
 
 -- a refusal is that of one of the lines, which was at hand once those before it were carried out
 abbrev pub IsOfLines : (now : ℕ) → List LineSaid → RunTells → (old new : RunSeen) → Refusal → Type 0
-IsOfLines now lines tells old new refusal = ComesTo (λ (line : LineSaid) (before : RunSeen). IsOfLine now line tells before new refusal) now lines tells old
+IsOfLines now lines tells old new refusal = ReachesLine (λ (line : LineSaid) (before : RunSeen). IsOfLine now line tells before new refusal) now lines tells old
 
 -- the causes for which a script is refused outside of its lines, with the name that is said: it was not read, or it is refused itself
 abbrev pub IsOwnCause : Cause → List ℕ → Type 0
@@ -146,20 +146,7 @@ pub record StandsInScript (now : ℕ) (tells : RunTells) (old new : RunSeen) (re
 -- The commands that the lines of the standard input ask for. The link is said to have failed only in a line that was left unfinished;
 -- a script that is not refused itself takes the whole input, so its lines find nothing left of it.
 abbrev pub scripting : Description
-scripting = record {
-  steps = ScriptSteps;
-  uses = script_uses;
-  may = RunningMayRefuse;
-  faulty = None;
-  replaces = None;
-  edits = None;
-  unwritten = false;
-  alone = None;
-  anew = None;
-  most_writes = None;
-  most_reads = λ (old : Outside). None;
-  made = λ (invocation : Invocation) (old : Outside) (files : World). ⊤;
-  known = ⊤;
+scripting = record (row ScriptSteps script_uses RunningMayRefuse) {
   unfinished = λ (invocation : Invocation) (tells : RunTells) (old new : RunSeen). IsTrue tells.input
       → (input : SourceSeen) × IsLeftUnfinished invocation.now (script_said old.input.left).lines tells (record old { input = input }) new;
   full = λ (invocation : Invocation) (old : Outside) (files : World) (refusal : Refusal) (blocks limit : ℕ). (left : List ℕ)

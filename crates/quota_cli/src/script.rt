@@ -1,15 +1,16 @@
 //! A script: the commands that the lines of the standard input ask for, one after another.
 
-ghost use Rattle.std.specs.Prelude.{◌≡◌, [], false, true, map, IfErr, IfSome, Some};
+ghost use Rattle.std.specs.Prelude.{◌≡◌, [], false, true, map, is_ok, IfErr, IfSome, Some, ⊤};
 ghost use Rattle.std.specs.Result.{result_err};
-ghost use Rattle.command_table.specs.CarriedOut.{IsCarriedOut};
+ghost use Rattle.command_table.specs.CarriedOut.{CommandCommits, IsCarriedOut};
 ghost use Rattle.command_table.specs.Table.{asked_by, described};
 ghost use Rattle.command_words.specs.Asked.{command_of};
 ghost use Rattle.option_words.specs.Items.{texts_of};
 ghost use Rattle.quota_cli.specs.Carrying.{AreCarried, IsLineCarried, unread_cause};
-ghost use Rattle.quota_cli.specs.Script.{StandsInScript, asked_in_script, scripting};
+ghost use Rattle.quota_cli.specs.Script.{LineSteps, LinesSteps, StandsInScript, asked_in_script, scripting};
 ghost use Rattle.refusals.specs.Refusals.{in_line, refusal_of};
-ghost use Rattle.run_steps.specs.Done.{seen_of, tells_of};
+ghost use Rattle.run_steps.specs.Committed.{CommitsSteps};
+ghost use Rattle.run_steps.specs.Done.{IsWorldTold, outside_of, seen_of, tells_of};
 ghost use Rattle.script_lines.specs.ScriptReading.{IsOfScript, line_read};
 
 use command_table::{carry_out, usage_refusal};
@@ -44,6 +45,11 @@ pub fn run_script<S: Store, I: Source, O: Sink, E: Sink, L: Link>(
     ensures stands { IfErr result (StandsInScript invocation.now (tells_of S.tells I.tells O.tells E.tells L.tells)
         (seen_of (S.seen store.old) (I.seen input.old) (O.seen out.old) (E.seen err.old) (L.seen link.old))
         (seen_of (S.seen store.new) (I.seen input.new) (O.seen out.new) (E.seen err.new) (L.seen link.new))) }
+    // All that is committed are files that the steps of the lines come to.
+    ensures commits { IsWorldTold (tells_of S.tells I.tells O.tells E.tells L.tells)
+        → CommandCommits scripting invocation (is_ok result)
+        (outside_of (seen_of (S.seen store.old) (I.seen input.old) (O.seen out.old) (E.seen err.old) (L.seen link.old)))
+        (S.seen store.new).files (λ worlds. S.commits worlds store.old store.new) }
 {
     match read_script(alloc, input) {
         Ok(script) => {
@@ -93,6 +99,10 @@ fn carry_lines<S: Store, I: Source, O: Sink, E: Sink, L: Link>(
         (seen_of (S.seen store.old) (I.seen input.old) (O.seen out.old) (E.seen err.old) (L.seen link.old))
         (seen_of (S.seen store.new) (I.seen input.new) (O.seen out.new) (E.seen err.new) (L.seen link.new)) result }
     ensures input { input.new ≡ input.old }
+    ensures commits { IsWorldTold (tells_of S.tells I.tells O.tells E.tells L.tells)
+        → CommitsSteps false (is_ok result) (LinesSteps now (map line_read lines.now) refusal) (λ _. ⊤)
+        (outside_of (seen_of (S.seen store.old) (I.seen input.old) (O.seen out.old) (E.seen err.old) (L.seen link.old)))
+        (S.seen store.new).files (λ worlds. S.commits worlds store.old store.new) }
 {
     for line in lines {
         match carry_line(alloc, line, store, input, out, err, link, now) {
@@ -121,6 +131,10 @@ fn carry_line<S: Store, I: Source, O: Sink, E: Sink, L: Link>(
         (seen_of (S.seen store.old) (I.seen input.old) (O.seen out.old) (E.seen err.old) (L.seen link.old))
         (seen_of (S.seen store.new) (I.seen input.new) (O.seen out.new) (E.seen err.new) (L.seen link.new)) result }
     ensures input { input.new ≡ input.old }
+    ensures commits { IsWorldTold (tells_of S.tells I.tells O.tells E.tells L.tells)
+        → CommitsSteps false (is_ok result) (LineSteps now (line_read line.now)) (λ _. ⊤)
+        (outside_of (seen_of (S.seen store.old) (I.seen input.old) (O.seen out.old) (E.seen err.old) (L.seen link.old)))
+        (S.seen store.new).files (λ worlds. S.commits worlds store.old store.new) }
 {
     let invocation = in_script(now, line.number);
     let text = line.text.as_str();
@@ -168,6 +182,10 @@ fn carry_text<S: Store, I: Source, O: Sink, E: Sink, L: Link>(
         (seen_of (S.seen store.new) (I.seen input.new) (O.seen out.new) (E.seen err.new) (L.seen link.new)) result }
     ensures link { (asked_in_script text.now).uses.link ≡ false → link.new ≡ link.old }
     ensures input { input.new ≡ input.old }
+    ensures commits { IsWorldTold (tells_of S.tells I.tells O.tells E.tells L.tells)
+        → CommandCommits (asked_in_script text.now) invocation (is_ok result)
+        (outside_of (seen_of (S.seen store.old) (I.seen input.old) (O.seen out.old) (E.seen err.old) (L.seen link.old)))
+        (S.seen store.new).files (λ worlds. S.commits worlds store.old store.new) }
 {
     match words_of_line(alloc, text) {
         Ok(words) => carry_words(
@@ -201,6 +219,10 @@ fn carry_words<S: Store, I: Source, O: Sink, E: Sink, L: Link>(
         (seen_of (S.seen store.new) (I.seen input.new) (O.seen out.new) (E.seen err.new) (L.seen link.new)) result }
     ensures link { (asked_by described (command_of true (texts_of words.now))).uses.link ≡ false → link.new ≡ link.old }
     ensures input { input.new ≡ input.old }
+    ensures commits { IsWorldTold (tells_of S.tells I.tells O.tells E.tells L.tells)
+        → CommandCommits (asked_by described (command_of true (texts_of words.now))) invocation (is_ok result)
+        (outside_of (seen_of (S.seen store.old) (I.seen input.old) (O.seen out.old) (E.seen err.old) (L.seen link.old)))
+        (S.seen store.new).files (λ worlds. S.commits worlds store.old store.new) }
 {
     match read_words(alloc, words, true) {
         Ok(command) => carry_out(alloc, command, store, input, out, err, link, invocation),

@@ -56,3 +56,9 @@ returns-else-is_script-clause-out g c = rw (sym c.if-is_script.ensures) c.carry_
 
 pub returns-else-is_script-clause-link : goal.returns-else-is_script-clause-link
 returns-else-is_script-clause-link g c = rw (sym c.if-is_script.ensures) c.carry_out.ensures.link
+
+pub returns-then-is_script-clause-commits : goal.returns-then-is_script-clause-commits
+returns-then-is_script-clause-commits g c = rw (sym c.if-is_script.ensures) c.run_script.ensures.commits
+
+pub returns-else-is_script-clause-commits : goal.returns-else-is_script-clause-commits
+returns-else-is_script-clause-commits g c = rw (sym c.if-is_script.ensures) c.carry_out.ensures.commits
