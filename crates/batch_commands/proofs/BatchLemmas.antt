@@ -85,6 +85,12 @@ made_none way file now lines start name old store holds reads held = record {
   counted = λ counts. refl;
 }
 
+-- so no act was done
+pub none_acts : {done : Bool} (way : Way) (file : List ℕ) (now : ℕ) (lines : List LineEdit) (start : QuotaValue) (name : List ℕ) (old store : StoreSeen) (holds : QuotaValue → Type 0) → (reads : OnlyReads done name old store) → (held : holds start)
+    → (made_none way file now lines start name old store holds reads held).acts ≡ []
+unfolding made_none
+none_acts way file now lines start name old store holds reads held = refl
+
 -- the steps of a line whose edit was made go on with those of the lines behind it
 line_leads : (way : Way) (file : List ℕ) (now : ℕ) (line : LineEdit) (rest : List LineEdit) (value : QuotaValue) (told : Type 0) (before after : StoreSeen) (from : Outside) → IsMade file (edit_of line now) value told before after → told
     → LeadsBy (acts_of way file (edit_of line now) value) (LineSteps (way_behind way ((edit_of line now).is_idle value)) file now rest (value_left ((edit_of line now).edited value) value)) (record from { files = after.files })
@@ -139,6 +145,13 @@ made_more way file now lines line rest start made old before after holds after_h
           let own : edits_in acts ≡ 1 = acts_counted are.next file left (edit.is_idle are.value) (are.goes_on counts) in
           omega (arith, edits_in-append are.acts acts, before_it, own);
     }
+
+-- its acts come behind those of the edits before it
+pub more_acts : (way : Way) (file : List ℕ) (now : ℕ) (lines : List LineEdit) (line : LineEdit) (rest : List LineEdit) (start : QuotaValue) (made : ℕ) (old before after : StoreSeen) (holds after_holds : QuotaValue → Type 0) (told : Type 0) → (is : told)
+    → (are : AreMade way file now lines (line ∷ rest) start made old before holds) → (one : IsMade file (edit_of line now) are.value told before after) → (held : IsOkAnd ((edit_of line now).edited are.value) after_holds)
+    → (made_more way file now lines line rest start made old before after holds after_holds told is are one held).acts ≡ are.acts ++ acts_of are.next file (edit_of line now) are.value
+unfolding made_more
+more_acts way file now lines line rest start made old before after holds after_holds told is are one held = refl
 
 -- What the steps of the lines that are left do, those of all lines do.
 made_steps : (way : Way) (file : List ℕ) (now : ℕ) (lines rest : List LineEdit) (start : QuotaValue) (made : ℕ) (tells : RunTells) (old : RunSeen) (before after : StoreSeen) (holds : QuotaValue → Type 0) (ended : Option Refusal)

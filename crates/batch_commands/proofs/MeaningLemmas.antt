@@ -75,7 +75,7 @@ batch_reads common file invocation = λ files.
 -- They are sure.
 
 -- edits of lines that fit are not refused
-lines_sure : (way : Way) (file : List ℕ) (now : ℕ) (lines : List LineEdit) (value : QuotaValue) (old : Outside) → AllFit way file now lines old.files value → IsSure (LineSteps way file now lines value) old
+pub lines_sure : (way : Way) (file : List ℕ) (now : ℕ) (lines : List LineEdit) (value : QuotaValue) (old : Outside) → AllFit way file now lines old.files value → IsSure (LineSteps way file now lines value) old
 lines_sure way file now [] value old fit = refl
 lines_sure way file now (line ∷ lines) value old fit =
     let edit = edit_of line now in

@@ -27,7 +27,8 @@ use Rattle.edit_steps.specs.Fits.{IsFullFor}
 use Rattle.edit_steps.proofs.LimitsLemmas.{set_format}
 use Rattle.batch_commands.specs.Batch.{EditsThen, edit_of, may_fill, met_at, way_behind}
 use Rattle.batch_commands.specs.BatchReading.{LineSteps}
-use Rattle.batch_commands.specs.Together.{AreNotTogether, IsMadeInMemory, IsWithin, MayPay, memory_seen, refusal_in}
+use Rattle.batch_commands.specs.AtOnce.{IsPaid}
+use Rattle.batch_commands.specs.Together.{AreNotTogether, IsFlatReach, IsMadeInMemory, IsWithin, MayPay, memory_seen, refusal_in}
 use Rattle.batch_commands.specs.declared.batch_line.LineEdit.{LineEdit}
 use Rattle.batch_commands.specs.declared.together.Edited.{Edited}
 use Rattle.batch_commands.specs.declared.together.Whole.{Whole}
@@ -169,3 +170,12 @@ pays_unless asked count whole edited may within more = by_end edited.lines.ended
         let few = may.few in
         let least = more (omega (arith, short, within_most)) in
         absurd (omega (arith, least, pieces, few, all))
+
+-- Lines for which a file may be written anew reach no further than twelve pieces for each.
+pub paid_within : (asked : Option Format) (lines : List LineEdit) (size most : ℕ) → IsPaid asked lines size → (IsTrue (asks_tree asked) → most ≤ size + 2048 + 4096 * length lines)
+    → (asks_tree asked ≡ false → IsFlatReach size lines most) → most ≤ 12288 * length lines
+paid_within asked lines size most paid grows room = by_test (asks_tree asked) refl
+  where
+    by_test : (test : Bool) → asks_tree asked ≡ test → most ≤ 12288 * length lines
+    by_test true is = let tree = paid.tree is in let few = grows is in omega (arith, tree, few)
+    by_test false is = let flat = paid.flat is in (room is).least (12288 * length lines) flat.0 flat.1

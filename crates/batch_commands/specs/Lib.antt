@@ -1,3 +1,4 @@
+pub mod AtOnce
 pub mod Batch
 pub mod BatchReading
 pub mod FullForLines

@@ -13,11 +13,14 @@ ghost use Rattle.run_steps.specs.Act.{Together, Way};
 ghost use Rattle.run_steps.specs.Committed.{CommitsSteps};
 ghost use Rattle.run_steps.specs.Done.{IsUnwritten, RunTells, seen_of, tells_of};
 ghost use Rattle.run_steps.specs.Carrying.{CarriesOut};
+ghost use Rattle.refusals.specs.Outcome.{Passed};
 ghost use Rattle.run_steps.specs.Steps.{Opening};
+ghost use Rattle.run_steps.specs.Taking.{input_said};
 ghost use Rattle.run_steps.specs.Writes.{ReadsWithin};
-ghost use Rattle.batch_commands.specs.Batch.{BatchMayRefuse, BatchSteps, LineEditMayRefuse, NamedBatchMayRefuse, ReadSteps, batch_reads, batch_uses, input_edits, line_reads, line_uses, way_of};
+ghost use Rattle.batch_commands.specs.AtOnce.{AreMadeTogether, MakeTogether};
+ghost use Rattle.batch_commands.specs.Batch.{AskedEdits, BatchMayRefuse, BatchSteps, LineEditMayRefuse, NamedBatchMayRefuse, ReadSteps, batch_reads, batch_step, batch_uses, input_edits, line_reads, line_uses, way_of};
 ghost use Rattle.batch_commands.specs.BatchReading.{LineSteps};
-ghost use Rattle.batch_commands.specs.LinesCommitted.{CommitsFrom};
+ghost use Rattle.batch_commands.specs.LinesCommitted.{CommitsEach, CommitsFrom};
 ghost use Rattle.batch_commands.specs.Together.{HasMade, IfOwn, IfWanting, refusal_in};
 
 use crate::batch_input::{Batch, take_batch};
@@ -61,9 +64,11 @@ pub fn apply_lines<S: Store, I: Source>(
     // What was written has been synced where it was done, and where it was not too, unless a call on the store failed.
     ensures synced { IsTrue S.tells → Syncs (is_ok result) (S.seen store.old) (S.seen store.new) }
     // All that was committed is files that the steps come to, behind some first lines, in which no file has changed but this one and the
-    // one with `.new` added to its name.
-    ensures commits { (datagrams : List Datagram) (line : Option ℕ) → IsTrue S.tells → IsTrue I.tells
-        → CommitsSteps false (is_ok result) (BatchSteps common from file (record { now = now; line = line })) (ReplacesOnly file (S.seen store.old).files)
+    // one with `.new` added to its name; and where lines are made together those of one moment alone.
+    ensures commits { (datagrams : List Datagram) (line : Option ℕ) → IsTrue S.tells → (from ≡ None → IsTrue I.tells)
+        → CommitsSteps
+        (AreMadeTogether common from file now (record { files = (S.seen store.old).files; input = (I.seen input.old).left; datagrams = datagrams }))
+        (is_ok result) (BatchSteps common from file (record { now = now; line = line })) (ReplacesOnly file (S.seen store.old).files)
         (record { files = (S.seen store.old).files; input = (I.seen input.old).left; datagrams = datagrams }) (S.seen store.new).files
         (λ worlds. S.commits worlds store.old store.new) }
     // Where it was done without a file of names, and out of the standard input, no more was read than the opening of the file takes,
@@ -105,8 +110,12 @@ fn apply_named<S: Store, I: Source>(
     ensures wanting { IfWanting (IsUnwritten (S.seen store.old) (S.seen store.new)) result }
     ensures others { ReplacesOnly file (S.seen store.old).files (S.seen store.new).files }
     ensures synced { IsTrue S.tells → Syncs (is_ok result) (S.seen store.old) (S.seen store.new) }
-    ensures commits { (datagrams : List Datagram) → IsTrue S.tells → IsTrue I.tells
-        → CommitsSteps false (is_ok result) (Opening kind format file (ReadSteps names.now from file now)) (ReplacesOnly file (S.seen store.old).files)
+    ensures commits { (datagrams : List Datagram) → IsTrue S.tells → (from ≡ None → IsTrue I.tells)
+        → CommitsSteps
+        ((value : QuotaValue) → IsView ((S.seen store.old).files file) kind format (Ok value) → (asked : AskedEdits)
+        → input_said from (batch_step names.now from) (S.seen store.old).files (I.seen input.old).left ≡ Passed asked
+        → MakeTogether format file now asked.edits (S.seen store.old).files value)
+        (is_ok result) (Opening kind format file (ReadSteps names.now from file now)) (ReplacesOnly file (S.seen store.old).files)
         (record { files = (S.seen store.old).files; input = (I.seen input.old).left; datagrams = datagrams }) (S.seen store.new).files
         (λ worlds. S.commits worlds store.old store.new) }
     ensures reads { from ≡ None → OnOk result (IsTrue S.tells → IsTrue I.tells → (S.seen store.new).reads ≤ (S.seen store.old).reads
@@ -148,10 +157,13 @@ fn apply_opened<S: Store, I: Source>(
     ensures wanting { IfWanting (IsUnwritten (S.seen store.old) (S.seen store.new)) result }
     ensures others { ReplacesOnly file (S.seen store.old).files (S.seen store.new).files }
     ensures synced { IsTrue S.tells → Syncs (is_ok result) (S.seen store.old) (S.seen store.new) }
-    ensures commits { (datagrams : List Datagram) → IsTrue S.tells → IsTrue I.tells
+    ensures commits { (datagrams : List Datagram) → IsTrue S.tells → (from ≡ None → IsTrue I.tells)
         → (value : QuotaValue) → ⟦<AnyFile as QuotaFile<S>>⟧.holds opened store.old value
         → IsView ((S.seen store.old).files file) kind format (Ok value)
-        → CommitsSteps false (is_ok result) (ReadSteps names.now from file now value) (ReplacesOnly file (S.seen store.old).files)
+        → CommitsSteps
+        ((asked : AskedEdits) → input_said from (batch_step names.now from) (S.seen store.old).files (I.seen input.old).left ≡ Passed asked
+        → MakeTogether format file now asked.edits (S.seen store.old).files value)
+        (is_ok result) (ReadSteps names.now from file now value) (ReplacesOnly file (S.seen store.old).files)
         (record { files = (S.seen store.old).files; input = (I.seen input.old).left; datagrams = datagrams }) (S.seen store.new).files
         (λ worlds. S.commits worlds store.old store.new) }
     ensures reads { IsOpenedAs format (⟦<AnyFile as QuotaFile<S>>⟧.seen opened).format
@@ -213,8 +225,8 @@ fn edit_lines<S: Store>(
     ensures synced { IsTrue S.tells → Syncs (is_ok result) (S.seen store.old) (S.seen store.new) }
     ensures commits { IsTrue S.tells → (value : QuotaValue) → ⟦<AnyFile as QuotaFile<S>>⟧.holds opened store.old value
         → IsView ((S.seen store.old).files file) kind format (Ok value)
-        → CommitsFrom (LineSteps (way_of lines.now) file now lines.now value) (ReplacesOnly file (S.seen store.old).files)
-        (S.seen store.old).files (S.seen store.new).files (λ worlds. S.commits worlds store.old store.new) }
+        → CommitsFrom (MakeTogether format file now lines.now (S.seen store.old).files value) (is_ok result)
+        (LineSteps (way_of lines.now) file now lines.now value) (ReplacesOnly file (S.seen store.old).files) (S.seen store.old).files (S.seen store.new).files (λ worlds. S.commits worlds store.old store.new) }
     ensures reads { IsOpenedAs format (⟦<AnyFile as QuotaFile<S>>⟧.seen opened).format
         → (value : QuotaValue) → (IsTrue S.tells → ⟦<AnyFile as QuotaFile<S>>⟧.holds opened store.old value)
         → (IsTrue S.tells → IsView ((S.seen store.old).files file) kind format (Ok value))
@@ -267,10 +279,11 @@ pub fn edit_all<S: Store>(
     ensures memory { IfErr result.ended (λ refusal. refusal.cause ≢ Memory) }
     ensures leaves { EditsOne file (S.seen store.old) (S.seen store.new) }
     ensures synced { IsTrue S.tells → Syncs (is_ok result.ended) (S.seen store.old) (S.seen store.new) }
-    // All that was committed is files that the steps of the lines come to, behind some of them or all, in which no other file has changed.
+    // All that was committed is files that the steps of the lines come to, in their order, in which no other file has changed: of so many
+    // moments at most as there are lines.
     ensures commits { IsTrue S.tells → (way : Way) (value : QuotaValue) → ⟦<AnyFile as QuotaFile<S>>⟧.holds opened.old store.old value
-        → CommitsFrom (LineSteps way file now lines.now value) (KeepsOthers file (S.seen store.old).files)
-        (S.seen store.old).files (S.seen store.new).files (λ worlds. S.commits worlds store.old store.new) }
+        → CommitsEach (LineSteps way file now lines.now value) (KeepsOthers file (S.seen store.old).files) (S.seen store.old).files
+        (length lines.now) (λ worlds. S.commits worlds store.old store.new) }
     ensures reads { OnOk result.ended ((S.seen store.new).reads ≤ (S.seen store.old).reads + 17 * length lines.now) }
 {
     for (made, line) in lines.iter().enumerate() {

@@ -58,16 +58,16 @@ pub fn take_batch<S: Store, I: Source>(
     store: &mut S,
     input: &mut I,
 ) -> Result<Batch, Refusal>
-    ensures read { IfOk result (λ batch. IsTrue S.tells → IsTrue I.tells
+    ensures read { IfOk result (λ batch. IsTrue S.tells → (from ≡ None → IsTrue I.tells)
         → input_said from (batch_step names.now from) (S.seen store.old).files (I.seen input.old).left
         ≡ Passed (record { edits = batch.edits.items; refusal = batch.refusal })) }
     ensures ended { IfOk result (λ batch. batch.refusal ≡ None → from ≡ None → IsTrue I.tells → (I.seen input.new).left ≡ []) }
-    ensures behind { IsTrue I.tells → IsBehind (I.seen input.old).left (I.seen input.new).left }
+    ensures behind { (from ≡ None → IsTrue I.tells) → IsBehind (I.seen input.old).left (I.seen input.new).left }
     ensures untouched { IsSome from → input.new ≡ input.old }
     ensures unread { from ≡ None → store.new ≡ store.old }
     ensures may_ask { IfOk result (λ batch. IfSome batch.refusal (IsOfInputLine names.now (input_name from))) }
     ensures refused { IfErr result (λ refusal. IsInputFault (Rose (S.seen store.old).faults (S.seen store.new).faults)
-        (Rose (I.seen input.old).faults (I.seen input.new).faults) (IsTrue S.tells × IsTrue I.tells)
+        (Rose (I.seen input.old).faults (I.seen input.new).faults) (IsTrue S.tells × (from ≡ None → IsTrue I.tells))
         (input_said from (batch_step names.now from) (S.seen store.old).files (I.seen input.old).left) refusal refusal.cause) }
     ensures may { IfErr result (λ refusal. InputMayRefuse Lines from refusal.cause refusal.name) }
     ensures placed { IfErr result (λ refusal. refusal.place ≡ nowhere) }

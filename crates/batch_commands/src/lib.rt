@@ -7,6 +7,7 @@ mod batch;
 mod batch_input;
 mod batch_line;
 pub mod laws;
+mod reached_length;
 mod together;
 
 pub use batch::apply_lines;

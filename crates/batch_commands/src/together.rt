@@ -13,6 +13,9 @@ ghost use Rattle.refusals.specs.Status.{status_of};
 ghost use Rattle.run_steps.specs.Act.{Together};
 ghost use Rattle.run_steps.specs.Done.{IsUnwritten, seen_of, tells_of};
 ghost use Rattle.run_steps.specs.Carrying.{CarriesOut};
+ghost use Rattle.batch_commands.specs.AtOnce.{IsPaid, MakeTogether};
+ghost use Rattle.batch_commands.specs.FullForLines.{AllFit};
+ghost use Rattle.outside.specs.World.{World};
 ghost use Rattle.batch_commands.specs.Batch.{LineEditMayRefuse, line_uses, way_of, whole_reads};
 ghost use Rattle.batch_commands.specs.BatchReading.{LineSteps};
 ghost use Rattle.batch_commands.specs.LinesCommitted.{CommitsFrom};
@@ -21,6 +24,7 @@ ghost use Rattle.batch_commands.specs.Together.{AreNeverDone, AreNotTogether, Ha
 
 use crate::batch::{EditedLines, edit_all};
 use crate::batch_line::LineEdit;
+use crate::reached_length::{MOST_BYTES, MOST_WRITES, most_bytes, pieces};
 use file_in_memory::OneFile;
 use opened_file::{LoadFault, OpenFault, QuotaFile, ReplaceFault, load, name_of_new, replace};
 use outside::Store;
@@ -29,24 +33,6 @@ use quota_types::{Format, Kind};
 use refusals::{Cause, Refusal, Word};
 use run_steps::load_cause;
 use std::alloc::{AllocError, Global};
-
-/// How many bytes one call of `Store::write` takes.
-const PIECE: u64 = 1024;
-
-/// How many calls of `Store::write` the edit of one line makes at most.
-const MOST_WRITES: u64 = 12;
-
-/// By how many bytes a tree file grows at most where a record is put into it that was not there.
-const MOST_GROWTH: u64 = 4096;
-
-/// How many bytes a tree file of no records has: those of its header and its root, of which a file may lack the end.
-const EMPTY_TREE: u64 = 2048;
-
-/// How many bytes a record of a flat file has.
-const FLAT_RECORD: u64 = 40;
-
-/// How many bytes a file may have that is replaced.
-const MOST_BYTES: u64 = 1 << 42;
 
 /// What became of edits that were to be made together.
 #[derive(Debug, Drop)]
@@ -125,11 +111,14 @@ pub fn edit_together<S: Store>(
     ensures reads_only { IfNotMade result (λ _. IsOnlyRead true (S.seen store.old) (S.seen store.new)) }
     ensures others { ReplacesOnly file (S.seen store.old).files (S.seen store.new).files }
     ensures synced { IfEnded result (λ ended. IsTrue S.tells → Syncs (is_ok ended) (S.seen store.old) (S.seen store.new)) }
-    // All that was committed is files that the steps come to; and where they were not made, nothing was.
+    // The files of one moment were committed, to which the steps come: of the end, where all was done; and where they were not made, none.
     ensures commits { IsTrue S.tells → (value : QuotaValue) → IsView ((S.seen store.old).files file) kind format (Ok value)
-        → IfEnded result (λ _. CommitsFrom (LineSteps (way_of lines.now) file now lines.now value)
+        → IfEnded result (λ ended. CommitsFrom ⊤ (is_ok ended) (LineSteps (way_of lines.now) file now lines.now value)
         (ReplacesOnly file (S.seen store.old).files) (S.seen store.old).files (S.seen store.new).files (λ worlds. S.commits worlds store.old store.new)) }
     ensures none_committed { IfNotMade result (λ _. S.commits [] store.old store.new) }
+    // They are made wherever they are said to be made together.
+    ensures together { IfNotMade result (λ _. IsTrue S.tells → (value : QuotaValue) → IsView ((S.seen store.old).files file) kind format (Ok value)
+        → MakeTogether format file now lines.now (S.seen store.old).files value → ⊥) }
     // Where all was done, no more was read than twelve blocks a line.
     ensures reads { IfEnded result (λ ended. OnOk ended (IsTrue S.tells
         → (S.seen store.new).reads ≤ (S.seen store.old).reads + 12 * length lines.now)) }
@@ -169,6 +158,8 @@ fn read_whole<S: Store>(
     ensures reads { IsTrue S.tells → ReadsWhole (length lines.now) (length (file_of (S.seen store.old).files name.now))
         (S.seen store.old).reads (S.seen store.new).reads }
     ensures unread { IfOk result (λ found. found ≡ None → (S.seen store.new).reads ≡ (S.seen store.old).reads) }
+    ensures there { IfOk result (λ found. found ≡ None → IsTrue S.tells → (bytes : List ℕ)
+        → StandsAlone (S.seen store.old).files name.now bytes → IsPaid format lines.now (length bytes) → ⊥) }
 {
     match size_alone(alloc, name, store)? {
         Some(size) => match most_bytes(format, lines, size) {
@@ -188,6 +179,8 @@ fn size_alone<S: Store>(alloc: Global, name: &str, store: &mut S) -> Result<Opti
         → Some size ≡ option_map length ((S.seen store.old).files name.now))) }
     ensures alone { IfOk result (λ found. IfSome found (λ size. IsTrue S.tells
         → (S.seen store.old).files (replacement_name name.now) ≡ None)) }
+    ensures there { IfOk result (λ found. found ≡ None → IsTrue S.tells → (bytes : List ℕ)
+        → StandsAlone (S.seen store.old).files name.now bytes → ⊥) }
     ensures refused { IfErr result (IsLoadFault (S.seen store.old).faults (S.seen store.new).faults S.tells
         ((S.seen store.old).files name.now) (length (file_of (S.seen store.old).files name.now))) }
     ensures leaves { IsOnlyRead (is_ok result) (S.seen store.old) (S.seen store.new) }
@@ -199,60 +192,6 @@ fn size_alone<S: Store>(alloc: Global, name: &str, store: &mut S) -> Result<Opti
         Some(_) => Ok(None),
         None => Ok(store.size(name)?),
     }
-}
-
-/// How many bytes the file, which now has this many, may come to have by the edits of these lines. It is `None` where a replacement by
-/// so many takes more calls of `write` than the edits may make, or cannot be made.
-fn most_bytes(format: Option<Format>, lines: &[LineEdit], size: u64) -> Option<u64>
-    ensures few { IfSome result (λ most. pieces_of most ≤ 12 * length lines.now) }
-    ensures within { IfSome result (λ most. most ≤ 2 ^ 42) }
-    ensures reaches { IfSome result (λ most. size ≤ most) }
-    ensures grows { IfSome result (λ most. IsTrue (asks_tree format) → most ≤ size + 2048 + 4096 * length lines.now) }
-    ensures enough { IfSome result (λ most. IsTrue (asks_tree format) → size + 4096 * length lines.now ≤ most) }
-    ensures empty { IfSome result (λ most. IsTrue (asks_tree format) → 2048 + 4096 * length lines.now ≤ most) }
-    // Of a flat file it has room for the record of each line, and for no more.
-    ensures room { IfSome result (λ most. asks_tree format ≡ false → IsFlatReach size lines.now most) }
-{
-    let most = reach(format, lines, size);
-    if most <= MOST_BYTES && pieces(most) <= (lines.len() as u64).saturating_mul(MOST_WRITES) {
-        Some(most)
-    } else {
-        None
-    }
-}
-
-/// How many bytes the file may have once these lines are edited.
-fn reach(format: Option<Format>, lines: &[LineEdit], size: u64) -> u64
-    ensures reaches { size ≤ result }
-    ensures grows { IsTrue (asks_tree format) → result ≤ size + 2048 + 4096 * length lines.now }
-    ensures enough { IsTrue (asks_tree format) → result ≤ 2 ^ 42 → size + 4096 * length lines.now ≤ result }
-    ensures empty { IsTrue (asks_tree format) → result ≤ 2 ^ 42 → 2048 + 4096 * length lines.now ≤ result }
-    ensures room { asks_tree format ≡ false → IsFlatReach size lines.now result }
-{
-    match format {
-        Some(Format::V1) => flat_reach(lines, size),
-        _ => size
-            .max(EMPTY_TREE)
-            .saturating_add((lines.len() as u64).saturating_mul(MOST_GROWTH)),
-    }
-}
-
-/// How many bytes a flat file of this many may have once these lines are edited: those up to the end of its last record.
-fn flat_reach(lines: &[LineEdit], size: u64) -> u64
-    ensures { IsFlatReach size lines.now result }
-{
-    let mut most = size;
-    for line in lines {
-        most = most.max(FLAT_RECORD * (u64::from(line.id) + 1));
-    }
-    most
-}
-
-/// How many calls of `write` this many bytes take.
-fn pieces(bytes: u64) -> u64
-    ensures { result ≡ pieces_of bytes }
-{
-    bytes.div_ceil(PIECE)
 }
 
 /// Edits lines of a file that was read whole in memory, and puts the new file in its place where that pays.
@@ -280,12 +219,16 @@ fn edit_bytes<S: Store>(
     ensures synced { IfEnded result (λ ended. IsTrue S.tells → Syncs (is_ok ended) (S.seen store.old) (S.seen store.new)) }
     ensures commits { IsTrue S.tells → (others : ℕ) (value : QuotaValue) → StandsAlone (S.seen store.old).files file whole.bytes.items
         → IsView (Some whole.bytes.items) kind format (Ok value)
-        → IfEnded result (λ _. CommitsFrom (LineSteps (Together others) file now lines.now value)
+        → IfEnded result (λ ended. CommitsFrom ⊤ (is_ok ended) (LineSteps (Together others) file now lines.now value)
         (ReplacesOnly file (S.seen store.old).files) (S.seen store.old).files (S.seen store.new).files (λ worlds. S.commits worlds store.old store.new)) }
     ensures none_committed { IfNotMade result (λ _. S.commits [] store.old store.new) }
     // Where it does not pay, one of the lines is refused in every file, or they may fill this one.
     ensures never { MayPay format (length lines.now) whole → (value : QuotaValue) → IsView (Some whole.bytes.items) kind format (Ok value)
         → IfNotMade result (λ _. AreNotTogether format file now lines.now value (length whole.bytes.items)) }
+    // Where all of them fit it pays.
+    ensures fitting { MayPay format (length lines.now) whole → (others : ℕ) (value : QuotaValue) (files : World)
+        → files file ≡ Some whole.bytes.items → IsView (Some whole.bytes.items) kind format (Ok value)
+        → AllFit (Together others) file now lines.now files value → IfNotMade result (λ _. ⊥) }
     ensures reads { (S.seen store.new).reads ≡ (S.seen store.old).reads }
 {
     match edit_in_memory(alloc, kind, format, lines, file.as_str(), whole, now) {
@@ -406,7 +349,7 @@ fn put_back<S: Store>(alloc: Global, file: Word, edited: Edited, store: &mut S) 
     ensures synced { IfEnded result (λ ended. IsTrue S.tells → Syncs (is_ok ended) (S.seen store.old) (S.seen store.new)) }
     ensures commits { IsTrue S.tells → (bytes : List ℕ) (now : ℕ) (lines : List LineEdit) (value : QuotaValue) (others : ℕ)
         → StandsAlone (S.seen store.old).files file bytes → IsMadeInMemory (LineSteps (Together others) file now lines value) file bytes edited
-        → IfEnded result (λ _. CommitsFrom (LineSteps (Together others) file now lines value)
+        → IfEnded result (λ ended. CommitsFrom ⊤ (is_ok ended) (LineSteps (Together others) file now lines value)
         (ReplacesOnly file (S.seen store.old).files) (S.seen store.old).files (S.seen store.new).files (λ worlds. S.commits worlds store.old store.new)) }
     ensures none_committed { IfNotMade result (λ _. S.commits [] store.old store.new) }
     // Where it is not put there it does not pay, and a line was refused.

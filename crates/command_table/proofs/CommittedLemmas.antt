@@ -3,7 +3,7 @@ use Rattle.std.proofs.Common.{◌≡◌, Bool, IsTrue, List, [], Result, Ok, ref
 use Rattle.outside.specs.World.{World}
 use Rattle.refusals.specs.declared.reason.Refusal.{Refusal}
 use Rattle.command_words.specs.declared.command.Command.{Command}
-use Rattle.run_steps.specs.Committed.{CommitsSteps, changes_once}
+use Rattle.run_steps.specs.Committed.{CommitsSteps}
 use Rattle.run_steps.specs.Done.{Outside}
 use Rattle.run_steps.specs.declared.invocation.Invocation.{Invocation}
 use Rattle.run_steps.proofs.CommittedLemmas.{looked_committed}
@@ -18,8 +18,8 @@ pub may_itself : (command : Description) (files : World) → MayCommit command f
 may_itself command files = record { only = only_itself command files; none = λ no. refl }
 
 -- what a command commits that has these steps
-pub row_committed : (command : Description) (invocation : Invocation) (once ended : Bool) (allowed : World → Type 0) (old : Outside) (new : World) (commits : List World → Type 0)
-    → (IsTrue (changes_once command.uses) → IsTrue once) → ((world : World) → allowed world → MayCommit command old.files world)
+pub row_committed : (command : Description) (invocation : Invocation) (once : Type 0) (ended : Bool) (allowed : World → Type 0) (old : Outside) (new : World) (commits : List World → Type 0)
+    → (command.at_once invocation old → once) → ((world : World) → allowed world → MayCommit command old.files world)
     → CommitsSteps once ended (command.steps invocation) allowed old new commits → CommandCommits command invocation ended old new commits
 row_committed command invocation once ended allowed old new commits single may those = record {
   worlds = those.worlds;
@@ -33,7 +33,7 @@ row_committed command invocation once ended allowed old new commits single may t
 pub row_looked : (command : Description) (invocation : Invocation) (ended : Bool) (old : Outside) (new : World) (commits : List World → Type 0)
     → ((worlds : List World) → commits [] → commits worlds) → commits [] → new ≡ old.files → CommandCommits command invocation ended old new commits
 row_looked command invocation ended old new commits more none same =
-    looked_committed (changes_once command.uses) ended (command.steps invocation) (MayCommit command old.files) old new commits more none same (may_itself command old.files)
+    looked_committed (command.at_once invocation old) ended (command.steps invocation) (MayCommit command old.files) old new commits more none same (may_itself command old.files)
 
 -- what a command commits is committed by words that ask for it
 pub read_committed : (table : Command → Description) (command : Command) (asked : Result Command Refusal) (invocation : Invocation) (ended : Bool) (old : Outside) (new : World)

@@ -7,7 +7,7 @@ use Rattle.refusals.specs.declared.cause.Cause.{Cause}
 use Rattle.refusals.specs.declared.cause.Cause.TheVariants.{LinkFault, Memory}
 use Rattle.refusals.specs.declared.reason.Refusal.{Refusal}
 use Rattle.refusals.specs.Status.{status_of}
-use Rattle.run_steps.specs.Committed.{CommitsSteps, changes_once}
+use Rattle.run_steps.specs.Committed.{CommitsSteps}
 use Rattle.run_steps.specs.Done.{IsUnwritten, Outside, RunSeen, RunTells, outside_of}
 use Rattle.run_steps.specs.Carrying.{CarriesOut}
 use Rattle.run_steps.specs.Run.{Uses}
@@ -23,6 +23,12 @@ StopsIt cause = (status_of cause ≡ 4) ⊎ (status_of cause ≡ 5)
 pub record AreReadsTold (uses : Uses) (tells : RunTells) : Type 0 where
   pub store : IsTrue tells.store
   pub input : IsTrue uses.input → IsTrue tells.input
+
+-- What a command reads from is told: the files, and the input and the datagrams where the command uses them.
+pub record IsToldAsUsed (uses : Uses) (tells : RunTells) : Type 0 where
+  pub store : IsTrue tells.store
+  pub input : IsTrue uses.input → IsTrue tells.input
+  pub link : IsTrue uses.link → IsTrue tells.link
 
 -- A command was carried out but for its error line. Where it was refused, for whichever cause, a file that it replaces as a whole
 -- is as it was, and one that it edits is as an edit leaves it by the status of that cause; and nothing was written where there was not
@@ -46,7 +52,7 @@ pub record IsCarriedOut (command : Description) (invocation : Invocation) (tells
   pub unlinked : IsTrue tells.input → command.links old.input.left (result_err result) ≡ false → new.link ≡ old.link
 
 -- All that a command committed are files that its steps come to, in which no other file has changed than it changes, and none where it
--- changes none. One that reads neither commands nor edits commits the files of one moment alone: of the end, where it was done.
+-- changes none. Where the command changes files at one moment they are those of one moment alone: of the end, where it was done.
 abbrev pub CommandCommits : (command : Description) → Invocation → (ended : Bool) → Outside → World → (commits : List World → Type 0) → Type 0
 CommandCommits command invocation ended old new commits =
-    CommitsSteps (changes_once command.uses) ended (command.steps invocation) (MayCommit command old.files) old new commits
+    CommitsSteps (command.at_once invocation old) ended (command.steps invocation) (MayCommit command old.files) old new commits

@@ -54,6 +54,8 @@ pub record Description : Type 1 where
   pub links : List ℕ → Option Refusal → Bool
   -- conditions that make no step of it refused, whatever is chosen
   pub suffices : Invocation → Outside → Type 0
+  -- conditions with which it changes files at one moment alone, so that a stop leaves the old ones or the new ones
+  pub at_once : Invocation → Outside → Type 0
 
 -- nothing was done but that the input was read
 pub record IsOnlyRead (old new : RunSeen) : Type 0 where

@@ -20,6 +20,7 @@ use Rattle.run_steps.specs.Showing.{showing_uses}
 use Rattle.run_steps.specs.Steps.{Steps, Stop}
 use Rattle.run_steps.specs.declared.invocation.Invocation.{Invocation}
 use Rattle.edit_commands.specs.Apply.{ApplyMayRefuse, ApplySteps, apply_uses}
+use Rattle.batch_commands.specs.AtOnce.{AreMadeTogether}
 use Rattle.batch_commands.specs.Batch.{BatchMayRefuse, BatchSteps, batch_reads, batch_uses}
 use Rattle.edit_commands.specs.EditWords.{words_warn}
 use Rattle.edit_commands.specs.Edits.{EditMayRefuse, EditSteps, faulty_edit}
@@ -57,7 +58,7 @@ makes_none invocation old files = ⊤
 
 -- A row of the table, which says of a command its steps, the objects that it uses and the causes for which it may be refused, and of all
 -- else the least: it changes no file that is named, no word of it is faulty by itself, nothing bounds its calls, nothing more is known
--- or said, and no conditions are known that suffice. A command says beside it what is more.
+-- or said, no conditions are known that suffice, and files change at one moment alone. A command says beside it what is more, or else.
 abbrev pub row : (Invocation → Steps) → Uses → (Cause → List ℕ → Type 0) → Description
 row steps uses may = record {
   steps = steps;
@@ -77,6 +78,7 @@ row steps uses may = record {
   full = edits_none;
   links = links_as uses;
   suffices = λ (invocation : Invocation) (old : Outside). ⊥;
+  at_once = λ (invocation : Invocation) (old : Outside). ⊤;
 }
 
 -- the report of a file
@@ -107,6 +109,7 @@ editing_lines common input file = record (row (BatchSteps common input file) (ba
   full = λ (invocation : Invocation) (old : Outside) (files : World) (refusal : Refusal) (blocks limit : ℕ).
       (refusal.name ≡ file) × IsFullForLine common input file invocation.now old files blocks limit;
   suffices = CanEditLines common input file;
+  at_once = λ (invocation : Invocation). AreMadeTogether common input file invocation.now;
 }
 
 -- the limits of an identifier as a form

@@ -1,7 +1,7 @@
 //! The commands, behind one contract that all of them share.
 ghost use Rattle.std.specs.Prelude.{◌≡◌, false, Some, Err, is_ok};
-ghost use Rattle.run_steps.specs.Done.{IsWorldTold, outside_of, seen_of, tells_of};
-ghost use Rattle.command_table.specs.CarriedOut.{CommandCommits, IsCarriedOut};
+ghost use Rattle.run_steps.specs.Done.{outside_of, seen_of, tells_of};
+ghost use Rattle.command_table.specs.CarriedOut.{CommandCommits, IsCarriedOut, IsToldAsUsed};
 ghost use Rattle.command_table.specs.Table.{described};
 ghost use Rattle.refusals.specs.declared.reason.Refusal.{Refusal};
 
@@ -46,8 +46,8 @@ pub fn carry_out<S: Store, I: Source, O: Sink, E: Sink, L: Link>(
     ensures link { (described command).uses.link ≡ false → link.new ≡ link.old }
     ensures source { I.keeps false input.old input.new }
     // All that is committed are files that its steps come to, in which no other file has changed than the command changes; and where it
-    // reads neither commands nor edits, those of one moment alone: of the end, where it was done.
-    ensures commits { IsWorldTold (tells_of S.tells I.tells O.tells E.tells L.tells)
+    // changes files at one moment, those of one moment alone: of the end, where it was done.
+    ensures commits { IsToldAsUsed (described command).uses (tells_of S.tells I.tells O.tells E.tells L.tells)
         → CommandCommits (described command) invocation (is_ok result)
         (outside_of (seen_of (S.seen store.old) (I.seen input.old) (O.seen out.old) (E.seen err.old) (L.seen link.old)))
         (S.seen store.new).files (λ worlds. S.commits worlds store.old store.new) }

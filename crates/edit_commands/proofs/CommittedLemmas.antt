@@ -1,5 +1,6 @@
 -- What an edit of a file commits, by words or by a form: the files of one moment, to which its steps come.
 use Rattle.std.proofs.Common.{◌≡◌, ⊎_elim, ℕ, Bool, true, false, List, [], ◌∷◌, ◌++◌, Option, Ok, refl, subst}
+use Rattle.std.specs.Prelude.{⊤}
 use Rattle.std.proofs.lemmas.Bool.{false≢true}
 use Rattle.quota_types.specs.declared.file_kind.Format.{Format}
 use Rattle.quota_types.specs.declared.file_kind.Kind.{Kind}
@@ -52,33 +53,33 @@ comes_stepped kind asked edit file invocation old middle new value same view ste
 
 -- nothing, where the store was only read
 pub read_committed : (steps : Steps) (file : List ℕ) (old : Outside) (new : World) (commits : List World → Type 0) → ((worlds : List World) → commits [] → commits worlds)
-    → commits [] → new ≡ old.files → CommitsSteps true false steps (KeepsOthers file old.files) old new commits
-read_committed steps file old new commits more none same = looked_committed true false steps (KeepsOthers file old.files) old new commits more none same (λ other apart. refl)
+    → commits [] → new ≡ old.files → CommitsSteps ⊤ false steps (KeepsOthers file old.files) old new commits
+read_committed steps file old new commits more none same = looked_committed ⊤ false steps (KeepsOthers file old.files) old new commits more none same (λ other apart. refl)
 
 -- the files of the end, to which the steps of an edit come that was made
 pub made_committed : (ended : Bool) (steps : Steps) (file : List ℕ) (old : Outside) (new : World) (commits : List World → Type 0) (whole : Type 0)
     → ((worlds : List World) → commits [] → commits worlds) → CommitsOnce commits whole new → ComesTo steps old new → KeepsOthers file old.files new
-    → CommitsSteps true ended steps (KeepsOthers file old.files) old new commits
+    → CommitsSteps ⊤ ended steps (KeepsOthers file old.files) old new commits
 made_committed ended steps file old new commits whole more once to may =
-    one_committed true ended steps (KeepsOthers file old.files) old new new commits (⊎_elim (λ none. more (new ∷ []) none) (λ one. one.0) once) to may (λ well. refl)
+    one_committed ⊤ ended steps (KeepsOthers file old.files) old new new commits (⊎_elim (λ none. more (new ∷ []) none) (λ one. one.0) once) to may (λ well. refl)
 
 -- those of the end, to which the steps of an edit come that was refused but for what it committed, or those of the start
 pub refused_committed : (steps : Steps) (file : List ℕ) (old : Outside) (new : World) (commits : List World → Type 0) (whole : Type 0) → ((worlds : List World) → commits [] → commits worlds)
-    → CommitsOnce commits whole new → (whole → ComesTo steps old new) → KeepsOthers file old.files new → CommitsSteps true false steps (KeepsOthers file old.files) old new commits
+    → CommitsOnce commits whole new → (whole → ComesTo steps old new) → KeepsOthers file old.files new → CommitsSteps ⊤ false steps (KeepsOthers file old.files) old new commits
 refused_committed steps file old new commits whole more once to may =
     ⊎_elim
-    (λ none. one_committed true false steps (KeepsOthers file old.files) old new old.files commits (more (old.files ∷ []) none) (comes_first steps old) (λ other apart. refl)
+    (λ none. one_committed ⊤ false steps (KeepsOthers file old.files) old new old.files commits (more (old.files ∷ []) none) (comes_first steps old) (λ other apart. refl)
     (λ well. absurd (false≢true well)))
-    (λ one. one_committed true false steps (KeepsOthers file old.files) old new new commits one.0 (to one.1) may (λ well. refl))
+    (λ one. one_committed ⊤ false steps (KeepsOthers file old.files) old new new commits one.0 (to one.1) may (λ well. refl))
     once
 
 -- what comes behind steps that only looked is committed by all of them
 pub committed_since : (ended : Bool) (next steps : Steps) (file : List ℕ) (old middle new : World) (input left : List ℕ) (datagrams : List Datagram) (latter commits : List World → Type 0)
     → middle ≡ old → ((worlds : List World) → latter worlds → commits worlds)
     → ((world : World) → ComesTo next (record { files = old; input = left; datagrams = datagrams }) world → ComesTo steps (record { files = old; input = input; datagrams = datagrams }) world)
-    → CommitsSteps true ended next (KeepsOthers file middle) (record { files = middle; input = left; datagrams = datagrams }) new latter
-    → CommitsSteps true ended steps (KeepsOthers file old) (record { files = old; input = input; datagrams = datagrams }) new commits
+    → CommitsSteps ⊤ ended next (KeepsOthers file middle) (record { files = middle; input = left; datagrams = datagrams }) new latter
+    → CommitsSteps ⊤ ended steps (KeepsOthers file old) (record { files = old; input = input; datagrams = datagrams }) new commits
 committed_since ended next steps file old middle new input left datagrams latter commits same more comes those =
-    committed_within true ended next steps (KeepsOthers file old) (KeepsOthers file old) (record { files = old; input = left; datagrams = datagrams })
-    (record { files = old; input = input; datagrams = datagrams }) new latter commits more comes (λ world may. may)
-    (subst (λ (files : World). CommitsSteps true ended next (KeepsOthers file files) (record { files = files; input = left; datagrams = datagrams }) new latter) same those)
+    committed_within ⊤ ⊤ ended ended next steps (KeepsOthers file old) (KeepsOthers file old) (record { files = old; input = left; datagrams = datagrams })
+    (record { files = old; input = input; datagrams = datagrams }) new latter commits (λ single. single) (λ well. well) more comes (λ world may. may)
+    (subst (λ (files : World). CommitsSteps ⊤ ended next (KeepsOthers file files) (record { files = files; input = left; datagrams = datagrams }) new latter) same those)

@@ -1,4 +1,4 @@
-ghost use Rattle.std.specs.Prelude.{ℕ, List, Option, ◌≡◌, Bool, false, true, Err, IfErr, IsSome, IsTrue, Some, is_ok};
+ghost use Rattle.std.specs.Prelude.{ℕ, List, Option, ◌≡◌, Bool, false, true, Err, IfErr, IsSome, IsTrue, Some, is_ok, None, ⊤};
 ghost use Rattle.outside.specs.ManyCalls.{Syncs};
 ghost use Rattle.outside.specs.Seen.{Datagram, LinkSeen, SinkSeen};
 ghost use Rattle.outside.specs.World.{KeepsOthers};
@@ -57,8 +57,8 @@ pub fn apply_by_word<S: Store, I: Source, E: Sink>(
     // What was written has been synced where it was done, and where it was not too, unless a call on the store failed.
     ensures synced { IsTrue S.tells → Syncs (is_ok result) (S.seen store.old) (S.seen store.new) }
     // All that is committed are the files of one moment, to which its steps come, and which are those of the end where it was done.
-    ensures commits { (datagrams : List Datagram) → IsTrue S.tells → IsTrue I.tells
-        → CommitsSteps true (is_ok result) (ApplySteps common from word file invocation)
+    ensures commits { (datagrams : List Datagram) → IsTrue S.tells → (from ≡ None → IsTrue I.tells)
+        → CommitsSteps ⊤ (is_ok result) (ApplySteps common from word file invocation)
         (KeepsOthers file (S.seen store.old).files)
         (record { files = (S.seen store.old).files; input = (I.seen input.old).left; datagrams = datagrams }) (S.seen store.new).files
         (λ worlds. S.commits worlds store.old store.new) }
@@ -105,8 +105,8 @@ fn apply_named<S: Store, I: Source, E: Sink>(
         → IsLeftFor refusal.cause ((S.seen store.old).files file) ((S.seen store.new).files file)) }
     ensures alone { EditsAlone file (S.seen store.old) (S.seen store.new) }
     ensures synced { IsTrue S.tells → Syncs (is_ok result) (S.seen store.old) (S.seen store.new) }
-    ensures commits { (datagrams : List Datagram) → IsTrue S.tells → IsTrue I.tells
-        → CommitsSteps true (is_ok result) (Then (identifier_of names.now word) (λ (id : ℕ). FormSteps kind format names.now from id file invocation))
+    ensures commits { (datagrams : List Datagram) → IsTrue S.tells → (from ≡ None → IsTrue I.tells)
+        → CommitsSteps ⊤ (is_ok result) (Then (identifier_of names.now word) (λ (id : ℕ). FormSteps kind format names.now from id file invocation))
         (KeepsOthers file (S.seen store.old).files)
         (record { files = (S.seen store.old).files; input = (I.seen input.old).left; datagrams = datagrams }) (S.seen store.new).files
         (λ worlds. S.commits worlds store.old store.new) }
@@ -145,8 +145,8 @@ fn apply_form<S: Store, I: Source, E: Sink>(
         → IsLeftFor refusal.cause ((S.seen store.old).files file) ((S.seen store.new).files file)) }
     ensures alone { EditsAlone file (S.seen store.old) (S.seen store.new) }
     ensures synced { IsTrue S.tells → Syncs (is_ok result) (S.seen store.old) (S.seen store.new) }
-    ensures commits { (datagrams : List Datagram) → IsTrue S.tells → IsTrue I.tells
-        → CommitsSteps true (is_ok result) (FormSteps kind format names.now from id file invocation)
+    ensures commits { (datagrams : List Datagram) → IsTrue S.tells → (from ≡ None → IsTrue I.tells)
+        → CommitsSteps ⊤ (is_ok result) (FormSteps kind format names.now from id file invocation)
         (KeepsOthers file (S.seen store.old).files)
         (record { files = (S.seen store.old).files; input = (I.seen input.old).left; datagrams = datagrams }) (S.seen store.new).files
         (λ worlds. S.commits worlds store.old store.new) }

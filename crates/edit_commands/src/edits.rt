@@ -1,4 +1,4 @@
-ghost use Rattle.std.specs.Prelude.{ℕ, List, Option, ◌≡◌, Bool, Err, IfErr, IfOk, IsTrue, OnOk, Some, false, true, is_ok};
+ghost use Rattle.std.specs.Prelude.{ℕ, List, Option, ◌≡◌, Bool, Err, IfErr, IfOk, IsTrue, OnOk, Some, false, true, is_ok, ⊤};
 ghost use Rattle.outside.specs.ManyCalls.{Syncs};
 ghost use Rattle.quota_value.specs.QuotaValue.{QuotaValue};
 ghost use Rattle.outside.specs.Seen.{Datagram, LinkSeen, SinkSeen, SourceSeen};
@@ -72,7 +72,7 @@ pub fn edit_by_words<S: Store, E: Sink>(
     ensures synced { IsTrue S.tells → Syncs (is_ok result) (S.seen store.old) (S.seen store.new) }
     // All that is committed are the files of one moment, to which its steps come, and which are those of the end where it was done.
     ensures commits { (input : List ℕ) (datagrams : List Datagram) → IsTrue S.tells
-        → CommitsSteps true (is_ok result) (EditSteps common words file invocation)
+        → CommitsSteps ⊤ (is_ok result) (EditSteps common words file invocation)
         (KeepsOthers file (S.seen store.old).files)
         (record { files = (S.seen store.old).files; input = input; datagrams = datagrams }) (S.seen store.new).files
         (λ worlds. S.commits worlds store.old store.new) }
@@ -120,7 +120,7 @@ fn edit_named<S: Store, E: Sink>(
         → MakesNamed names.now kind format words file invocation.now (S.seen store.old).files (S.seen store.new).files) }
     ensures synced { IsTrue S.tells → Syncs (is_ok result) (S.seen store.old) (S.seen store.new) }
     ensures commits { (input : List ℕ) (datagrams : List Datagram) → IsTrue S.tells
-        → CommitsSteps true (is_ok result) (Then (edit_read names.now words) (λ (edit : FileEditOf). FileEditSteps kind format edit file invocation))
+        → CommitsSteps ⊤ (is_ok result) (Then (edit_read names.now words) (λ (edit : FileEditOf). FileEditSteps kind format edit file invocation))
         (KeepsOthers file (S.seen store.old).files)
         (record { files = (S.seen store.old).files; input = input; datagrams = datagrams }) (S.seen store.new).files
         (λ worlds. S.commits worlds store.old store.new) }
@@ -159,7 +159,7 @@ pub fn edit_file<S: Store, E: Sink>(
         → MakesEdit kind format (edit_meant edit.now invocation.now) file (S.seen store.old).files (S.seen store.new).files) }
     ensures synced { IsTrue S.tells → Syncs (is_ok result) (S.seen store.old) (S.seen store.new) }
     ensures commits { (input : List ℕ) (datagrams : List Datagram) → IsTrue S.tells
-        → CommitsSteps true (is_ok result) (FileEditSteps kind format edit.now file invocation)
+        → CommitsSteps ⊤ (is_ok result) (FileEditSteps kind format edit.now file invocation)
         (KeepsOthers file (S.seen store.old).files)
         (record { files = (S.seen store.old).files; input = input; datagrams = datagrams }) (S.seen store.new).files
         (λ worlds. S.commits worlds store.old store.new) }

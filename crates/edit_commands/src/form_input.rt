@@ -39,13 +39,13 @@ pub fn take_form<S: Store, I: Source>(
     store: &mut S,
     input: &mut I,
 ) -> Result<Limits, Refusal>
-    ensures read { IfOk result (λ limits. IsTrue S.tells → IsTrue I.tells
+    ensures read { IfOk result (λ limits. IsTrue S.tells → (from ≡ None → IsTrue I.tells)
         → input_said from (form_step kind names.now file.now id from) (S.seen store.old).files (I.seen input.old).left ≡ Passed limits) }
     ensures ended { OnOk result (from ≡ None → IsTrue I.tells → (I.seen input.new).left ≡ []) }
-    ensures behind { IsTrue I.tells → IsBehind (I.seen input.old).left (I.seen input.new).left }
+    ensures behind { (from ≡ None → IsTrue I.tells) → IsBehind (I.seen input.old).left (I.seen input.new).left }
     ensures untouched { IsSome from → input.new ≡ input.old }
     ensures refused { IfErr result (λ refusal. IsInputFault (Rose (S.seen store.old).faults (S.seen store.new).faults)
-        (Rose (I.seen input.old).faults (I.seen input.new).faults) (IsTrue S.tells × IsTrue I.tells)
+        (Rose (I.seen input.old).faults (I.seen input.new).faults) (IsTrue S.tells × (from ≡ None → IsTrue I.tells))
         (input_said from (form_step kind names.now file.now id from) (S.seen store.old).files (I.seen input.old).left) refusal refusal.cause) }
     ensures may { IfErr result (λ refusal. FormMayRefuse from refusal.cause refusal.name) }
     ensures placed { IfErr result (λ refusal. refusal.place ≡ nowhere) }

@@ -1,5 +1,6 @@
 -- What the commands over whole files commit: files at one moment, to which their steps come.
 use Rattle.std.proofs.Common.{◌≡◌, ◌≤◌, ℕ, Bool, true, false, IsTrue, List, [], ◌∷◌, Option, None, Some, Ok, ⊎_elim, refl, sym, subst, arith}
+use Rattle.std.specs.Prelude.{⊤}
 use Rattle.std.proofs.lemmas.Bool.{false≢true}
 use Rattle.quota_types.specs.declared.file_kind.Format.{Format}
 use Rattle.quota_types.specs.declared.file_kind.Kind.{Kind}
@@ -69,29 +70,29 @@ built_seen value list bytes file old is stands =
 
 -- where nothing was, it is the files of the end, if it ended well, and otherwise those of the start
 none_committed : (ended : Bool) (steps : Steps) (name : List ℕ) (old : Outside) (new : World) (commits : List World → Type 0) → ((worlds : List World) → commits [] → commits worlds)
-    → (IsTrue ended → ComesTo steps old new) → ReplacesOnly name old.files new → commits [] → CommitsSteps true ended steps (ReplacesOnly name old.files) old new commits
+    → (IsTrue ended → ComesTo steps old new) → ReplacesOnly name old.files new → commits [] → CommitsSteps ⊤ ended steps (ReplacesOnly name old.files) old new commits
 none_committed true steps name old new commits more last only none =
-    one_committed true true steps (ReplacesOnly name old.files) old new new commits (more (new ∷ []) none) (last refl) only (λ well. refl)
+    one_committed ⊤ true steps (ReplacesOnly name old.files) old new new commits (more (new ∷ []) none) (last refl) only (λ well. refl)
 none_committed false steps name old new commits more last only none =
-    one_committed true false steps (ReplacesOnly name old.files) old new old.files commits (more (old.files ∷ []) none) (comes_first steps old) (λ other differ differs. refl)
+    one_committed ⊤ false steps (ReplacesOnly name old.files) old new old.files commits (more (old.files ∷ []) none) (comes_first steps old) (λ other differ differs. refl)
     (λ well. absurd (false≢true well))
 
 -- where steps come to the files with a new one in the place of another, and it was at most that one which was committed
 pub replaced_committed : (ended : Bool) (steps : Steps) (name : List ℕ) (stands : List ℕ → Type 0) (old : Outside) (new : World) (commits : List World → Type 0)
     → ((worlds : List World) → commits [] → commits worlds) → ((bytes : List ℕ) → stands bytes → ComesTo steps old (replaced_files old.files name bytes))
     → (IsTrue ended → ComesTo steps old new) → ReplacesOnly name old.files new
-    → CommitsReplaced ended name stands old.files new commits → CommitsSteps true ended steps (ReplacesOnly name old.files) old new commits
+    → CommitsReplaced ended name stands old.files new commits → CommitsSteps ⊤ ended steps (ReplacesOnly name old.files) old new commits
 replaced_committed ended steps name stands old new commits more comes last only committed =
     ⊎_elim
     (λ none. none_committed ended steps name old new commits more last only none)
-    (λ once. one_committed true ended steps (ReplacesOnly name old.files) old new (replaced_files old.files name once.bytes) commits once.commits_it (comes once.bytes once.stands_so)
+    (λ once. one_committed ⊤ ended steps (ReplacesOnly name old.files) old new (replaced_files old.files name once.bytes) commits once.commits_it (comes once.bytes once.stands_so)
     (replaced-only old.files name once.bytes) (λ well. sym (once.told well)))
     committed
 
 -- what steps commit behind others that only looked is committed by all of them
 pub committed_since : (ended : Bool) (next steps : Steps) (file : List ℕ) (start old : Outside) (new : World) (commits wide : List World → Type 0) → start.files ≡ old.files
     → ((worlds : List World) → commits worlds → wide worlds) → ((world : World) → ComesTo next (record start { files = old.files }) world → ComesTo steps old world)
-    → CommitsSteps true ended next (ReplacesOnly file start.files) start new commits → CommitsSteps true ended steps (ReplacesOnly file old.files) old new wide
+    → CommitsSteps ⊤ ended next (ReplacesOnly file start.files) start new commits → CommitsSteps ⊤ ended steps (ReplacesOnly file old.files) old new wide
 committed_since ended next steps file start old new commits wide same more comes those =
-    committed_within true ended next steps (ReplacesOnly file old.files) (ReplacesOnly file old.files) (record start { files = old.files }) old new commits wide more comes (λ world may. may)
-    (subst (λ (files : World). CommitsSteps true ended next (ReplacesOnly file files) (record start { files = files }) new commits) same those)
+    committed_within ⊤ ⊤ ended ended next steps (ReplacesOnly file old.files) (ReplacesOnly file old.files) (record start { files = old.files }) old new commits wide (λ single. single) (λ well. well) more comes (λ world may. may)
+    (subst (λ (files : World). CommitsSteps ⊤ ended next (ReplacesOnly file files) (record start { files = files }) new commits) same those)

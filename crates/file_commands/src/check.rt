@@ -1,4 +1,4 @@
-ghost use Rattle.std.specs.Prelude.{ℕ, List, Option, ◌≡◌, ◌⊎◌, Bool, IsSome, IsTrue, OnErr, OnOk, true, false, is_ok};
+ghost use Rattle.std.specs.Prelude.{ℕ, List, Option, ◌≡◌, ◌⊎◌, Bool, IsSome, IsTrue, OnErr, OnOk, true, false, is_ok, None, ⊤};
 ghost use Rattle.outside.specs.ManyCalls.{Syncs};
 ghost use Rattle.outside.specs.Replacement.{ReplacesOnly};
 ghost use Rattle.outside.specs.Seen.{Datagram, LinkSeen, SinkSeen, SourceSeen};
@@ -57,8 +57,8 @@ pub fn check_file<S: Store, I: Source>(
     // What was written has been synced where it was done, and where it was not too, unless a call on the store failed.
     ensures synced { IsTrue S.tells → Syncs (is_ok result) (S.seen store.old) (S.seen store.new) }
     // What is committed are the files at one moment, to which its steps come: with the new one, where it was made.
-    ensures commits { (datagrams : List Datagram) (line : Option ℕ) → IsTrue S.tells → IsTrue I.tells
-        → CommitsSteps true (is_ok result) (CheckSteps common fresh device from file (record { now = now; line = line }))
+    ensures commits { (datagrams : List Datagram) (line : Option ℕ) → IsTrue S.tells → (from ≡ None → IsTrue I.tells)
+        → CommitsSteps ⊤ (is_ok result) (CheckSteps common fresh device from file (record { now = now; line = line }))
         (ReplacesOnly file (S.seen store.old).files)
         (record { files = (S.seen store.old).files; input = (I.seen input.old).left; datagrams = datagrams })
         (S.seen store.new).files (λ worlds. S.commits worlds store.old store.new) }
@@ -97,8 +97,8 @@ fn check_opened<S: Store, I: Source>(
     ensures named { OnErr result ((S.seen store.new).files file ≡ (S.seen store.old).files file) }
     ensures others { ReplacesOnly file (S.seen store.old).files (S.seen store.new).files }
     ensures synced { IsTrue S.tells → Syncs (is_ok result) (S.seen store.old) (S.seen store.new) }
-    ensures commits { (datagrams : List Datagram) → IsTrue S.tells → IsTrue I.tells
-        → CommitsSteps true (is_ok result) (Opening kind format file (UsageSteps kind device from file now))
+    ensures commits { (datagrams : List Datagram) → IsTrue S.tells → (from ≡ None → IsTrue I.tells)
+        → CommitsSteps ⊤ (is_ok result) (Opening kind format file (UsageSteps kind device from file now))
         (ReplacesOnly file (S.seen store.old).files)
         (record { files = (S.seen store.old).files; input = (I.seen input.old).left; datagrams = datagrams })
         (S.seen store.new).files (λ worlds. S.commits worlds store.old store.new) }
@@ -137,8 +137,8 @@ fn check_value<S: Store, I: Source>(
     ensures named { OnErr result ((S.seen store.new).files file ≡ (S.seen store.old).files file) }
     ensures others { ReplacesOnly file (S.seen store.old).files (S.seen store.new).files }
     ensures synced { IsTrue S.tells → Syncs (is_ok result) (S.seen store.old) (S.seen store.new) }
-    ensures commits { (datagrams : List Datagram) → IsTrue S.tells → IsTrue I.tells
-        → CommitsSteps true (is_ok result) (UsageSteps value.kind device from file now (value_in value))
+    ensures commits { (datagrams : List Datagram) → IsTrue S.tells → (from ≡ None → IsTrue I.tells)
+        → CommitsSteps ⊤ (is_ok result) (UsageSteps value.kind device from file now (value_in value))
         (ReplacesOnly file (S.seen store.old).files)
         (record { files = (S.seen store.old).files; input = (I.seen input.old).left; datagrams = datagrams })
         (S.seen store.new).files (λ worlds. S.commits worlds store.old store.new) }
@@ -173,7 +173,7 @@ fn replace_usage<S: Store>(
     ensures others { ReplacesOnly file (S.seen store.old).files (S.seen store.new).files }
     ensures synced { IsTrue S.tells → Syncs (is_ok result) (S.seen store.old) (S.seen store.new) }
     ensures commits { (input : List ℕ) (datagrams : List Datagram) → IsTrue S.tells
-        → CommitsSteps true (is_ok result) (ReplaceSteps file (checked (value_in value) usage now)) (ReplacesOnly file (S.seen store.old).files)
+        → CommitsSteps ⊤ (is_ok result) (ReplaceSteps file (checked (value_in value) usage now)) (ReplacesOnly file (S.seen store.old).files)
         (record { files = (S.seen store.old).files; input = input; datagrams = datagrams }) (S.seen store.new).files
         (λ worlds. S.commits worlds store.old store.new) }
 {

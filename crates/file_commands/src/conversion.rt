@@ -1,4 +1,4 @@
-ghost use Rattle.std.specs.Prelude.{◌≡◌, ◌≢◌, ℕ, Bool, IsTrue, List, OnErr, OnOk, true, false, is_ok};
+ghost use Rattle.std.specs.Prelude.{◌≡◌, ◌≢◌, ℕ, Bool, IsTrue, List, OnErr, OnOk, true, false, is_ok, ⊤};
 ghost use Rattle.outside.specs.ManyCalls.{Syncs};
 ghost use Rattle.outside.specs.Replacement.{ReplacesOnly, replacement_name};
 ghost use Rattle.outside.specs.Seen.{Datagram, LinkSeen, SinkSeen, SourceSeen};
@@ -54,7 +54,7 @@ pub fn convert_file<S: Store>(
     ensures synced { IsTrue S.tells → Syncs (is_ok result) (S.seen store.old) (S.seen store.new) }
     // What is committed are the files at one moment, to which its steps come: with the new one, where it was made.
     ensures commits { (input : List ℕ) (datagrams : List Datagram) (invocation : Invocation) → IsTrue S.tells
-        → CommitsSteps true (is_ok result) (ConvertSteps kind old new source target invocation)
+        → CommitsSteps ⊤ (is_ok result) (ConvertSteps kind old new source target invocation)
         (ReplacesOnly target (S.seen store.old).files)
         (record { files = (S.seen store.old).files; input = input; datagrams = datagrams }) (S.seen store.new).files
         (λ worlds. S.commits worlds store.old store.new) }

@@ -1,4 +1,4 @@
-ghost use Rattle.std.specs.Prelude.{◌≡◌, ℕ, List, [], Bool, IfErr, IfOk, IfSome, IsTrue, Ok, OnErr, OnOk, true, false, is_ok};
+ghost use Rattle.std.specs.Prelude.{◌≡◌, ℕ, List, [], Bool, IfErr, IfOk, IfSome, IsTrue, Ok, OnErr, OnOk, true, false, is_ok, ⊤};
 ghost use Rattle.outside.specs.Frame.{OnlyReads};
 ghost use Rattle.outside.specs.ManyCalls.{Syncs};
 ghost use Rattle.quota_value.specs.QuotaValue.{QuotaValue};
@@ -124,7 +124,7 @@ pub fn write_value<S: Store>(
     ensures synced { IsTrue S.tells → Syncs (is_ok result) (S.seen store.old) (S.seen store.new) }
     // What is committed are the files at one moment, to which its steps come: with the new one, where it was made.
     ensures commits { (input : List ℕ) (datagrams : List Datagram) → IsTrue S.tells
-        → CommitsSteps true (is_ok result) (ReplaceSteps file (Ok (value_in value.now))) (ReplacesOnly file (S.seen store.old).files)
+        → CommitsSteps ⊤ (is_ok result) (ReplaceSteps file (Ok (value_in value.now))) (ReplacesOnly file (S.seen store.old).files)
         (record { files = (S.seen store.old).files; input = input; datagrams = datagrams }) (S.seen store.new).files
         (λ worlds. S.commits worlds store.old store.new) }
 {

@@ -1,4 +1,4 @@
-ghost use Rattle.std.specs.Prelude.{◌≡◌, ◌+◌, ◌≤◌, ◌++◌, [], ℕ, List, None, Ok, Bool, true, IfErr, IfOk, IsTrue, decimal, length, sum_by, is_ok};
+ghost use Rattle.std.specs.Prelude.{◌≡◌, ◌+◌, ◌≤◌, ◌++◌, [], ℕ, List, None, Ok, Bool, true, IfErr, IfOk, IsTrue, decimal, length, sum_by, is_ok, ⊤};
 ghost use Rattle.std.specs.List.Sorted.{IsStrictlyIncreasing};
 ghost use Rattle.quota_types.specs.Rec.{kib_of};
 ghost use Rattle.quota_types.specs.declared.file_kind.Format.TheVariants.{V2R1};
@@ -69,7 +69,7 @@ pub fn generate_file<S: Store, O: Sink>(
     ensures synced { IsTrue S.tells → Syncs (is_ok result) (S.seen store.old) (S.seen store.new) }
     // What is committed are the files at one moment, to which its steps come: behind the replacement, where it was made.
     ensures commits { (input : List ℕ) (datagrams : List Datagram) → IsTrue S.tells
-        → CommitsSteps true (is_ok result) (GenerateSteps seed count file now) (ReplacesOnly file (S.seen store.old).files)
+        → CommitsSteps ⊤ (is_ok result) (GenerateSteps seed count file now) (ReplacesOnly file (S.seen store.old).files)
         (record { files = (S.seen store.old).files; input = input; datagrams = datagrams }) (S.seen store.new).files
         (λ worlds. S.commits worlds store.old store.new) }
 {
@@ -131,7 +131,7 @@ fn write_made<S: Store, O: Sink>(
     ensures others { ReplacesOnly file (S.seen store.old).files (S.seen store.new).files }
     ensures synced { IsTrue S.tells → Syncs (is_ok result) (S.seen store.old) (S.seen store.new) }
     ensures commits { (input : List ℕ) (datagrams : List Datagram) → IsTrue S.tells
-        → CommitsSteps true (is_ok result) (WrittenSteps count file now (value_in value.now)) (ReplacesOnly file (S.seen store.old).files)
+        → CommitsSteps ⊤ (is_ok result) (WrittenSteps count file now (value_in value.now)) (ReplacesOnly file (S.seen store.old).files)
         (record { files = (S.seen store.old).files; input = input; datagrams = datagrams }) (S.seen store.new).files
         (λ worlds. S.commits worlds store.old store.new) }
 {

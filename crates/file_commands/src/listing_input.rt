@@ -32,13 +32,13 @@ pub fn take_usage<S: Store, I: Source>(
     store: &mut S,
     input: &mut I,
 ) -> Result<Usage, Refusal>
-    ensures read { IfOk result (λ usage. IsTrue S.tells → IsTrue I.tells
+    ensures read { IfOk result (λ usage. IsTrue S.tells → (from ≡ None → IsTrue I.tells)
         → input_said from (scan_step kind device from) (S.seen store.old).files (I.seen input.old).left ≡ Passed usage) }
     ensures ended { OnOk result (from ≡ None → IsTrue I.tells → (I.seen input.new).left ≡ []) }
-    ensures behind { IsTrue I.tells → IsBehind (I.seen input.old).left (I.seen input.new).left }
+    ensures behind { (from ≡ None → IsTrue I.tells) → IsBehind (I.seen input.old).left (I.seen input.new).left }
     ensures untouched { IsSome from → input.new ≡ input.old }
     ensures refused { IfErr result (λ refusal. IsInputFault (Rose (S.seen store.old).faults (S.seen store.new).faults)
-        (Rose (I.seen input.old).faults (I.seen input.new).faults) (IsTrue S.tells × IsTrue I.tells)
+        (Rose (I.seen input.old).faults (I.seen input.new).faults) (IsTrue S.tells × (from ≡ None → IsTrue I.tells))
         (input_said from (scan_step kind device from) (S.seen store.old).files (I.seen input.old).left) refusal refusal.cause) }
     ensures may { IfErr result (λ refusal. InputMayRefuse AListing from refusal.cause refusal.name) }
     ensures placed { IfErr result (λ refusal. refusal.place ≡ nowhere) }

@@ -30,7 +30,7 @@ Any world = ⊤
 
 -- what a command commits that stands in a line of a script
 pub line_committed : (now : ℕ) (line : LineSaid) (ended again : Bool) (old : Outside) (new : World) (commits : List World → Type 0)
-    → CommandCommits (asked_in_script line.text) (line_invocation now line) ended old new commits → CommitsSteps false again (LineSteps now line) Any old new commits
+    → CommandCommits (asked_in_script line.text) (line_invocation now line) ended old new commits → CommitsSteps ⊥ again (LineSteps now line) Any old new commits
 line_committed now line ended again old new commits those =
     let steps = (asked_in_script line.text).steps (line_invocation now line) in
     record {
@@ -38,7 +38,7 @@ line_committed now line ended again old new commits those =
       commits_them = those.commits_them;
       reached = All-weaker (ComesTo steps old) (ComesTo (LineSteps now line) old) (λ world to. comes_in_line line.number steps old world to) those.worlds those.reached;
       within = All-weaker (MayCommit (asked_in_script line.text) old.files) Any (λ world may. tt) those.worlds those.within;
-      one = λ single. absurd (false≢true single);
+      one = λ single. absurd single;
     }
 
 -- what the words of a line commit, whatever is said of memory
@@ -55,20 +55,20 @@ text_committed text invocation ended old new commits those = record {
 
 -- where several moments may be committed nothing is said of the end
 pub ended_again : (ended again : Bool) (steps : Steps) (allowed : World → Type 0) (old : Outside) (new : World) (commits : List World → Type 0)
-    → CommitsSteps false ended steps allowed old new commits → CommitsSteps false again steps allowed old new commits
+    → CommitsSteps ⊥ ended steps allowed old new commits → CommitsSteps ⊥ again steps allowed old new commits
 ended_again ended again steps allowed old new commits those = record {
   worlds = those.worlds;
   commits_them = those.commits_them;
   reached = those.reached;
   within = those.within;
-  one = λ single. absurd (false≢true single);
+  one = λ single. absurd single;
 }
 
 -- what lines commit up to one, and this one behind them, where what comes of it comes of all of them
 pub lines_committed : (now : ℕ) (line : LineSaid) (rest : List LineSaid) (refusal : Option Refusal) (whole : Steps) (ended first again : Bool) (start old : Outside) (between new : World)
     (former latter commits : List World → Type 0) → ((one two : List World) → former one → latter two → commits (one ++ two))
     → ((world : World) → ComesTo (LinesSteps now (line ∷ rest) refusal) old world → ComesTo whole start world)
-    → CommitsSteps false first whole Any start between former → CommitsSteps false ended (LineSteps now line) Any old new latter → CommitsSteps false again whole Any start new commits
+    → CommitsSteps ⊥ first whole Any start between former → CommitsSteps ⊥ ended (LineSteps now line) Any old new latter → CommitsSteps ⊥ again whole Any start new commits
 lines_committed now line rest refusal whole ended first again start old between new former latter commits on onward those these =
     committed_on again first whole (LineSteps now line) whole Any start old start between new former latter commits on (λ world to. to)
     (λ world to. onward world (comes_before (LineSteps now line) (LinesSteps now rest refusal) old world to)) those (ended_again ended again _ _ _ _ _ these)
@@ -83,20 +83,20 @@ lines_onward now line rest refusal whole start old middle acts ends onward world
 -- what the lines of a script commit that was read
 pub script_committed : (invocation : Invocation) (said : ScriptSaid) (ended : Bool) (old : Outside) (left : List ℕ) (new : World) (commits : List World → Type 0)
     → script_said old.input ≡ said → IsTaken (is_none said.refusal) old.input left
-    → CommitsSteps false ended (LinesSteps invocation.now said.lines said.refusal) Any (record old { input = left }) new commits
+    → CommitsSteps ⊥ ended (LinesSteps invocation.now said.lines said.refusal) Any (record old { input = left }) new commits
     → CommandCommits scripting invocation ended old new commits
 script_committed invocation said ended old left new commits is taken those =
     let whole = λ (bytes : List ℕ). is_none (script_said bytes).refusal in
     let next = λ (bytes : List ℕ). LinesSteps invocation.now (script_said bytes).lines (script_said bytes).refusal in
-    let here : CommitsSteps false ended (next old.input) Any (record old { input = left }) new commits =
-    subst (λ (s : ScriptSaid). CommitsSteps false ended (LinesSteps invocation.now s.lines s.refusal) Any (record old { input = left }) new commits) (sym is) those in
+    let here : CommitsSteps ⊥ ended (next old.input) Any (record old { input = left }) new commits =
+    subst (λ (s : ScriptSaid). CommitsSteps ⊥ ended (LinesSteps invocation.now s.lines s.refusal) Any (record old { input = left }) new commits) (sym is) those in
     record {
       worlds = here.worlds;
       commits_them = here.commits_them;
       reached = All-weaker (ComesTo (next old.input) (record old { input = left })) (ComesTo (ScriptSteps invocation) old)
           (λ world to. comes_read whole next old left world (subst (λ (s : ScriptSaid). IsTaken (is_none s.refusal) old.input left) (sym is) taken) to) here.worlds here.reached;
       within = All-weaker Any (MayCommit scripting old.files) (λ world may. record { only = record { alone = tt; anew = tt }; none = λ no. absurd (false≢true (sym no)) }) here.worlds here.within;
-      one = λ single. absurd (false≢true single);
+      one = λ single. absurd single;
     }
 
 -- A run that ended with status 0 was done.
@@ -108,7 +108,7 @@ done_of (Err refusal) status is zero =
     absurd (no_status_0 refusal.cause (sym is ∙ none))
 
 -- what is committed is so whatever the answer, as far as the end is told by it
-pub run_committed : (once : Bool) (steps : Steps) (allowed : World → Type 0) (old : Outside) (new : World) (commits : List World → Type 0) (result : Result (Unit {0}) Refusal) (status : ℕ)
+pub run_committed : (once : Type 0) (steps : Steps) (allowed : World → Type 0) (old : Outside) (new : World) (commits : List World → Type 0) (result : Result (Unit {0}) Refusal) (status : ℕ)
     → status ≡ end_status (result_err result) → CommitsSteps once (is_ok result) steps allowed old new commits → CommitsSteps once (nat_eq status 0) steps allowed old new commits
 run_committed once steps allowed old new commits result status is those = record {
   worlds = those.worlds;

@@ -154,6 +154,7 @@ scripting = record (row ScriptSteps script_uses RunningMayRefuse) {
   links = λ (bytes : List ℕ). comes_to_link (script_said bytes).lines;
   suffices = λ (invocation : Invocation) (old : Outside). ((script_said old.input).refusal ≡ None)
       × LinesSuffice invocation.now (script_said old.input).lines (record old { input = [] });
+  at_once = λ (invocation : Invocation) (old : Outside). ⊥;
 }
 
 -- a command is a script

@@ -1,10 +1,10 @@
 ghost use Rattle.std.specs.Prelude.{◌≡◌, ◌≢◌, ◌≤◌, ◌⊎◌, ◌↔◌, false, None, Some, Err, Ok, IsTrue, IsErr, IsErrAnd, IfErr, is_ok, nat_eq};
 ghost use Rattle.std.specs.Result.{result_err};
 ghost use Rattle.outside.specs.Count.{Rose};
-ghost use Rattle.run_steps.specs.Done.{IsAllTold, IsWorldTold, NoFault, outside_of, seen_of, tells_of};
+ghost use Rattle.run_steps.specs.Done.{IsAllTold, NoFault, outside_of, seen_of, tells_of};
 ghost use Rattle.quota_cli.specs.Headline.{HasEffect, Keeps, asked, command_line, uses_asked};
 ghost use Rattle.command_words.specs.Asked.{command_of};
-ghost use Rattle.command_table.specs.CarriedOut.{CommandCommits, IsCarriedOut};
+ghost use Rattle.command_table.specs.CarriedOut.{CommandCommits, IsCarriedOut, IsToldAsUsed};
 ghost use Rattle.quota_cli.specs.Script.{StandsInScript, commanded, is_script};
 ghost use Rattle.refusals.specs.declared.cause.Cause.TheVariants.{Memory};
 ghost use Rattle.refusals.specs.declared.reason.Refusal.{Refusal};
@@ -57,8 +57,8 @@ pub fn run<S: Store, I: Source, O: Sink, E: Sink, L: Link>(
     // What the input keeps along its calls is kept, such as the files of a store that it reads from.
     ensures source { I.keeps false input.old input.new }
     // All that the run put where a stop of the machine leaves it are files that the steps come to, each behind some first part of their
-    // acts; and where the words ask neither for commands nor for edits to be read, those of one moment alone: of the end, with status 0.
-    ensures commits { IsWorldTold (tells_of S.tells I.tells O.tells E.tells L.tells)
+    // acts; and where the command changes files at one moment, those of one moment alone: of the end, with status 0.
+    ensures commits { IsToldAsUsed (uses_asked (command_line (texts_of words.now) now)) (tells_of S.tells I.tells O.tells E.tells L.tells)
         → CommandCommits (asked (command_line (texts_of words.now) now)) (record { now = now; line = None }) (nat_eq result 0)
         (outside_of (seen_of (S.seen store.old) (I.seen input.old) (O.seen out.old) (E.seen err.old) (L.seen link.old)))
         (S.seen store.new).files (λ worlds. S.commits worlds store.old store.new) }
@@ -96,7 +96,7 @@ fn carry_out_words<S: Store, I: Source, O: Sink, E: Sink, L: Link>(
     ensures source { I.keeps false input.old input.new }
     ensures out { (uses_asked (command_line (texts_of words.now) now)).out ≡ false → out.new ≡ out.old }
     ensures link { (uses_asked (command_line (texts_of words.now) now)).link ≡ false → link.new ≡ link.old }
-    ensures commits { IsWorldTold (tells_of S.tells I.tells O.tells E.tells L.tells)
+    ensures commits { IsToldAsUsed (uses_asked (command_line (texts_of words.now) now)) (tells_of S.tells I.tells O.tells E.tells L.tells)
         → CommandCommits (asked (command_line (texts_of words.now) now)) (record { now = now; line = None }) (is_ok result)
         (outside_of (seen_of (S.seen store.old) (I.seen input.old) (O.seen out.old) (E.seen err.old) (L.seen link.old)))
         (S.seen store.new).files (λ worlds. S.commits worlds store.old store.new) }
@@ -140,7 +140,7 @@ fn carry_command<S: Store, I: Source, O: Sink, E: Sink, L: Link>(
     ensures out { (commanded command).uses.out ≡ false → out.new ≡ out.old }
     ensures link { (commanded command).uses.link ≡ false → link.new ≡ link.old }
     ensures source { I.keeps false input.old input.new }
-    ensures commits { IsWorldTold (tells_of S.tells I.tells O.tells E.tells L.tells)
+    ensures commits { IsToldAsUsed (commanded command).uses (tells_of S.tells I.tells O.tells E.tells L.tells)
         → CommandCommits (commanded command) invocation (is_ok result)
         (outside_of (seen_of (S.seen store.old) (I.seen input.old) (O.seen out.old) (E.seen err.old) (L.seen link.old)))
         (S.seen store.new).files (λ worlds. S.commits worlds store.old store.new) }

@@ -2,7 +2,7 @@
 
 ghost use Rattle.std.specs.Prelude.{◌≡◌, [], false, true, map, is_ok, IfErr, IfSome, Some, ⊤};
 ghost use Rattle.std.specs.Result.{result_err};
-ghost use Rattle.command_table.specs.CarriedOut.{CommandCommits, IsCarriedOut};
+ghost use Rattle.command_table.specs.CarriedOut.{CommandCommits, IsCarriedOut, IsToldAsUsed};
 ghost use Rattle.command_table.specs.Table.{asked_by, described};
 ghost use Rattle.command_words.specs.Asked.{command_of};
 ghost use Rattle.option_words.specs.Items.{texts_of};
@@ -100,7 +100,7 @@ fn carry_lines<S: Store, I: Source, O: Sink, E: Sink, L: Link>(
         (seen_of (S.seen store.new) (I.seen input.new) (O.seen out.new) (E.seen err.new) (L.seen link.new)) result }
     ensures input { input.new ≡ input.old }
     ensures commits { IsWorldTold (tells_of S.tells I.tells O.tells E.tells L.tells)
-        → CommitsSteps false (is_ok result) (LinesSteps now (map line_read lines.now) refusal) (λ _. ⊤)
+        → CommitsSteps ⊥ (is_ok result) (LinesSteps now (map line_read lines.now) refusal) (λ _. ⊤)
         (outside_of (seen_of (S.seen store.old) (I.seen input.old) (O.seen out.old) (E.seen err.old) (L.seen link.old)))
         (S.seen store.new).files (λ worlds. S.commits worlds store.old store.new) }
 {
@@ -132,7 +132,7 @@ fn carry_line<S: Store, I: Source, O: Sink, E: Sink, L: Link>(
         (seen_of (S.seen store.new) (I.seen input.new) (O.seen out.new) (E.seen err.new) (L.seen link.new)) result }
     ensures input { input.new ≡ input.old }
     ensures commits { IsWorldTold (tells_of S.tells I.tells O.tells E.tells L.tells)
-        → CommitsSteps false (is_ok result) (LineSteps now (line_read line.now)) (λ _. ⊤)
+        → CommitsSteps ⊥ (is_ok result) (LineSteps now (line_read line.now)) (λ _. ⊤)
         (outside_of (seen_of (S.seen store.old) (I.seen input.old) (O.seen out.old) (E.seen err.old) (L.seen link.old)))
         (S.seen store.new).files (λ worlds. S.commits worlds store.old store.new) }
 {
@@ -182,7 +182,7 @@ fn carry_text<S: Store, I: Source, O: Sink, E: Sink, L: Link>(
         (seen_of (S.seen store.new) (I.seen input.new) (O.seen out.new) (E.seen err.new) (L.seen link.new)) result }
     ensures link { (asked_in_script text.now).uses.link ≡ false → link.new ≡ link.old }
     ensures input { input.new ≡ input.old }
-    ensures commits { IsWorldTold (tells_of S.tells I.tells O.tells E.tells L.tells)
+    ensures commits { IsToldAsUsed (asked_in_script text.now).uses (tells_of S.tells I.tells O.tells E.tells L.tells)
         → CommandCommits (asked_in_script text.now) invocation (is_ok result)
         (outside_of (seen_of (S.seen store.old) (I.seen input.old) (O.seen out.old) (E.seen err.old) (L.seen link.old)))
         (S.seen store.new).files (λ worlds. S.commits worlds store.old store.new) }
@@ -219,7 +219,7 @@ fn carry_words<S: Store, I: Source, O: Sink, E: Sink, L: Link>(
         (seen_of (S.seen store.new) (I.seen input.new) (O.seen out.new) (E.seen err.new) (L.seen link.new)) result }
     ensures link { (asked_by described (command_of true (texts_of words.now))).uses.link ≡ false → link.new ≡ link.old }
     ensures input { input.new ≡ input.old }
-    ensures commits { IsWorldTold (tells_of S.tells I.tells O.tells E.tells L.tells)
+    ensures commits { IsToldAsUsed (asked_by described (command_of true (texts_of words.now))).uses (tells_of S.tells I.tells O.tells E.tells L.tells)
         → CommandCommits (asked_by described (command_of true (texts_of words.now))) invocation (is_ok result)
         (outside_of (seen_of (S.seen store.old) (I.seen input.old) (O.seen out.old) (E.seen err.old) (L.seen link.old)))
         (S.seen store.new).files (λ worlds. S.commits worlds store.old store.new) }

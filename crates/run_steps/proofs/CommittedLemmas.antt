@@ -98,40 +98,47 @@ comes_taking (Some name) is_whole read next value old left files said same to =
 -- What is committed.
 
 -- the files of one moment
-pub one_committed : (once ended : Bool) (steps : Steps) (allowed : World → Type 0) (old : Outside) (new world : World) (commits : List World → Type 0)
+pub one_committed : (once : Type 0) (ended : Bool) (steps : Steps) (allowed : World → Type 0) (old : Outside) (new world : World) (commits : List World → Type 0)
     → commits (world ∷ []) → ComesTo steps old world → allowed world → (IsTrue ended → world ≡ new) → CommitsSteps once ended steps allowed old new commits
 one_committed once ended steps allowed old new world commits it to may told =
     record { worlds = world ∷ []; commits_them = it; reached = All-cons (ComesTo steps old) world [] to (All-nil (ComesTo steps old)); within = All-cons allowed world [] may (All-nil allowed); one = λ single. (world, refl, told) }
 
 -- what was only looked at: the files are those of the start
-pub looked_committed : (once ended : Bool) (steps : Steps) (allowed : World → Type 0) (old : Outside) (new : World) (commits : List World → Type 0)
+pub looked_committed : (once : Type 0) (ended : Bool) (steps : Steps) (allowed : World → Type 0) (old : Outside) (new : World) (commits : List World → Type 0)
     → ((worlds : List World) → commits [] → commits worlds) → commits [] → new ≡ old.files → allowed old.files → CommitsSteps once ended steps allowed old new commits
 looked_committed once ended steps allowed old new commits more none same may =
     one_committed once ended steps allowed old new old.files commits (more (old.files ∷ []) none) (comes_first steps old) may (λ well. sym same)
 
--- what steps within others commit is committed by these
-pub committed_within : (once ended : Bool) (inner outer : Steps) (allowed also : World → Type 0) (at old : Outside) (new : World) (commits wider : List World → Type 0)
-    → ((worlds : List World) → commits worlds → wider worlds) → ((world : World) → ComesTo inner at world → ComesTo outer old world) → ((world : World) → allowed world → also world)
-    → CommitsSteps once ended inner allowed at new commits → CommitsSteps once ended outer also old new wider
-committed_within once ended inner outer allowed also at old new commits wider more comes may those = record {
+-- what was only looked at where steps are refused
+pub unended_committed : (once : Type 0) (steps : Steps) (allowed : World → Type 0) (old : Outside) (new : World) (commits : List World → Type 0)
+    → ((worlds : List World) → commits [] → commits worlds) → commits [] → allowed old.files → CommitsSteps once false steps allowed old new commits
+unended_committed once steps allowed old new commits more none may =
+    one_committed once false steps allowed old new old.files commits (more (old.files ∷ []) none) (comes_first steps old) may (λ well. absurd (false≢true well))
+
+-- What steps within others commit is committed by these: at one moment where they are at one, and of what is said to have ended well no less.
+pub committed_within : (once also : Type 0) (ended last : Bool) (inner outer : Steps) (allowed may : World → Type 0) (at old : Outside) (new : World) (commits wider : List World → Type 0)
+    → (also → once) → (IsTrue last → IsTrue ended)
+    → ((worlds : List World) → commits worlds → wider worlds) → ((world : World) → ComesTo inner at world → ComesTo outer old world) → ((world : World) → allowed world → may world)
+    → CommitsSteps once ended inner allowed at new commits → CommitsSteps also last outer may old new wider
+committed_within once also ended last inner outer allowed may at old new commits wider single well more comes allows those = record {
   worlds = those.worlds;
   commits_them = more those.worlds those.commits_them;
   reached = All-weaker (ComesTo inner at) (ComesTo outer old) comes those.worlds those.reached;
-  within = All-weaker allowed also may those.worlds those.within;
-  one = those.one;
+  within = All-weaker allowed may allows those.worlds those.within;
+  one = λ is. let moment = those.one (single is) in (moment.0, moment.1, λ ends. moment.2 (well ends));
 }
 
 -- what is committed along two parts, in a row
 pub committed_on : (ended first : Bool) (one other steps : Steps) (allowed : World → Type 0) (old middle at : Outside) (between new : World) (former latter commits : List World → Type 0)
     → ((worlds more : List World) → former worlds → latter more → commits (worlds ++ more))
     → ((world : World) → ComesTo one old world → ComesTo steps at world) → ((world : World) → ComesTo other middle world → ComesTo steps at world)
-    → CommitsSteps false first one allowed old between former → CommitsSteps false ended other allowed middle new latter
-    → CommitsSteps false ended steps allowed at new commits
+    → CommitsSteps ⊥ first one allowed old between former → CommitsSteps ⊥ ended other allowed middle new latter
+    → CommitsSteps ⊥ ended steps allowed at new commits
 committed_on ended first one other steps allowed old middle at between new former latter commits on comes behind those these = record {
   worlds = those.worlds ++ these.worlds;
   commits_them = on those.worlds these.worlds those.commits_them these.commits_them;
   reached = All-append (ComesTo steps at) those.worlds these.worlds (All-weaker (ComesTo one old) (ComesTo steps at) comes those.worlds those.reached)
       (All-weaker (ComesTo other middle) (ComesTo steps at) behind these.worlds these.reached);
   within = All-append allowed those.worlds these.worlds those.within these.within;
-  one = λ single. absurd (false≢true single);
+  one = λ single. absurd single;
 }

@@ -38,7 +38,7 @@ has_taken (Some name) whole old left behind ended same = same refl
 abbrev left_of : Outside → List ℕ → Outside
 left_of from left = record from { input = left }
 
-leads_taking : {V : Type 0} (from : Option (List ℕ)) (is_whole : V → Bool) (read : List ℕ → Outcome V) (next : V → Steps) (outcome : Outcome V) (old : Outside) (left : List ℕ)
+pub leads_taking : {V : Type 0} (from : Option (List ℕ)) (is_whole : V → Bool) (read : List ℕ → Outcome V) (next : V → Steps) (outcome : Outcome V) (old : Outside) (left : List ℕ)
     → input_said from read old.files old.input ≡ outcome → HasTaken from (reads_whole is_whole outcome) old.input left
     → LeadsTo (Then outcome next) (left_of old left) (Taking from is_whole read next) old
 leads_taking None is_whole read next outcome old left said taken =

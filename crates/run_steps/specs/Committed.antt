@@ -1,10 +1,9 @@
 -- What a command commits: the files that its calls have put where a stop of the machine leaves them.
-use Rattle.std.specs.Prelude.{◌≡◌, ◌&&◌, All, Bool, IsTrue, List, [], ◌∷◌, not}
+use Rattle.std.specs.Prelude.{◌≡◌, All, Bool, IsTrue, List, [], ◌∷◌}
 use Rattle.outside.specs.World.{World}
 use Rattle.run_steps.specs.Act.{Act}
 use Rattle.run_steps.specs.Done.{Outside}
 use Rattle.run_steps.specs.Meaning.{HasBegun}
-use Rattle.run_steps.specs.Run.{Uses}
 use Rattle.run_steps.specs.Steps.{Steps}
 
 -- Steps come to these files: they are there once some first acts of theirs were done, each of them whole.
@@ -20,15 +19,11 @@ abbrev pub IsOneMoment : (ended : Bool) → World → List World → Type 0
 IsOneMoment ended new worlds = (world : World) × (worlds ≡ world ∷ []) × (IsTrue ended → world ≡ new)
 
 -- All that was committed along steps were the files of these worlds, in this order, or of some of them. The steps come to each of them,
--- and each has changed only as is allowed. Steps that change files at one moment alone have one of them, which is that of the end where
--- they ended well.
-pub record CommitsSteps (once ended : Bool) (steps : Steps) (allowed : World → Type 0) (old : Outside) (new : World) (commits : List World → Type 0) : Type 0 where
+-- and each has changed only as is allowed. Where the steps change files at one moment alone it is one of them, which is that of the end
+-- where they ended well.
+pub record CommitsSteps (once : Type 0) (ended : Bool) (steps : Steps) (allowed : World → Type 0) (old : Outside) (new : World) (commits : List World → Type 0) : Type 0 where
   pub worlds : List World
   pub commits_them : commits worlds
   pub reached : All (ComesTo steps old) worlds
   pub within : All allowed worlds
-  pub one : IsTrue once → IsOneMoment ended new worlds
-
--- whether a command changes files at one moment alone: it reads neither commands nor edits
-abbrev pub changes_once : Uses → Bool
-changes_once uses = not uses.reads_commands && not uses.reads_edits
+  pub one : once → IsOneMoment ended new worlds

@@ -32,7 +32,7 @@ LeaveOldOr worlds old first last =
 
 -- What stops along a run leave: at each moment each file of a plain name that was kept recovers to what it was, or to what it is among the
 -- files that the steps come to behind some first part of their acts, in which no other one has changed than the command changes; and where
--- the words ask neither for commands nor for edits to be read, those are the files of one moment alone: with status 0 of the end.
+-- the command changes files at one moment, those are the files of one moment alone: with status 0 of the end.
 abbrev pub StopsLeave : CommandLine → (status : ℕ) → Outside → World → (first last : DiskSeen) → Type 0
 StopsLeave typed status old new first last =
     CommandCommits (asked typed) typed.invocation (nat_eq status 0) old new (λ (worlds : List World). LeaveOldOr worlds old.files first last)

@@ -6,13 +6,14 @@
 #![tactic(auto)]
 
 ghost use Rattle.std.specs.Prelude.{◌≡◌, ℕ, false, IsTrue, List};
+ghost use Rattle.command_table.specs.CarriedOut.{IsToldAsUsed};
 ghost use Rattle.edit_journal.specs.UndoName.{undo_name};
 ghost use Rattle.journal_store.specs.JournalStore.{disk_seen, store_seen};
 ghost use Rattle.journal_store.specs.Kinds.{kind_of};
 ghost use Rattle.journal_store.specs.declared.kinds.NameKind.TheVariants.{Plain};
 ghost use Rattle.option_words.specs.Items.{texts_of};
-ghost use Rattle.quota_cli.specs.Headline.{command_line};
-ghost use Rattle.run_steps.specs.Done.{outside_of, seen_of};
+ghost use Rattle.quota_cli.specs.Headline.{command_line, uses_asked};
+ghost use Rattle.run_steps.specs.Done.{outside_of, seen_of, tells_of};
 ghost use Rattle.stop_laws.specs.Stops.{IsKept, StopsLeave};
 
 use disk::Disk;
@@ -35,8 +36,9 @@ pub fn open_store<D: Disk>(disk: D) -> JournalStore<D>
 /// none of `.new`, `.undo` and `.und`, what it was then, byte for byte, or what it is behind some first part of the acts that
 /// the words ask for. So each such file that the command does not change recovers to what it was.
 ///
-/// For all commands but `setquota -b` and `script` that is one new file at most: with status 0 the one of the end. It is said
-/// where the disk, the input and the link tell.
+/// For all commands but `script`, and but `setquota -b` whose lines are not made together, that is one new file at most: with
+/// status 0 the one of the end. It is said where the disk tells, and the input and
+/// the link where the words use them.
 pub fn run_over_a_journal<D: Disk, I: Source, O: Sink, E: Sink, L: Link>(
     alloc: Global,
     words: &[String],
@@ -47,7 +49,7 @@ pub fn run_over_a_journal<D: Disk, I: Source, O: Sink, E: Sink, L: Link>(
     link: &mut L,
     now: u64,
 ) -> u8
-    ensures { IsTrue D.tells → IsTrue I.tells → IsTrue L.tells
+    ensures { IsToldAsUsed (uses_asked (command_line (texts_of words.now) now)) (tells_of D.tells I.tells O.tells E.tells L.tells)
         → StopsLeave (command_line (texts_of words.now) now) result
         (outside_of (seen_of (store_seen store.old) (I.seen input.old) (O.seen out.old) (E.seen err.old) (L.seen link.old)))
         (store_seen store.new).files (disk_seen store.old) (disk_seen store.new) }

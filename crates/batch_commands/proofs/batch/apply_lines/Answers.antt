@@ -1,4 +1,4 @@
-use Rattle.std.proofs.Common.{inl, inr, ap, List, [], false}
+use Rattle.std.proofs.Common.{◌≡◌, inl, inr, Ok, ap, refl, subst, sym, List, [], false}
 use Rattle.outside.proofs.FrameLemmas.{keeps_other_two-then, syncs-after_read, syncs-read}
 use Rattle.run_steps.proofs.OpeningLemmas.{unwritten}
 use Rattle.run_steps.proofs.PhaseLemmas.{carries_naming, naming_refused}
@@ -8,12 +8,16 @@ use Rattle.batch_commands.proofs.WantingLemmas.{wanting_since}
 use Rattle.std.specs.Prelude.{is_ok}
 use Rattle.id_names.specs.NamesFile.{NameLine}
 use Rattle.outside.specs.World.{World}
+use Rattle.quota_map.specs.View.{IsView}
+use Rattle.refusals.specs.Outcome.{Passed}
+use Rattle.run_steps.specs.Taking.{input_said}
+use Rattle.run_steps.proofs.CommittedLemmas.{comes_looked, comes_passed, unended_committed}
+use Rattle.batch_commands.specs.AtOnce.{MakeTogether}
 use Rattle.run_steps.specs.Done.{Outside}
 use Rattle.run_steps.specs.Naming.{names_seen}
 use Rattle.run_steps.specs.Steps.{Opening, Then}
-use Rattle.run_steps.proofs.CommittedLemmas.{comes_looked, comes_passed}
-use Rattle.batch_commands.specs.Batch.{BatchSteps, ReadSteps}
-use Rattle.batch_commands.proofs.LinesCommittedLemmas.{none_committed, phase_committed}
+use Rattle.batch_commands.specs.Batch.{BatchSteps, ReadSteps, batch_step}
+use Rattle.batch_commands.proofs.LinesCommittedLemmas.{phase_committed}
 use Rattle.batch_commands.proofs.batch.apply_lines.Goals as goal
 
 pub returns-in-Ok-clause-carries : goal.returns-in-Ok-clause-carries
@@ -67,12 +71,16 @@ returns-in-Ok-clause-commits g c = λ datagrams line told input_told.
     let next = λ (lines : List NameLine). Opening common.kind common.format file (ReadSteps lines c.args.from file c.args.now) in
     let steps = BatchSteps common c.args.from file (record { now = c.args.now; line = line }) in
     let ended = is_ok c.apply_named.result in
-    phase_committed ended ended (next names) steps file old (S.seen between).files (S.seen last).files input input datagrams (λ worlds. S.commits worlds between last)
-    (λ worlds. S.commits worlds c.args.store.now last) read.leaves.files (λ worlds it. S.commits_on [] worlds _ _ _ read.commits it)
+    phase_committed _ _ ended ended (next names) steps file old (S.seen between).files (S.seen last).files input input datagrams (λ worlds. S.commits worlds between last)
+    (λ worlds. S.commits worlds c.args.store.now last) read.leaves.files
+    (λ all value seen asked said. subst (λ (w : World). MakeTogether common.format file c.args.now asked.edits w value) (sym read.leaves.files)
+    (all names (read.read told) value (subst (λ (w : World). IsView (w file) common.kind common.format (Ok value)) read.leaves.files seen) asked
+    (subst (λ (w : World). input_said c.args.from (batch_step names c.args.from) w input ≡ Passed asked) read.leaves.files said)))
+    (λ well. well) (λ worlds it. S.commits_on [] worlds _ _ _ read.commits it)
     (λ world to. comes_looked (λ (files : World). Then (names_seen common.kind common.names files) next) start world
     (comes_passed (names_seen common.kind common.names old) names next start world (read.read told) to))
     (c.apply_named.ensures.commits datagrams told input_told)
 
 pub returns-in-Err-clause-commits : goal.returns-in-Err-clause-commits
 returns-in-Err-clause-commits g c = λ datagrams line told input_told.
-    none_committed false _ _ _ _ (λ worlds. g.S.Store.commits worlds c.args.store.now c.read_names.new.store) c.in-Err.ensures.commits
+    unended_committed _ _ _ _ _ (λ worlds. g.S.Store.commits worlds c.args.store.now c.read_names.new.store) (λ worlds none. g.met.S.Store.commits_more worlds _ _ none) c.in-Err.ensures.commits (λ other differ differs. refl)

@@ -1,4 +1,4 @@
-use Rattle.std.proofs.Common.{◌≡◌, inl, inr, Ok, List, ℕ, sym, subst, ap, length, arith, [], false}
+use Rattle.std.proofs.Common.{◌≡◌, inl, inr, Ok, List, ℕ, refl, sym, subst, ap, length, arith, [], false}
 use Rattle.std.proofs.lemmas.Result.{on_ok_weaker}
 use Rattle.file_blocks.specs.Block.{file_of}
 use Rattle.outside.specs.World.{World}
@@ -6,14 +6,17 @@ use Rattle.quota_map.specs.View.{IsView}
 use Rattle.outside.proofs.FrameLemmas.{keeps_other_two-then, syncs-after_read, syncs-read}
 use Rattle.run_steps.proofs.OpeningLemmas.{not_opened, unwritten}
 use Rattle.run_steps.proofs.PhaseLemmas.{carries_opening}
-use Rattle.batch_commands.specs.Batch.{ReadSteps, input_edits, line_reads}
+use Rattle.batch_commands.specs.Batch.{ReadSteps, batch_step, input_edits, line_reads}
 use Rattle.batch_commands.proofs.TogetherLemmas.{replaces-read, told_first}
 use Rattle.batch_commands.proofs.WantingLemmas.{wanting_since}
 use Rattle.std.specs.Prelude.{is_ok}
 use Rattle.run_steps.specs.Done.{Outside}
 use Rattle.run_steps.specs.Steps.{Opening}
-use Rattle.run_steps.proofs.CommittedLemmas.{comes_opened}
-use Rattle.batch_commands.proofs.LinesCommittedLemmas.{none_committed, phase_committed}
+use Rattle.refusals.specs.Outcome.{Passed}
+use Rattle.run_steps.specs.Taking.{input_said}
+use Rattle.run_steps.proofs.CommittedLemmas.{comes_opened, unended_committed}
+use Rattle.batch_commands.specs.AtOnce.{MakeTogether}
+use Rattle.batch_commands.proofs.LinesCommittedLemmas.{phase_committed}
 use Rattle.batch_commands.proofs.batch.apply_named.Goals as goal
 
 pub returns-in-Ok-clause-carries : goal.returns-in-Ok-clause-carries
@@ -80,12 +83,15 @@ returns-in-Ok-clause-commits g c = λ datagrams told input_told.
     let seen = (rw c.as_str.ensures at opened.seen) told in
     let value = seen.0 in
     let ended = is_ok c.apply_opened.result in
-    phase_committed ended ended (next value) (Opening c.args.kind c.args.format file next) file old (S.seen between).files (S.seen last).files input input datagrams
-    (λ worlds. S.commits worlds between last) (λ worlds. S.commits worlds c.args.store.now last) opened.leaves.files (λ worlds it. S.commits_on [] worlds _ _ _ opened.commits it)
+    phase_committed _ _ ended ended (next value) (Opening c.args.kind c.args.format file next) file old (S.seen between).files (S.seen last).files input input datagrams
+    (λ worlds. S.commits worlds between last) (λ worlds. S.commits worlds c.args.store.now last) opened.leaves.files
+    (λ all asked said. subst (λ (w : World). MakeTogether c.args.format file c.args.now asked.edits w value) (sym opened.leaves.files)
+    (all value seen.1 asked (subst (λ (w : World). input_said c.args.from (batch_step c.args.names.now c.args.from) w input ≡ Passed asked) opened.leaves.files said)))
+    (λ well. well) (λ worlds it. S.commits_on [] worlds _ _ _ opened.commits it)
     (λ world to. comes_opened c.args.kind c.args.format file next start value world seen.1 to)
     (c.apply_opened.ensures.commits datagrams told input_told value (opened.held told value (rw (sym c.as_str.ensures) at seen.1))
     (subst (λ (files : World). IsView (files file) c.args.kind c.args.format (Ok value)) (sym opened.leaves.files) seen.1))
 
 pub returns-in-Err-clause-commits : goal.returns-in-Err-clause-commits
 returns-in-Err-clause-commits g c = λ datagrams told input_told.
-    none_committed false _ _ _ _ (λ worlds. g.S.Store.commits worlds c.args.store.now c.open_file.new.store) c.in-Err.ensures.commits
+    unended_committed _ _ _ _ _ (λ worlds. g.S.Store.commits worlds c.args.store.now c.open_file.new.store) (λ worlds none. g.met.S.Store.commits_more worlds _ _ none) c.in-Err.ensures.commits (λ other differ differs. refl)

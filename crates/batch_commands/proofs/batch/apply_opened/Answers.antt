@@ -1,4 +1,4 @@
-use Rattle.std.proofs.Common.{false, ◌≤◌, ◌+◌, length, Ok, Err, Option, inl, inr, sym, ap, subst, [], true}
+use Rattle.std.proofs.Common.{false, ◌≤◌, ◌+◌, length, Ok, Err, Option, inl, inr, refl, sym, ap, subst, [], true}
 use Rattle.std.specs.Prelude.{IfSome}
 use Rattle.std.proofs.lemmas.Bool.{false≢true}
 use Rattle.file_blocks.specs.Block.{file_of}
@@ -18,7 +18,8 @@ use Rattle.run_steps.proofs.TakingLemmas.{carries_taking, fault_more, has_taken,
 use Rattle.batch_commands.proofs.TogetherLemmas.{replaces-read}
 use Rattle.batch_commands.proofs.ReadsLemmas.{asked_reads}
 use Rattle.batch_commands.proofs.WantingLemmas.{line_wants, wanting_since}
-use Rattle.batch_commands.proofs.LinesCommittedLemmas.{applied_committed, none_committed}
+use Rattle.batch_commands.proofs.LinesCommittedLemmas.{applied_committed}
+use Rattle.run_steps.proofs.CommittedLemmas.{unended_committed}
 use Rattle.batch_commands.proofs.batch.apply_opened.Goals as goal
 
 pub returns-in-Some-clause-carries : goal.returns-in-Some-clause-carries
@@ -27,8 +28,8 @@ returns-in-Some-clause-carries g c = λ as_asked value held seen out err link ou
     let asked : AskedEdits = record { edits = c.in-Ok.batch.edits.items; refusal = c.in-Ok.batch.refusal } in
     let may = subst (λ (o : Option Refusal). IfSome o (IsOfInputLine c.args.names.now (input_name c.args.from))) c.in-Some.is took.may_ask in
     carries_taking _ c.args.from is_to_end _ (Applying c.args.file c.args.now value) asked line_uses _ _ _ _ _ _ _ _
-    took.leaves took.later (λ told. took.read told.store told.input)
-    (λ told. has_taken c.args.from (is_to_end asked) _ _ (took.behind told.input)
+    took.leaves took.later (λ told. took.read told.store (λ none. told.input))
+    (λ told. has_taken c.args.from (is_to_end asked) _ _ (took.behind (λ none. told.input))
     (λ all none. took.ended (ends_none asked.refusal all) none told.input)
     (λ some. ap (λ i. (g.I.Source.seen i).left) (took.untouched some))) (λ cause said may. may)
     (then_refused _ _ _ c.args.names.now (input_name c.args.from) asked c.in-Some.refusal (LineEditMayRefuse c.args.format c.args.file) _ _ _ _
@@ -43,8 +44,8 @@ returns-in-Ok-edit_lines-clause-carries g c = λ as_asked value held seen out er
     let took = c.in-Ok.ensures in
     let asked : AskedEdits = record { edits = c.in-Ok.batch.edits.items; refusal = c.in-Ok.batch.refusal } in
     carries_taking _ c.args.from is_to_end _ (Applying c.args.file c.args.now value) asked line_uses _ _ _ _ _ _ _ _
-    took.leaves took.later (λ told. took.read told.store told.input)
-    (λ told. has_taken c.args.from (is_to_end asked) _ _ (took.behind told.input)
+    took.leaves took.later (λ told. took.read told.store (λ none. told.input))
+    (λ told. has_taken c.args.from (is_to_end asked) _ _ (took.behind (λ none. told.input))
     (λ all none. took.ended (ends_none asked.refusal all) none told.input)
     (λ some. ap (λ i. (g.I.Source.seen i).left) (took.untouched some))) (λ cause said may. may)
     (then_ended _ _ _ asked (LineEditMayRefuse c.args.format c.args.file) _ _ _ _ c.in-None.is
@@ -74,8 +75,8 @@ returns-in-Ok-clause-carries g c = λ as_asked value held seen out err link out_
     let took = c.in-Ok.ensures in
     let asked : AskedEdits = record { edits = c.in-Ok.batch.edits.items; refusal = c.in-Ok.batch.refusal } in
     carries_taking _ c.args.from is_to_end _ (Applying c.args.file c.args.now value) asked line_uses _ _ _ _ _ _ _ _
-    took.leaves took.later (λ told. took.read told.store told.input)
-    (λ told. has_taken c.args.from (is_to_end asked) _ _ (took.behind told.input)
+    took.leaves took.later (λ told. took.read told.store (λ none. told.input))
+    (λ told. has_taken c.args.from (is_to_end asked) _ _ (took.behind (λ none. told.input))
     (λ all none. took.ended (ends_none asked.refusal all) none told.input)
     (λ some. ap (λ i. (g.I.Source.seen i).left) (took.untouched some))) (λ cause said may. may)
     (then_stopped _ _ _ asked c.in-Err-edit_lines.refusal (LineEditMayRefuse c.args.format c.args.file) _ _ _ _ (λ cause said may. inl may)
@@ -88,8 +89,8 @@ pub returns-clause-carries : goal.returns-clause-carries
 returns-clause-carries g c = λ as_asked value held seen out err link out_tells err_tells link_tells.
     let took = c.in-Err.ensures in
     input_refused _ Lines c.args.from is_to_end _ (Applying c.args.file c.args.now value) _ _ _ _ _ _ _ took.leaves took.later
-    (fault_more _ _ _ _ _ _ _ c.in-Err.refusal c.in-Err.refusal.cause (λ rose. rose) (λ rose. rose) (λ told. (told.store, told.input)) took.refused)
-    (λ told. has_taken c.args.from false _ _ (took.behind told.input) (λ all. absurd (false≢true all))
+    (fault_more _ _ _ _ _ _ _ c.in-Err.refusal c.in-Err.refusal.cause (λ rose. rose) (λ rose. rose) (λ told. (told.store, λ none. told.input)) took.refused)
+    (λ told. has_taken c.args.from false _ _ (took.behind (λ none. told.input)) (λ all. absurd (false≢true all))
     (λ some. ap (λ i. (g.I.Source.seen i).left) (took.untouched some)))
     took.may (inr (inl took.may)) (placed_nowhere line_uses c.in-Err.refusal took.placed)
 
@@ -113,7 +114,7 @@ returns-in-Ok-edit_lines-clause-reads g c = λ as_asked value held seen none tol
     let unread = ap S.seen (took.unread none) in
     let files = took.leaves.files in
     asked_reads c.args.format c.args.names.now c.args.from (S.seen c.args.store.now).files _ asked (S.seen c.args.store.now).reads (S.seen c.take_batch.new.store).reads _
-    (length (file_of (S.seen c.args.store.now).files c.args.file)) none (took.read told input_told) (ap (λ (s : StoreSeen). s.reads) unread)
+    (length (file_of (S.seen c.args.store.now).files c.args.file)) none (took.read told (λ is. input_told)) (ap (λ (s : StoreSeen). s.reads) unread)
     (subst (λ (s : StoreSeen). (S.seen c.edit_lines.new.store).reads ≤ (S.seen c.take_batch.new.store).reads + line_reads c.args.format asked.edits (length (file_of s.files c.args.file))) unread
     (rw c.as_slice.ensures.value at (c.in-Ok-edit_lines.ensures.reads as_asked value
     (λ told. subst (λ (w : World). HoldsAny S.tells w c.args.opened value) (sym files) (held told))
@@ -140,10 +141,10 @@ returns-in-Some-clause-commits g c = λ datagrams told input_told value held see
     let last = c.edit_lines.new.store in
     let input = (g.I.Source.seen c.args.input.now).left in
     let left = (g.I.Source.seen c.take_batch.new.input).left in
-    applied_committed false c.args.names.now c.args.from c.args.file c.args.now value asked (S.seen c.args.store.now).files (S.seen between).files (S.seen last).files
-    input left datagrams (λ worlds. S.commits worlds between last) (λ worlds. S.commits worlds c.args.store.now last) same
+    applied_committed true false c.args.names.now c.args.from c.args.format c.args.file c.args.now value asked (S.seen c.args.store.now).files (S.seen between).files (S.seen last).files
+    input left datagrams (λ worlds. S.commits worlds between last) (λ worlds. S.commits worlds c.args.store.now last) same (λ well. refl)
     (λ worlds it. S.commits_on [] worlds _ _ _ took.commits it) (took.read told input_told)
-    (has_taken c.args.from (is_to_end asked) input left (took.behind input_told) (λ all none. took.ended (ends_none asked.refusal all) none input_told)
+    (has_taken c.args.from (is_to_end asked) input left (took.behind input_told) (λ all none. took.ended (ends_none asked.refusal all) none (input_told none))
     (λ some. ap (λ i. (g.I.Source.seen i).left) (took.untouched some)))
     (rw c.as_slice.ensures.value at (c.in-Ok-edit_lines.ensures.commits told value
     (subst (λ (files : World). HoldsAny S.tells files c.args.opened value) (sym same) held)
@@ -159,10 +160,10 @@ returns-in-Ok-edit_lines-clause-commits g c = λ datagrams told input_told value
     let last = c.edit_lines.new.store in
     let input = (g.I.Source.seen c.args.input.now).left in
     let left = (g.I.Source.seen c.take_batch.new.input).left in
-    applied_committed true c.args.names.now c.args.from c.args.file c.args.now value asked (S.seen c.args.store.now).files (S.seen between).files (S.seen last).files
-    input left datagrams (λ worlds. S.commits worlds between last) (λ worlds. S.commits worlds c.args.store.now last) same
+    applied_committed true true c.args.names.now c.args.from c.args.format c.args.file c.args.now value asked (S.seen c.args.store.now).files (S.seen between).files (S.seen last).files
+    input left datagrams (λ worlds. S.commits worlds between last) (λ worlds. S.commits worlds c.args.store.now last) same (λ well. well)
     (λ worlds it. S.commits_on [] worlds _ _ _ took.commits it) (took.read told input_told)
-    (has_taken c.args.from (is_to_end asked) input left (took.behind input_told) (λ all none. took.ended (ends_none asked.refusal all) none input_told)
+    (has_taken c.args.from (is_to_end asked) input left (took.behind input_told) (λ all none. took.ended (ends_none asked.refusal all) none (input_told none))
     (λ some. ap (λ i. (g.I.Source.seen i).left) (took.untouched some)))
     (rw c.as_slice.ensures.value at (c.in-Ok-edit_lines.ensures.commits told value
     (subst (λ (files : World). HoldsAny S.tells files c.args.opened value) (sym same) held)
@@ -178,10 +179,10 @@ returns-in-Ok-clause-commits g c = λ datagrams told input_told value held seen.
     let last = c.edit_lines.new.store in
     let input = (g.I.Source.seen c.args.input.now).left in
     let left = (g.I.Source.seen c.take_batch.new.input).left in
-    applied_committed false c.args.names.now c.args.from c.args.file c.args.now value asked (S.seen c.args.store.now).files (S.seen between).files (S.seen last).files
-    input left datagrams (λ worlds. S.commits worlds between last) (λ worlds. S.commits worlds c.args.store.now last) same
+    applied_committed false false c.args.names.now c.args.from c.args.format c.args.file c.args.now value asked (S.seen c.args.store.now).files (S.seen between).files (S.seen last).files
+    input left datagrams (λ worlds. S.commits worlds between last) (λ worlds. S.commits worlds c.args.store.now last) same (λ well. well)
     (λ worlds it. S.commits_on [] worlds _ _ _ took.commits it) (took.read told input_told)
-    (has_taken c.args.from (is_to_end asked) input left (took.behind input_told) (λ all none. took.ended (ends_none asked.refusal all) none input_told)
+    (has_taken c.args.from (is_to_end asked) input left (took.behind input_told) (λ all none. took.ended (ends_none asked.refusal all) none (input_told none))
     (λ some. ap (λ i. (g.I.Source.seen i).left) (took.untouched some)))
     (rw c.as_slice.ensures.value at (c.in-Err-edit_lines.ensures.commits told value
     (subst (λ (files : World). HoldsAny S.tells files c.args.opened value) (sym same) held)
@@ -189,4 +190,4 @@ returns-in-Ok-clause-commits g c = λ datagrams told input_told value held seen.
 
 pub returns-clause-commits : goal.returns-clause-commits
 returns-clause-commits g c = λ datagrams told input_told value held seen.
-    none_committed false _ _ _ _ (λ worlds. g.S.Store.commits worlds c.args.store.now c.take_batch.new.store) c.in-Err.ensures.commits
+    unended_committed _ _ _ _ _ (λ worlds. g.S.Store.commits worlds c.args.store.now c.take_batch.new.store) (λ worlds none. g.met.S.Store.commits_more worlds _ _ none) c.in-Err.ensures.commits (λ other differ differs. refl)

@@ -10,24 +10,25 @@ use Rattle.quota_map.specs.View.{fresh_seen}
 use Rattle.batch_commands.specs.declared.batch_line.LineEdit.{LineEdit}
 use Rattle.run_steps.specs.Done.{seen_of, tells_of}
 use Rattle.run_steps.specs.Act.{Together}
-use Rattle.batch_commands.proofs.BatchLemmas.{AreMade, all_carried, line_may_fail, line_refused, made_more, made_none}
+use Rattle.batch_commands.proofs.BatchLemmas.{AreMade, all_carried, line_may_fail, line_refused}
 use Rattle.batch_commands.proofs.CountLemmas.{all_made, refused_made}
 use Rattle.edit_steps.proofs.EditFileLemmas.{any_cause, any_made, any_refused, limits_keep_format}
 use Rattle.batch_commands.proofs.ReadsLemmas.{line_few}
 use Rattle.batch_commands.proofs.WantingLemmas.{wants_none}
-use Rattle.edit_steps.proofs.CommittedLemmas.{made_stepped, refused_stepped}
-use Rattle.batch_commands.proofs.LinesCommittedLemmas.{lines_committed, nothing_committed}
+use Rattle.edit_steps.proofs.CommittedLemmas.{refused_stepped}
+use Rattle.batch_commands.proofs.LinesCommittedLemmas.{AreCommitted, each_fewer, none_made, one_more, refused_committed}
 use Rattle.batch_commands.proofs.batch.edit_all.Goals as goal
 
 pub loop-made-init : goal.loop-made-init
 loop-made-init g c = record {
-  made = λ told way start held. made_none way c.args.file c.args.now c.args.lines.now start [] (g.S.Store.seen c.args.store.now) (g.S.Store.seen c.args.store.now) _ (only_reads-none {done = true} _ _) held;
+  made = λ told way start held.
+      none_made way c.args.file c.args.now c.args.lines.now start [] (g.S.Store.seen c.args.store.now) (g.S.Store.seen c.args.store.now) _ (λ worlds. g.S.Store.commits worlds c.args.store.now c.args.store.now)
+      (only_reads-none {done = true} _ _) held (g.S.Store.commits_nothing [] c.args.store.now);
   same = refl;
   leaves = edits_one-none _ _;
   reads = omega arith;
   within = omega arith;
   synced = λ told. syncs-none _;
-  commits = λ told way start held. nothing_committed _ _ _ _ (λ worlds. g.S.Store.commits worlds c.args.store.now c.args.store.now) (g.S.Store.commits_nothing [] c.args.store.now);
 }
 
 pub loop-made-preserved : goal.loop-made-preserved
@@ -45,33 +46,22 @@ loop-made-preserved g c =
     let leaves : EditsOne file before after = rw named at edits.value.leaves in
     record {
       made = λ told way start held.
-          let are = subst (λ (l : List LineEdit). AreMade way file c.args.now c.args.lines.now l start c.loop-made.made (S.seen c.args.store.now) before (HoldsAny S.tells before.files c.loop-made.opened))
+          let first = c.args.store.now in
+          let between = c.loop-made.store in
+          let last = c.set_limits.new.store in
+          let both = subst (λ (l : List LineEdit). AreCommitted way file c.args.now c.args.lines.now l start c.loop-made.made (S.seen first) before (HoldsAny S.tells before.files c.loop-made.opened) (λ worlds. S.commits worlds first between))
           (drop_more c.args.lines.now c.loop-made.made _ c.loop-made-test.true) (kept.made told way start held) in
-          made_more way file c.args.now c.args.lines.now _ (drop (c.loop-made.made + 1) c.args.lines.now) start c.loop-made.made (S.seen c.args.store.now) before after _ (HoldsAny S.tells after.files c.set_limits.new.file) (IsTrue S.tells) told are
-          (any_made S.tells _ c.loop-made.opened c.set_limits.new.file before after file format are.value tt (limits_keep_format _ _ c.args.now) was (λ is. are.held) c.in-Ok.ensures.edits)
-          (done.set are.value are.held);
+          let all : EditsOne file (S.seen first) after = edits_one-then _ _ _ _ kept.leaves leaves in
+          one_more way file c.args.now c.args.lines.now _ (drop (c.loop-made.made + 1) c.args.lines.now) start c.loop-made.made (S.seen first) before after _ (HoldsAny S.tells after.files c.set_limits.new.file) (IsTrue S.tells)
+          (λ worlds. S.commits worlds first between) (λ worlds. S.commits worlds between last) (λ worlds. S.commits worlds first last) _ told both
+          (any_made S.tells _ c.loop-made.opened c.set_limits.new.file before after file format both.0.value tt (limits_keep_format _ _ c.args.now) was (λ is. both.0.held) c.in-Ok.ensures.edits)
+          (done.set both.0.value both.0.held)
+          (λ worlds more one two. S.commits_on worlds more _ _ _ one two) (λ worlds none. g.met.S.Store.commits_more worlds between last none) c.set_limits.ensures.commits all.files;
       same = done.same ∙ kept.same;
       leaves = edits_one-then _ _ _ _ kept.leaves leaves;
       reads = let few = line_few (any_seen c.loop-made.opened) before.reads after.reads c.in-Ok.ensures.reads in omega (arith, kept.reads, few);
       within = omega (arith, c.loop-made-test.true);
       synced = λ told. syncs-then _ _ _ (kept.synced told) (edits-syncs _ _ _ _ _ c.in-Ok.ensures.edits told);
-      commits = λ told way start held.
-          let lines = c.args.lines.now in
-          let made = c.loop-made.made in
-          let opened = c.loop-made.opened in
-          let first = c.args.store.now in
-          let between = c.loop-made.store in
-          let last = c.set_limits.new.store in
-          let holds = HoldsAny S.tells before.files opened in
-          let are = subst (λ (l : List LineEdit). AreMade way file c.args.now lines l start made (S.seen first) before holds) (drop_more lines made _ c.loop-made-test.true)
-          (kept.made told way start held) in
-          let all : EditsOne file (S.seen first) after = edits_one-then _ _ _ _ kept.leaves leaves in
-          lines_committed way file c.args.now lines _ (drop (made + 1) lines) start made (S.seen first) before after holds
-          (λ worlds. S.commits worlds first between) (λ worlds. S.commits worlds between last) (λ worlds. S.commits worlds first last) _
-          are (λ worlds more one two. S.commits_on worlds more _ _ _ one two) c.set_limits.ensures.commits
-          (λ is. made_stepped are.next file _ S.tells opened c.set_limits.new.file before after format are.value tt (limits_keep_format _ _ c.args.now) was told are.held
-          c.in-Ok.ensures.edits)
-          all.files (kept.commits told way start held);
     }
 
 pub returns-clause-carries : goal.returns-clause-carries
@@ -81,7 +71,7 @@ returns-clause-carries g c = λ way asked as_asked value held input out err link
     let at_end : drop c.loop-made.made c.args.lines.now ≡ [] = drop_all c.loop-made.made c.args.lines.now (omega arith) in
     all_carried way c.args.file c.args.now c.args.lines.now value c.loop-made.made _ (tells_of S.tells input_tells out_tells err_tells link_tells)
     (seen_of (S.seen c.args.store.now) input out err link) (S.seen c.loop-made.store) (HoldsAny S.tells (S.seen c.loop-made.store).files c.loop-made.opened)
-    (λ told. rw at_end at (kept.made told way value (held told))) kept.leaves
+    (λ told. rw at_end at ((kept.made told way value (held told)).0)) kept.leaves
 
 pub returns-in-Err-clause-carries : goal.returns-in-Err-clause-carries
 returns-in-Err-clause-carries g c = λ way asked as_asked value held input out err link input_tells out_tells err_tells link_tells.
@@ -103,7 +93,7 @@ returns-in-Err-clause-carries g c = λ way asked as_asked value held input out e
     (line_refused way file c.args.now c.args.lines.now _ (drop (c.loop-made.made + 1) c.args.lines.now) value c.loop-made.made _ tells
     (seen_of (S.seen c.args.store.now) input out err link) before after (HoldsAny S.tells before.files c.loop-made.opened) fault
     (λ told. subst (λ (l : List LineEdit). AreMade way file c.args.now c.args.lines.now l value c.loop-made.made (S.seen c.args.store.now) before (HoldsAny S.tells before.files c.loop-made.opened))
-    (drop_more c.args.lines.now c.loop-made.made _ c.loop-made-test.true) (kept.made told way value (held told)))
+    (drop_more c.args.lines.now c.loop-made.made _ c.loop-made-test.true) (kept.made told way value (held told)).0)
     (λ v holds. any_refused file _ S.tells c.loop-made.opened c.set_limits.new.file before after format v fault keeps was (λ is. holds) refused)
     (any_cause S.tells _ c.loop-made.opened c.set_limits.new.file before after file format fault keeps was refused)
     kept.leaves leaves
@@ -140,7 +130,7 @@ returns-clause-counted g c = λ told others value held input out err link tells.
     let at_end : drop c.loop-made.made c.args.lines.now ≡ [] = drop_all c.loop-made.made c.args.lines.now (omega arith) in
     rw count at
     (all_made others c.args.file c.args.now c.args.lines.now value c.loop-made.made tells (seen_of (S.seen c.args.store.now) input out err link) (S.seen c.loop-made.store)
-    (HoldsAny S.tells (S.seen c.loop-made.store).files c.loop-made.opened) (rw at_end at (kept.made told (Together others) value held)))
+    (HoldsAny S.tells (S.seen c.loop-made.store).files c.loop-made.opened) (rw at_end at ((kept.made told (Together others) value held).0)))
 
 pub returns-in-Err-clause-counted : goal.returns-in-Err-clause-counted
 returns-in-Err-clause-counted g c = λ told others value held input out err link tells.
@@ -158,7 +148,7 @@ returns-in-Err-clause-counted g c = λ told others value held input out err link
     refused_made others file c.args.now c.args.lines.now _ (drop (c.loop-made.made + 1) c.args.lines.now) value c.loop-made.made tells
     (seen_of (S.seen c.args.store.now) input out err link) before after (HoldsAny S.tells before.files c.loop-made.opened) (IsTrue S.tells) fault
     (subst (λ (l : List LineEdit). AreMade (Together others) file c.args.now c.args.lines.now l value c.loop-made.made (S.seen c.args.store.now) before (HoldsAny S.tells before.files c.loop-made.opened))
-    (drop_more c.args.lines.now c.loop-made.made _ c.loop-made-test.true) (kept.made told (Together others) value held))
+    (drop_more c.args.lines.now c.loop-made.made _ c.loop-made-test.true) (kept.made told (Together others) value held).0)
     (λ v holds. any_refused file _ S.tells c.loop-made.opened c.set_limits.new.file before after format v fault keeps was (λ is. holds) refused)
     (any_cause S.tells _ c.loop-made.opened c.set_limits.new.file before after file format fault keeps was refused)
     kept.leaves.later own)
@@ -170,7 +160,9 @@ pub returns-in-Err-clause-few : goal.returns-in-Err-clause-few
 returns-in-Err-clause-few g c = omega (arith, c.loop-made.invariant.within)
 
 pub returns-clause-commits : goal.returns-clause-commits
-returns-clause-commits g c = λ told way value held. c.loop-made.invariant.commits told way value held
+returns-clause-commits g c = λ told way value held.
+    let both = c.loop-made.invariant.made told way value held in
+    each_fewer _ _ _ c.loop-made.made (length c.args.lines.now) (λ worlds. g.S.Store.commits worlds c.args.store.now c.loop-made.store) (omega arith) (both.0.acts, both.1)
 
 pub returns-in-Err-clause-commits : goal.returns-in-Err-clause-commits
 returns-in-Err-clause-commits g c = λ told way value held.
@@ -190,12 +182,13 @@ returns-in-Err-clause-commits g c = λ told way value held.
     let between = c.loop-made.store in
     let last = c.set_limits.new.store in
     let holds = HoldsAny S.tells before.files opened in
-    let are = subst (λ (l : List LineEdit). AreMade way file c.args.now lines l value made (S.seen first) before holds) (drop_more lines made _ c.loop-made-test.true)
-    (kept.made told way value held) in
+    let both = subst (λ (l : List LineEdit). AreCommitted way file c.args.now lines l value made (S.seen first) before holds (λ worlds. S.commits worlds first between))
+    (drop_more lines made _ c.loop-made-test.true) (kept.made told way value held) in
     let all : EditsOne file (S.seen first) after = edits_one-then _ _ _ _ kept.leaves leaves in
-    lines_committed way file c.args.now lines _ (drop (made + 1) lines) value made (S.seen first) before after holds
+    each_fewer _ _ _ (made + 1) (length lines) (λ worlds. S.commits worlds first last) (omega (arith, kept.within, c.loop-made-test.true))
+    (refused_committed way file c.args.now lines _ (drop (made + 1) lines) value made (S.seen first) before after holds
     (λ worlds. S.commits worlds first between) (λ worlds. S.commits worlds between last) (λ worlds. S.commits worlds first last) _
-    are (λ worlds more one two. S.commits_on worlds more _ _ _ one two) c.set_limits.ensures.commits
-    (λ is. refused_stepped are.next file _ S.tells opened c.set_limits.new.file before after format are.value c.in-Err.fault (limits_keep_format _ _ c.args.now) was told are.held
+    both (λ worlds more one two. S.commits_on worlds more _ _ _ one two) (λ worlds none. g.met.S.Store.commits_more worlds between last none) c.set_limits.ensures.commits
+    (λ is. refused_stepped both.0.next file _ S.tells opened c.set_limits.new.file before after format both.0.value c.in-Err.fault (limits_keep_format _ _ c.args.now) was told both.0.held
     c.in-Err.ensures.edits is)
-    all.files (kept.commits told way value held)
+    kept.leaves.files all.files)

@@ -3,14 +3,16 @@ use Rattle.std.proofs.lemmas.Result.{on_ok_weaker}
 use Rattle.file_blocks.specs.Block.{file_of}
 use Rattle.outside.specs.World.{World}
 use Rattle.quota_map.specs.AnyFile.{HoldsAny}
+use Rattle.std.specs.Prelude.{is_ok}
 use Rattle.run_steps.specs.Done.{seen_of, tells_of}
+use Rattle.batch_commands.specs.AtOnce.{MakeTogether}
 use Rattle.batch_commands.specs.Batch.{LineEditMayRefuse, line_uses, way_of}
 use Rattle.batch_commands.specs.BatchReading.{LineSteps}
 use Rattle.batch_commands.proofs.MemoryLemmas.{no_link, no_sink, no_source}
 use Rattle.batch_commands.proofs.ReadsLemmas.{placed_reads}
 use Rattle.batch_commands.proofs.TogetherLemmas.{carries_read, told_first}
 use Rattle.batch_commands.proofs.WantingLemmas.{wanting_never}
-use Rattle.batch_commands.proofs.LinesCommittedLemmas.{looked_before, placed_committed}
+use Rattle.batch_commands.proofs.LinesCommittedLemmas.{looked_before, once_anyhow, placed_committed}
 use Rattle.batch_commands.proofs.batch.edit_lines.Goals as goal
 
 pub returns-in-Ended-clause-carries : goal.returns-in-Ended-clause-carries
@@ -49,7 +51,7 @@ returns-clause-reads g c = λ as_asked value held seen.
     c.edit_all.ensures.reads (c.in-NotMade.ensures.reads_more told value (seen told)))
 
 pub returns-in-Ended-clause-commits : goal.returns-in-Ended-clause-commits
-returns-in-Ended-clause-commits g c = λ told value held view. c.in-Ended.ensures.commits told value view
+returns-in-Ended-clause-commits g c = λ told value held view. once_anyhow _ _ _ c.args.file _ _ _ (c.in-Ended.ensures.commits told value view)
 
 pub returns-clause-commits : goal.returns-clause-commits
 returns-clause-commits g c = λ told value held view.
@@ -60,8 +62,9 @@ returns-clause-commits g c = λ told value held view.
     let middle = (S.seen c.edit_together.new.store).files in
     let new = (S.seen c.edit_all.new.store).files in
     let latter = λ (worlds : List World). S.commits worlds c.edit_together.new.store c.edit_all.new.store in
-    looked_before steps c.args.file old middle new latter (λ worlds. S.commits worlds c.args.store.now c.edit_all.new.store) same
+    let once = MakeTogether c.args.format c.args.file c.args.now c.args.lines.now old value in
+    looked_before once once (is_ok c.edit_all.result.ended) steps c.args.file old middle new latter (λ worlds. S.commits worlds c.args.store.now c.edit_all.new.store) same (λ is. is)
     (λ worlds it. S.commits_on [] worlds _ _ _ c.in-NotMade.ensures.none_committed it)
-    (placed_committed steps c.args.file middle new latter
+    (placed_committed once (is_ok c.edit_all.result.ended) steps c.args.file middle new (length c.args.lines.now) latter (c.in-NotMade.ensures.together told value view)
     (rw c.in-NotMade.ensures.back at (c.edit_all.ensures.commits told (way_of c.args.lines.now) value
     (subst (λ (files : World). HoldsAny S.tells files c.args.opened value) (sym same) held))))

@@ -1,10 +1,13 @@
-use Rattle.std.proofs.Common.{true, length, refl, []}
+use Rattle.std.proofs.Common.{true, false, length, refl, subst, Option, []}
+use Rattle.std.specs.Prelude.{IsSome, ⊤}
+use Rattle.std.proofs.lemmas.Bool.{false≢true}
+use Rattle.refusals.specs.declared.reason.Refusal.{Refusal}
 use Rattle.run_steps.specs.Act.{Together}
 use Rattle.run_steps.specs.Done.{seen_of, tells_of}
 use Rattle.batch_commands.specs.BatchReading.{LineSteps}
 use Rattle.batch_commands.proofs.RefusedLemmas.{not_together}
 use Rattle.batch_commands.proofs.TogetherLemmas.{not_made_weaker, only_read-none, wanting_carried}
-use Rattle.batch_commands.proofs.LinesCommittedLemmas.{nothing_committed}
+use Rattle.batch_commands.proofs.LinesCommittedLemmas.{fit_unrefused, unchanged_committed}
 use Rattle.batch_commands.proofs.together.edit_bytes.Goals as goal
 
 pub returns-in-Ok-Some-clause-carries : goal.returns-in-Ok-Some-clause-carries
@@ -43,4 +46,15 @@ returns-in-Ok-Some-clause-commits g c = λ told others value alone view.
 pub returns-clause-commits : goal.returns-clause-commits
 returns-clause-commits g c = λ told others value alone view.
     let S = g.S.Store in
-    nothing_committed _ _ _ _ (λ worlds. S.commits worlds c.args.store.now c.args.store.now) (S.commits_nothing [] c.args.store.now)
+    unchanged_committed ⊤ false _ c.args.file _ _ (λ worlds. S.commits worlds c.args.store.now c.args.store.now) (λ worlds none. S.commits_nothing worlds c.args.store.now) (S.commits_nothing [] c.args.store.now) refl
+
+pub returns-in-Ok-Some-clause-fitting : goal.returns-in-Ok-Some-clause-fitting
+returns-in-Ok-Some-clause-fitting g c = λ may others value files named view fit.
+    let made = rw c.as_str.ensures at (rw c.in-Ok-Some.field-0-is at c.in-Ok-Some.ensures.made) in
+    let within = rw c.in-Ok-Some.field-0-is at c.in-Ok-Some.ensures.within in
+    let none = fit_unrefused others c.args.file c.args.now c.args.lines.now value c.args.whole.bytes.items c.in-Ok-Some.edited files named fit (made others value view) in
+    not_made_weaker c.put_back.result _ _ (λ name some. false≢true (subst (λ (r : Option Refusal). IsSome r) none some))
+    (c.put_back.ensures.refused c.args.format (length c.args.lines.now) c.args.whole may within)
+
+pub returns-in-Ok-None-clause-fitting : goal.returns-in-Ok-None-clause-fitting
+returns-in-Ok-None-clause-fitting g c = λ may others value files named view fit. absurd (c.in-Ok-None.ensures.opens c.in-Ok-None.field-0-is value view)

@@ -1,5 +1,5 @@
 use Rattle.std.proofs.Common.{◌≡◌, ◌⊎◌, ◌+◌, ◌≤◌, Ok, Some, length, sym, ap, subst, arith, []}
-use Rattle.std.specs.Prelude.{Option, List, ℕ}
+use Rattle.std.specs.Prelude.{Option, List, false, is_ok, ℕ, ⊤}
 use Rattle.file_blocks.specs.Block.{bytes_of, file_of}
 use Rattle.outside.specs.World.{World}
 use Rattle.quota_map.specs.View.{IsView}
@@ -8,6 +8,7 @@ use Rattle.run_steps.specs.Done.{seen_of, tells_of}
 use Rattle.run_steps.specs.Carrying.{CarriesOut}
 use Rattle.batch_commands.specs.Batch.{LineEditMayRefuse, line_uses, way_of, whole_reads}
 use Rattle.batch_commands.specs.BatchReading.{LineSteps}
+use Rattle.batch_commands.specs.FullForLines.{AllFit}
 use Rattle.batch_commands.specs.Together.{AreNeverDone, AreNotTogether, IfEnded, IfNotMade, StandsAlone}
 use Rattle.batch_commands.specs.declared.together.Attempt.{Attempt}
 use Rattle.batch_commands.specs.declared.together.Attempt.TheVariants.{Ended, NotMade}
@@ -15,7 +16,7 @@ use Rattle.batch_commands.proofs.ReadsLemmas.{whole_or_never, whole_twelve}
 use Rattle.batch_commands.proofs.TogetherLemmas.{ended_any, ended_read, on_ok_any, unread_carried, view_some, way_many}
 use Rattle.outside.specs.Replacement.{ReplacesOnly}
 use Rattle.batch_commands.specs.LinesCommitted.{CommitsFrom}
-use Rattle.batch_commands.proofs.LinesCommittedLemmas.{ended_weaker, looked_before, nothing_committed}
+use Rattle.batch_commands.proofs.LinesCommittedLemmas.{ended_weaker, looked_before, unchanged_committed}
 use Rattle.batch_commands.proofs.together.edit_together.Goals as goal
 
 pub returns-in-Ok-Some-clause-carries : goal.returns-in-Ok-Some-clause-carries
@@ -85,14 +86,33 @@ returns-in-Ok-Some-clause-commits g c = λ told value view.
     let latter = λ (worlds : List World). S.commits worlds c.read_whole.new.store c.edit_bytes.new.store in
     let commits = λ (worlds : List World). S.commits worlds c.args.store.now c.edit_bytes.new.store in
     let steps = λ (way : Way). LineSteps way file c.args.now c.args.lines.now value in
-    ended_weaker c.edit_bytes.result (λ _. CommitsFrom (steps (Together many.0)) (ReplacesOnly file middle) middle new latter)
-    (λ _. CommitsFrom (steps (way_of c.args.lines.now)) (ReplacesOnly file old) old new commits)
-    (λ _ those. subst (λ (way : Way). CommitsFrom (steps way) (ReplacesOnly file old) old new commits) (sym many.2)
-    (looked_before (steps (Together many.0)) file old middle new latter commits same (λ worlds it. S.commits_on [] worlds _ _ _ c.in-Ok-Some.ensures.commits it) those))
+    ended_weaker c.edit_bytes.result (λ ended. CommitsFrom ⊤ (is_ok ended) (steps (Together many.0)) (ReplacesOnly file middle) middle new latter)
+    (λ ended. CommitsFrom ⊤ (is_ok ended) (steps (way_of c.args.lines.now)) (ReplacesOnly file old) old new commits)
+    (λ ended those. subst (λ (way : Way). CommitsFrom ⊤ (is_ok ended) (steps way) (ReplacesOnly file old) old new commits) (sym many.2)
+    (looked_before ⊤ ⊤ (is_ok ended) (steps (Together many.0)) file old middle new latter commits same (λ is. is) (λ worlds it. S.commits_on [] worlds _ _ _ c.in-Ok-Some.ensures.commits it) those))
     (c.edit_bytes.ensures.commits told many.0 value (subst (λ (w : World). StandsAlone w file c.in-Ok-Some.whole.bytes.items) (sym same) whole)
     (subst (λ (f : Option (List ℕ)). IsView f c.args.kind c.args.format (Ok value)) whole.named view))
 
 pub returns-in-Err-clause-commits : goal.returns-in-Err-clause-commits
 returns-in-Err-clause-commits g c = λ told value view.
     let S = g.S.Store in
-    nothing_committed _ _ _ _ (λ worlds. S.commits worlds c.args.store.now c.read_whole.new.store) c.in-Err.ensures.commits
+    unchanged_committed ⊤ false _ c.args.file _ _ (λ worlds. S.commits worlds c.args.store.now c.read_whole.new.store) (λ worlds none. g.met.S.Store.commits_more worlds _ _ none) c.in-Err.ensures.commits
+    c.in-Err.ensures.leaves.files
+
+pub returns-in-Ok-Some-clause-together : goal.returns-in-Ok-Some-clause-together
+returns-in-Ok-Some-clause-together g c =
+    let S = g.S.Store in
+    let files = (S.seen c.args.store.now).files in
+    let file = c.args.file in
+    let bytes = c.in-Ok-Some.whole.bytes.items in
+    let lines = c.args.lines.now in
+    let whole = rw c.as_str.ensures at (rw c.in-Ok-Some.field-0-is at c.in-Ok-Some.ensures.whole) in
+    let pays = rw c.in-Ok-Some.field-0-is at c.in-Ok-Some.ensures.pays in
+    let many = way_many lines (omega arith) in
+    never_made c.edit_bytes.result (λ told value view together.
+    c.edit_bytes.ensures.fitting (pays told) many.0 value files (whole told).named (subst (λ (f : Option (List ℕ)). IsView f c.args.kind c.args.format (Ok value)) (whole told).named view)
+    (subst (λ (w : Way). AllFit w file c.args.now lines files value) many.2 together.fit))
+  where
+    never_made : {T V : Type 0} {P Q : V → Type 0} (attempt : Attempt) → (T → (value : V) → P value → Q value → IfNotMade attempt (λ _. ⊥)) → IfNotMade attempt (λ _. T → (value : V) → P value → Q value → ⊥)
+    never_made (Ended result) never = tt
+    never_made (NotMade name) never = never

@@ -1,9 +1,11 @@
-use Rattle.std.proofs.Common.{refl, arith, []}
+use Rattle.std.proofs.Common.{false, refl, arith, []}
+use Rattle.std.specs.Prelude.{is_ok, ⊤}
+use Rattle.std.proofs.lemmas.Bool.{false≢true}
 use Rattle.run_steps.specs.Done.{seen_of, tells_of}
 use Rattle.batch_commands.specs.Batch.{LineEditMayRefuse}
 use Rattle.batch_commands.proofs.TogetherLemmas.{kept_takes, put_carried, refused_carried, replaced_takes}
 use Rattle.batch_commands.proofs.RefusedLemmas.{pays_unless}
-use Rattle.batch_commands.proofs.LinesCommittedLemmas.{nothing_committed, replaced_committed}
+use Rattle.batch_commands.proofs.LinesCommittedLemmas.{replaced_committed, unchanged_committed}
 use Rattle.batch_commands.proofs.together.put_back.Goals as goal
 
 pub returns-then-edited-eq0-clause-carries : goal.returns-then-edited-eq0-clause-carries
@@ -45,16 +47,19 @@ returns-then-not-pays-clause-refused g c = λ asked count whole may within. pays
 pub returns-then-edited-eq0-clause-commits : goal.returns-then-edited-eq0-clause-commits
 returns-then-edited-eq0-clause-commits g c = λ told bytes now lines value others alone made.
     let S = g.S.Store in
-    nothing_committed _ _ _ _ (λ worlds. S.commits worlds c.args.store.now c.args.store.now) (S.commits_nothing [] c.args.store.now)
+    unchanged_committed ⊤ (is_ok c.args.edited.lines.ended) _ c.args.file _ _ (λ worlds. S.commits worlds c.args.store.now c.args.store.now) (λ worlds none. S.commits_nothing worlds c.args.store.now)
+    (S.commits_nothing [] c.args.store.now) refl
 
 pub returns-in-Ok-clause-commits : goal.returns-in-Ok-clause-commits
 returns-in-Ok-clause-commits g c = λ told bytes now lines value others alone made.
     let S = g.S.Store in
-    replaced_committed others c.args.file now lines value bytes c.args.edited (S.seen c.args.store.now).files (S.seen c.replace.new.store).files
-    (λ worlds. S.commits worlds c.args.store.now c.replace.new.store) alone made (rw (c.as_str.ensures, c.as_slice.ensures.value) at (c.replace.ensures.commits told))
+    let replaced = rw (c.as_str.ensures, c.as_slice.ensures.value) at c.in-Ok.ensures.replaced in
+    replaced_committed (is_ok c.args.edited.lines.ended) others c.args.file now lines value bytes c.args.edited (S.seen c.args.store.now).files (S.seen c.replace.new.store).files
+    (λ worlds. S.commits worlds c.args.store.now c.replace.new.store) alone made (rw (c.as_str.ensures, c.as_slice.ensures.value) at (c.replace.ensures.commits told)) (λ well. replaced told)
 
 pub returns-in-Err-clause-commits : goal.returns-in-Err-clause-commits
 returns-in-Err-clause-commits g c = λ told bytes now lines value others alone made.
     let S = g.S.Store in
-    replaced_committed others c.args.file now lines value bytes c.args.edited (S.seen c.args.store.now).files (S.seen c.replace.new.store).files
+    replaced_committed false others c.args.file now lines value bytes c.args.edited (S.seen c.args.store.now).files (S.seen c.replace.new.store).files
     (λ worlds. S.commits worlds c.args.store.now c.replace.new.store) alone made (rw (c.as_str.ensures, c.as_slice.ensures.value) at (c.replace.ensures.commits told))
+    (λ well. absurd (false≢true well))

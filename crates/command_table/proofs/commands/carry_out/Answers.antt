@@ -1,4 +1,5 @@
 use Rattle.std.proofs.Common.{[], ap, refl, sym}
+use Rattle.std.specs.Prelude.{is_none}
 use Rattle.std.proofs.lemmas.Bool.{false≢true}
 use Rattle.std.proofs.lemmas.Result.{on_err_weaker, on_ok_weaker}
 use Rattle.run_steps.specs.Done.{tells_of}
@@ -121,7 +122,7 @@ returns-in-SetTimes-clause-commits g c =
 pub returns-in-Batch-clause-commits : goal.returns-in-Batch-clause-commits
 returns-in-Batch-clause-commits g c =
     rw c.in-Batch.is (λ told. row_committed _ c.args.invocation _ _ _ _ _ _ (λ once. once) (λ world keeps. record { only = record { alone = tt; anew = keeps }; none = λ no. absurd (false≢true (sym no)) })
-    (c.apply_lines.ensures.commits (g.L.Link.seen c.args.link.now).left c.args.invocation.line told.store told.input))
+    (c.apply_lines.ensures.commits (g.L.Link.seen c.args.link.now).left c.args.invocation.line told.store (λ none. told.input (ap is_none none))))
 
 pub returns-in-PrintForm-clause-commits : goal.returns-in-PrintForm-clause-commits
 returns-in-PrintForm-clause-commits g c =
@@ -131,12 +132,12 @@ returns-in-PrintForm-clause-commits g c =
 pub returns-in-ApplyForm-clause-commits : goal.returns-in-ApplyForm-clause-commits
 returns-in-ApplyForm-clause-commits g c =
     rw c.in-ApplyForm.is (λ told. row_committed _ c.args.invocation _ _ _ _ _ _ (λ once. once) (λ world keeps. record { only = record { alone = keeps; anew = tt }; none = λ no. absurd (false≢true (sym no)) })
-    (c.apply_by_word.ensures.commits (g.L.Link.seen c.args.link.now).left told.store told.input))
+    (c.apply_by_word.ensures.commits (g.L.Link.seen c.args.link.now).left told.store (λ none. told.input (ap is_none none))))
 
 pub returns-in-Check-clause-commits : goal.returns-in-Check-clause-commits
 returns-in-Check-clause-commits g c =
     rw c.in-Check.is (λ told. row_committed _ c.args.invocation _ _ _ _ _ _ (λ once. once) (λ world keeps. record { only = record { alone = tt; anew = keeps }; none = λ no. absurd (false≢true (sym no)) })
-    (c.check_file.ensures.commits (g.L.Link.seen c.args.link.now).left c.args.invocation.line told.store told.input))
+    (c.check_file.ensures.commits (g.L.Link.seen c.args.link.now).left c.args.invocation.line told.store (λ none. told.input (ap is_none none))))
 
 pub returns-in-Convert-clause-commits : goal.returns-in-Convert-clause-commits
 returns-in-Convert-clause-commits g c =

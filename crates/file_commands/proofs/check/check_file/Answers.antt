@@ -1,4 +1,5 @@
 use Rattle.std.proofs.Common.{◌≡◌, [], subst, ◌∙◌, true}
+use Rattle.std.specs.Prelude.{⊤}
 use Rattle.std.proofs.lemmas.Result.{on_ok_weaker}
 use Rattle.quota_types.specs.declared.file_kind.Format.{Format}
 use Rattle.outside.proofs.FrameLemmas.{only_reads-none}
@@ -50,7 +51,7 @@ returns-then-fresh-clause-commits g c = λ datagrams line told input_told.
     let is = c.new-value.ensures in
     let made = new_value c.args.common.kind c.args.common.format in
     let old : Outside = record { files = (S.seen c.args.store.now).files; input = (g.I.Source.seen c.args.input.now).left; datagrams = datagrams } in
-    let all = λ (k : Kind) (v : QuotaValue). CommitsSteps true (is_ok c.check_value.result) (UsageSteps k c.args.device c.args.from c.args.file c.args.now v)
+    let all = λ (k : Kind) (v : QuotaValue). CommitsSteps ⊤ (is_ok c.check_value.result) (UsageSteps k c.args.device c.args.from c.args.file c.args.now v)
     (ReplacesOnly c.args.file old.files) old (S.seen c.check_value.new.store).files (λ worlds. S.commits worlds c.args.store.now c.check_value.new.store) in
     rw c.if-fresh.true
     (subst (λ (k : Kind). all k made) is.kind (subst (λ (v : QuotaValue). all c.new-value.result.kind v) is.value (c.check_value.ensures.commits datagrams told input_told)))

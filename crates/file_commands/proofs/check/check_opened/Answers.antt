@@ -1,4 +1,5 @@
 use Rattle.std.proofs.Common.{◌≡◌, inl, inr, sym, ap, subst, ◌∙◌, true, false, [], refl}
+use Rattle.std.specs.Prelude.{⊤}
 use Rattle.std.proofs.lemmas.Result.{on_ok_weaker}
 use Rattle.quota_types.specs.declared.file_kind.Format.{Format}
 use Rattle.quota_types.specs.declared.file_kind.Kind.{Kind}
@@ -111,9 +112,9 @@ returns-in-Ok-read_value-clause-commits g c = λ datagrams told input_told.
 pub returns-in-Err-read_value-clause-commits : goal.returns-in-Err-read_value-clause-commits
 returns-in-Err-read_value-clause-commits g c = λ datagrams told input_told.
     let S = g.S.Store in
-    looked_committed true false _ _ _ _ _ (λ worlds. g.met.S.Store.commits_more worlds _ _) (g.met.S.Store.commits_behind_none [] _ _ _ c.in-Ok.ensures.commits c.in-Err-read_value.ensures.commits)
+    looked_committed ⊤ false _ _ _ _ _ (λ worlds. g.met.S.Store.commits_more worlds _ _) (g.met.S.Store.commits_behind_none [] _ _ _ c.in-Ok.ensures.commits c.in-Err-read_value.ensures.commits)
     (c.in-Err-read_value.ensures.leaves.files ∙ c.in-Ok.ensures.leaves.files) (λ other differ differs. refl)
 
 pub returns-in-Err-clause-commits : goal.returns-in-Err-clause-commits
 returns-in-Err-clause-commits g c = λ datagrams told input_told.
-    looked_committed true false _ _ _ _ _ (λ worlds. g.met.S.Store.commits_more worlds _ _) c.in-Err.ensures.commits c.in-Err.ensures.leaves.files (λ other differ differs. refl)
+    looked_committed ⊤ false _ _ _ _ _ (λ worlds. g.met.S.Store.commits_more worlds _ _) c.in-Err.ensures.commits c.in-Err.ensures.leaves.files (λ other differ differs. refl)

@@ -1,4 +1,5 @@
 use Rattle.std.proofs.Common.{◌≡◌, true, false, inl, inr, refl, ap}
+use Rattle.std.specs.Prelude.{⊤}
 use Rattle.std.proofs.lemmas.Bool.{false≢true}
 use Rattle.std.proofs.lemmas.Result.{on_ok_weaker}
 use Rattle.outside.proofs.FrameLemmas.{syncs-after_read, syncs-read}
@@ -22,8 +23,8 @@ returns-in-Ok-clause-carries g c = λ out err link out_tells err_tells link_tell
     let took = c.in-Ok.ensures in
     carries_taking _ c.args.from (λ (u : UsageMap). true) _ (λ (u : UsageMap). ReplaceSteps c.args.file
     (checked (value_in c.args.value) u c.args.now)) c.in-Ok.usage
-    _ _ _ _ _ _ _ _ _ took.leaves took.later (λ told. took.read told.store told.input)
-    (λ told. has_taken c.args.from true _ _ (took.behind told.input) (λ all none. took.ended none told.input)
+    _ _ _ _ _ _ _ _ _ took.leaves took.later (λ told. took.read told.store (λ none. told.input))
+    (λ told. has_taken c.args.from true _ _ (took.behind (λ none. told.input)) (λ all none. took.ended none told.input)
     (λ some. ap (λ i. (g.I.Source.seen i).left) (took.untouched some)))
     (λ cause said may. inr may) (c.replace_usage.ensures.carries (g.I.Source.seen c.take_usage.new.input) out err link g.I.Source.tells
     out_tells err_tells link_tells)
@@ -32,8 +33,8 @@ pub returns-in-Err-clause-carries : goal.returns-in-Err-clause-carries
 returns-in-Err-clause-carries g c = λ out err link out_tells err_tells link_tells.
     let took = c.in-Err.ensures in
     input_refused _ AListing c.args.from (λ (u : UsageMap). true) _ _ _ _ _ _ _ _ _ took.leaves took.later
-    (fault_more _ _ _ _ _ _ _ c.in-Err.refusal c.in-Err.refusal.cause (λ rose. rose) (λ rose. rose) (λ told. (told.store, told.input)) took.refused)
-    (λ told. has_taken c.args.from false _ _ (took.behind told.input) (λ no. absurd (false≢true no))
+    (fault_more _ _ _ _ _ _ _ c.in-Err.refusal c.in-Err.refusal.cause (λ rose. rose) (λ rose. rose) (λ told. (told.store, λ none. told.input)) took.refused)
+    (λ told. has_taken c.args.from false _ _ (took.behind (λ none. told.input)) (λ no. absurd (false≢true no))
     (λ some. ap (λ i. (g.I.Source.seen i).left) (took.untouched some)))
     took.may (inl took.may) (placed_nowhere (check_uses c.args.from) c.in-Err.refusal took.placed)
 
@@ -61,9 +62,9 @@ returns-in-Ok-clause-commits g c = λ datagrams told input_told.
     took.leaves.files (λ worlds. g.met.S.Store.commits_behind_none worlds _ _ _ took.commits)
     (λ world. comes_taking c.args.from (λ (u : UsageMap). true) _ (λ (u : UsageMap). ReplaceSteps c.args.file (checked (value_in c.args.value) u c.args.now)) c.in-Ok.usage
     old left world (took.read told input_told)
-    (has_taken c.args.from true _ _ (took.behind input_told) (λ all none. took.ended none input_told) (λ some. ap (λ i. (I.seen i).left) (took.untouched some))))
+    (has_taken c.args.from true _ _ (took.behind input_told) (λ all none. took.ended none (input_told none)) (λ some. ap (λ i. (I.seen i).left) (took.untouched some))))
     (c.replace_usage.ensures.commits left datagrams told)
 
 pub returns-in-Err-clause-commits : goal.returns-in-Err-clause-commits
 returns-in-Err-clause-commits g c = λ datagrams told input_told.
-    looked_committed true false _ _ _ _ _ (λ worlds. g.met.S.Store.commits_more worlds _ _) c.in-Err.ensures.commits c.in-Err.ensures.leaves.files (λ other differ differs. refl)
+    looked_committed ⊤ false _ _ _ _ _ (λ worlds. g.met.S.Store.commits_more worlds _ _) c.in-Err.ensures.commits c.in-Err.ensures.leaves.files (λ other differ differs. refl)

@@ -1,4 +1,4 @@
-use Rattle.std.proofs.Common.{Bool, sym, subst}
+use Rattle.std.proofs.Common.{Bool, refl, sym, subst}
 use Rattle.std.proofs.lemmas.Bool.{false≢true}
 use Rattle.std.proofs.lemmas.Option.{none-some}
 use Rattle.command_table.specs.Table.{described}
@@ -58,7 +58,8 @@ pub returns-else-is_script-clause-link : goal.returns-else-is_script-clause-link
 returns-else-is_script-clause-link g c = rw (sym c.if-is_script.ensures) c.carry_out.ensures.link
 
 pub returns-then-is_script-clause-commits : goal.returns-then-is_script-clause-commits
-returns-then-is_script-clause-commits g c = rw (sym c.if-is_script.ensures) c.run_script.ensures.commits
+returns-then-is_script-clause-commits g c =
+    rw (sym c.if-is_script.ensures) (λ told. c.run_script.ensures.commits (record { store = told.store; input = told.input refl; link = told.link refl }))
 
 pub returns-else-is_script-clause-commits : goal.returns-else-is_script-clause-commits
 returns-else-is_script-clause-commits g c = rw (sym c.if-is_script.ensures) c.carry_out.ensures.commits

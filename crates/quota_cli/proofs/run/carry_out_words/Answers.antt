@@ -40,7 +40,7 @@ returns-in-Err-clause-usage g c = λ no.
 pub returns-in-Ok-clause-commits : goal.returns-in-Ok-clause-commits
 returns-in-Ok-clause-commits g c = λ told.
     read_committed commanded c.in-Ok.command (command_of false (texts_of c.args.words.now)) (record { now = c.args.now; line = None }) _ _ _ _ c.in-Ok.ensures
-    ((rw c.outside_script-invocation.ensures at c.carry_command.ensures.commits) told)
+    ((rw c.outside_script-invocation.ensures at c.carry_command.ensures.commits) (rw c.in-Ok.ensures at told))
 
 pub returns-in-Err-clause-commits : goal.returns-in-Err-clause-commits
 returns-in-Err-clause-commits g c = λ told.

@@ -13,4 +13,5 @@ returns-clause-carries g c =
 pub returns-clause-commits : goal.returns-clause-commits
 returns-clause-commits g c = λ told.
     line_committed c.args.now (line_read c.args.line.now) _ _ _ _ _
-    ((rw (c.in_script-invocation.ensures, c.as_str-text.ensures.value) at c.carry_text-done.ensures.commits) told)
+    ((rw (c.in_script-invocation.ensures, c.as_str-text.ensures.value) at c.carry_text-done.ensures.commits)
+    (record { store = told.store; input = λ used. told.input; link = λ used. told.link }))

@@ -23,7 +23,7 @@ invariant-loop-line g l =
           → AreCarried l.now (map line_read l.lines) l.fn.refusal (tells_of S.tells I.tells O.tells E.tells L.tells)
           (seen_of (S.seen l.fn.store) (I.seen l.fn.input) (O.seen l.fn.out) (E.seen l.fn.err) (L.seen l.fn.link)) new result;
       committed : IsWorldTold (tells_of S.tells I.tells O.tells E.tells L.tells)
-          → CommitsSteps false true (LinesSteps l.now (map line_read l.lines) l.fn.refusal) Any
+          → CommitsSteps ⊥ true (LinesSteps l.now (map line_read l.lines) l.fn.refusal) Any
           (outside_of (seen_of (S.seen l.fn.store) (I.seen l.fn.input) (O.seen l.fn.out) (E.seen l.fn.err) (L.seen l.fn.link)))
           (S.seen l.store).files (λ worlds. S.commits worlds l.fn.store l.store);
       reaches : IsWorldTold (tells_of S.tells I.tells O.tells E.tells L.tells) → (world : World)

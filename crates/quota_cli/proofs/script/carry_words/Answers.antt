@@ -25,7 +25,7 @@ returns-in-Err-clause-carries g c =
 
 pub returns-in-Ok-clause-commits : goal.returns-in-Ok-clause-commits
 returns-in-Ok-clause-commits g c = λ told.
-    read_committed described c.in-Ok.command (command_of true (texts_of c.args.words.now)) c.args.invocation _ _ _ _ c.in-Ok.ensures (c.carry_out.ensures.commits told)
+    read_committed described c.in-Ok.command (command_of true (texts_of c.args.words.now)) c.args.invocation _ _ _ _ c.in-Ok.ensures (c.carry_out.ensures.commits (rw c.in-Ok.ensures at told))
 
 pub returns-in-Err-clause-commits : goal.returns-in-Err-clause-commits
 returns-in-Err-clause-commits g c = λ told.

@@ -2,7 +2,7 @@ use Rattle.std.proofs.Common.{◌≤◌, ◌+◌, ◌*◌, ℕ}
 use Rattle.std.specs.Prelude.{All}
 use Rattle.std.specs.List.{AllWithin}
 use Rattle.batch_commands.specs.declared.batch_line.LineEdit.{LineEdit}
-use Rattle.batch_commands.proofs.together.flat_reach.Given as goal
+use Rattle.batch_commands.proofs.reached_length.flat_reach.Given as goal
 
 abbrev pub invariant-loop-line : goal.invariant-loop-line
 invariant-loop-line l = record {
