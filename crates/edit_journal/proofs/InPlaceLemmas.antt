@@ -11,6 +11,7 @@ use Rattle.edit_journal.specs.Undo.{bytes_at, is_usable, range_at, recovered, sa
 use Rattle.edit_journal.specs.UndoSaves.{HoldsItsRanges}
 use Rattle.edit_journal.proofs.RecoveryResultLemmas.{recovered-closed}
 use Rattle.edit_journal.proofs.SavedLemmas.{bytes_at-same}
+use Rattle.edit_journal.proofs.WrittenLemmas.{length-or_none}
 
 -- whether an undo file holds its ranges, by its length and whether they end within that
 pub holds-by : (undo : List ℕ) (len count : ℕ) (within : Bool) → len ≡ length undo → 1024 ≤ len → count ≤ 12 → count ≡ number_at 4 undo 16
@@ -20,22 +21,19 @@ holds-by undo len count within long room most many is = (
   λ holds. is.1 (λ k below. omega (arith, holds.within (omega (arith, many, most)) k (omega (arith, below, many)), long)),
 )
 
-size-of : (file : Option (List ℕ)) → unwrap_or (option_map length file) 0 ≡ length (unwrap_or file [])
-size-of None = refl
-size-of (Some file) = refl
-
 -- the same where its length was asked for before
 pub holds-sized : (undo : List ℕ) (found : Option ℕ) (len count : ℕ) (within : Bool) (a b : World) → found ≡ option_map length (a undo) → len ≡ unwrap_or found 0 → b ≡ a → 1024 ≤ len → count ≤ 12
     → count ≡ number_at 4 (unwrap_or (a undo) []) 16 → (IsTrue within ↔ ((k : ℕ) → k < count → range_at k + 16 + number_at 2 (unwrap_or (b undo) []) (range_at k + 8) ≤ len))
     → IsTrue within ↔ HoldsItsRanges (unwrap_or (a undo) [])
 holds-sized undo found len count within a b size long same room most many is =
-    holds-by (unwrap_or (a undo) []) len count within (long ∙ ap (λ (o : Option ℕ). unwrap_or o 0) size ∙ size-of (a undo)) room most many
+    holds-by (unwrap_or (a undo) []) len count within (long ∙ length-or_none (a undo) found size) room most many
     (subst (λ (f : World). IsTrue within ↔ ((k : ℕ) → k < count → range_at k + 16 + number_at 2 (unwrap_or (f undo) []) (range_at k + 8) ≤ len)) same is)
 
 -- a file with the bytes of another one behind the first, within the end of that
 abbrev SameBehind : List ℕ → List ℕ → Type 0
 SameBehind undo new = (p : ℕ) → 1 ≤ p → p < length undo → byte_at new p ≡ byte_at undo p
 
+-- numbers behind the first byte stay
 number-behind : (width at : ℕ) (undo new : List ℕ) → SameBehind undo new → 1 ≤ at → at + width ≤ length undo → number_at width new at ≡ number_at width undo at
 number-behind width at undo new same behind within = number_same width at new undo (λ p from to. same p (omega (arith, from, behind)) (omega (arith, to, within)))
 
@@ -53,6 +51,7 @@ span-behind undo new k same within =
     ∙ ap (λ (n : ℕ). span_by (number_at 8 undo (range_at k)) (bytes_at new (range_at k + 16) n)) number
     ∙ ap (λ (l : List ℕ). span_by (number_at 8 undo (range_at k)) l) bytes
 
+-- so do saved ranges that end within their undo file
 spans-behind : (undo new : List ℕ) (k count : ℕ) → SameBehind undo new
     → ((i : ℕ) → k ≤ i → i < k + count → range_at i + 16 + number_at 2 undo (range_at i + 8) ≤ length undo) → saved_ranges new k count ≡ saved_ranges undo k count
 spans-behind undo new k zero same within = refl
@@ -65,17 +64,18 @@ abbrev recovered_by : List ℕ → (gate old_length count : ℕ) → List ByteRa
 recovered_by file gate old_length count spans =
     Some (if nat_eq gate 1 && nat_le old_length (length file) && nat_le count 12 && ranges_fit old_length spans then take old_length (laid spans file) else file)
 
-no_third : (a b d : Bool) → (a && b && false && d) ≡ false
-no_third true true d = refl
-no_third true false d = refl
-no_third false b d = refl
+-- four facts, of which the third does not hold
+and-third_false : (a b d : Bool) → (a && b && false && d) ≡ false
+and-third_false true true d = refl
+and-third_false true false d = refl
+and-third_false false b d = refl
 
 -- an undo file that names too many ranges
 unusable-many : (file undo : List ℕ) → 12 < number_at 4 undo 16 → is_usable file undo ≡ false
 unusable-many file undo many =
     let c : nat_le (number_at 4 undo 16) 12 ≡ false = false_from_ne_true _ (λ is. absurd (omega (arith, many, leb-true _ _ is))) in
     ap (λ (b : Bool). nat_eq (byte_at undo 0) 1 && nat_le (number_at 8 undo 8) (length file) && b && ranges_fit (number_at 8 undo 8) (saved_ranges undo 0 (number_at 4 undo 16))) c
-    ∙ no_third (nat_eq (byte_at undo 0) 1) (nat_le (number_at 8 undo 8) (length file)) _
+    ∙ and-third_false (nat_eq (byte_at undo 0) 1) (nat_le (number_at 8 undo 8) (length file)) _
 
 -- where the gate is open, and open still
 recovered-open : (file undo new : List ℕ) → byte_at undo 0 ≡ 1 → byte_at new 0 ≡ 1 → HoldsItsRanges undo → SameBehind undo new → recovered (Some file) (Some undo) ≡ Some file → recovered (Some file) (Some new) ≡ Some file

@@ -11,17 +11,18 @@ use Rattle.edit_journal.specs.ByteRanges.{ByteRange, laid, with_laid}
 use Rattle.edit_journal.specs.Undo.{bytes_at, saved_range, saved_ranges, range_fits, ranges_fit}
 use Rattle.edit_journal.proofs.MendedFileLemmas.{laid_back-more, mends_file-range, mends_file-then}
 use Rattle.edit_journal.proofs.ReadLemmas.{fit-each, looks-wider}
-use Rattle.edit_journal.proofs.TornLemmas.{tears-then}
+use Rattle.edit_journal.proofs.LoopLemmas.{tears-then}
 
-and_two : (a b c : Bool) → (a && b && c) ≡ true → (a ≡ true) × (b ≡ true)
-and_two true true c is = (refl, refl)
-and_two false b c is = absurd (false≢true is)
-and_two true false c is = absurd (false≢true is)
+-- the first two of three facts
+and-two_true : (a b c : Bool) → (a && b && c) ≡ true → (a ≡ true) × (b ≡ true)
+and-two_true true true c is = (refl, refl)
+and-two_true false b c is = absurd (false≢true is)
+and-two_true true false c is = absurd (false≢true is)
 
 -- a saved range that fits has few bytes and a low place
 pub range-parts : (old_length : ℕ) (span : ByteRange) → range_fits old_length span ≡ true → (length span.bytes ≤ 1024) × (span.at ≤ 2 ^ 42)
 range-parts old_length span fit =
-    let two = and_two (nat_le (length span.bytes) 1024) (nat_le span.at (2 ^ 42)) (nat_eq (length span.bytes) 0 || nat_le (span.at + length span.bytes) old_length) fit in
+    let two = and-two_true (nat_le (length span.bytes) 1024) (nat_le span.at (2 ^ 42)) (nat_eq (length span.bytes) 0 || nat_le (span.at + length span.bytes) old_length) fit in
     (leb-true _ _ two.0, leb-true _ _ two.1)
 
 -- a file that is torn within a range once other files were read

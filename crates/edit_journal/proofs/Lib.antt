@@ -1,5 +1,4 @@
 pub mod CommitStopLemmas
-pub mod CommitOrderLemmas
 pub mod InPlaceLemmas
 pub mod LaidBytesLemmas
 pub mod LayBackLemmas
@@ -11,5 +10,4 @@ pub mod ReadLemmas
 pub mod RecoveryCallLemmas
 pub mod RecoveryResultLemmas
 pub mod SavedLemmas
-pub mod TornLemmas
 pub mod WrittenLemmas

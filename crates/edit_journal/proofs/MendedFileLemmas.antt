@@ -38,19 +38,21 @@ laid_same (span ∷ rest) one other place same =
     laid_same rest (with_laid one span.at span.bytes) (with_laid other span.at span.bytes) place
     (λ outside. laid_same-one span.at span.bytes one other place (λ here. same (here, outside)))
 
-all_four : (a b c d : Bool) → (a && b && c && d) ≡ true → (a ≡ true) × (b ≡ true) × (c ≡ true) × (d ≡ true)
-all_four true true true true is = (refl, refl, refl, refl)
-all_four false b c d is = absurd (false≢true is)
-all_four true false c d is = absurd (false≢true is)
-all_four true true false d is = absurd (false≢true is)
-all_four true true true false is = absurd (false≢true is)
+-- each of four facts
+and-four_true : (a b c d : Bool) → (a && b && c && d) ≡ true → (a ≡ true) × (b ≡ true) × (c ≡ true) × (d ≡ true)
+and-four_true true true true true is = (refl, refl, refl, refl)
+and-four_true false b c d is = absurd (false≢true is)
+and-four_true true false c d is = absurd (false≢true is)
+and-four_true true true false d is = absurd (false≢true is)
+and-four_true true true true false is = absurd (false≢true is)
 
 -- what a usable undo file is
 pub usable-parts : (file undo : List ℕ) → is_usable file undo ≡ true → (byte_at undo 0 ≡ 1) × (number_at 8 undo 8 ≤ length file) × (number_at 4 undo 16 ≤ 12) × (ranges_fit (number_at 8 undo 8) (saved_ranges undo 0 (number_at 4 undo 16)) ≡ true)
 usable-parts file undo is =
-    let four = all_four (nat_eq (byte_at undo 0) 1) (nat_le (number_at 8 undo 8) (length file)) (nat_le (number_at 4 undo 16) 12) (ranges_fit (number_at 8 undo 8) (saved_ranges undo 0 (number_at 4 undo 16))) is in
+    let four = and-four_true (nat_eq (byte_at undo 0) 1) (nat_le (number_at 8 undo 8) (length file)) (nat_le (number_at 4 undo 16) 12) (ranges_fit (number_at 8 undo 8) (saved_ranges undo 0 (number_at 4 undo 16))) is in
     (eqb-true _ _ four.0, leb-true _ _ four.1, leb-true _ _ four.2, four.3)
 
+-- by these parts it is usable
 pub usable-by : (file undo : List ℕ) → byte_at undo 0 ≡ 1 → number_at 8 undo 8 ≤ length file → number_at 4 undo 16 ≤ 12 → ranges_fit (number_at 8 undo 8) (saved_ranges undo 0 (number_at 4 undo 16)) ≡ true → is_usable file undo ≡ true
 usable-by file undo opened long most fit =
     let a : nat_eq (byte_at undo 0) 1 ≡ true = eq-eqb _ _ opened in
@@ -85,6 +87,7 @@ recovered-mended (Some file) (Some new) (Some undo) usable mends =
     let parts = usable-parts file undo usable in
     recovered-same file new undo usable (omega (arith, mends.no_shorter, parts.1)) (λ place below outside. mends.same place below (omega (arith, below, parts.1)) outside)
 
+-- two mendings in a row
 mends-then : (len : ℕ) (spans : List ByteRange) (a b c : Option (List ℕ)) → Mends len spans a b → Mends len spans b c → Mends len spans a c
 mends-then len spans a b c first second = record {
   there = λ is. second.there (first.there is);
@@ -97,6 +100,7 @@ mends_file-then name undo a b c first second =
     passes-then (MendsFile name undo) a b c
     (λ x y z one two. (mends-then _ _ (x name) (y name) (z name) one.0 two.0, keeps_others-then name x y z one.1 two.1)) first second
 
+-- a place that is outside of all saved ranges is outside of each
 outside-span : (undo : List ℕ) (k count i place : ℕ) → i < count → IsOutsideAll (saved_ranges undo k count) place → IsOutside (saved_range undo (k + i)).at (length (saved_range undo (k + i)).bytes) place
 outside-span undo k zero i place below outside = absurd (omega (arith, below))
 outside-span undo k (suc count) zero place below outside =

@@ -4,16 +4,17 @@ use Rattle.std.specs.Prelude.{codes}
 use Rattle.std.proofs.lemmas.List.{append_cancel_right, get_or-append-add}
 use Rattle.edit_journal.specs.UndoName.{und_name, undo_name}
 
-longer : (name added : List ℕ) (more : ℕ) → length added ≡ more + 1 → name ≢ name ++ added
-longer name added more long same = absurd (omega (arith, ap length same, length-append name added, long))
+-- a name with an ending added is another one
+added-differs : (name added : List ℕ) (more : ℕ) → length added ≡ more + 1 → name ≢ name ++ added
+added-differs name added more long same = absurd (omega (arith, ap length same, length-append name added, long))
 
 pub undo-own : (name : List ℕ) → name ≢ undo_name name
 unfolding undo_name
-undo-own name same = longer name (codes ".undo") 4 (omega arith) same
+undo-own name same = added-differs name (codes ".undo") 4 (omega arith) same
 
 pub und-own : (name : List ℕ) → name ≢ und_name name
 unfolding und_name
-und-own name same = longer name (codes ".und") 3 (omega arith) same
+und-own name same = added-differs name (codes ".und") 3 (omega arith) same
 
 -- the last letters differ
 pub und-undo : (one other : List ℕ) → und_name one ≢ undo_name other

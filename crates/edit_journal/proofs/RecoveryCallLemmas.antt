@@ -1,15 +1,17 @@
 -- What a recovery leaves.
-use Rattle.std.proofs.Common.{◌≡◌, ◌≢◌, ◌⊎◌, inl, inr, ⊎_elim, ℕ, Bool, true, List, [], length, replicate, Option, Some, None, unwrap_or, refl, sym, ap, ◌∙◌, subst, arith}
+use Rattle.std.proofs.Common.{◌≡◌, ◌≢◌, ◌⊎◌, inl, inr, ⊎_elim, ℕ, Bool, true, List, [], length, drop, replicate, Option, Some, None, Result, Ok, Err, OnOk, unwrap_or, refl, sym, ap, ◌∙◌, subst, arith}
 use Rattle.std.proofs.lemmas.Bool.{false≢true}
 use Rattle.std.proofs.lemmas.List.{get_or-replicate}
-use Rattle.outside.specs.World.{World}
+use Rattle.outside.specs.Unsynced.{UnsyncedNames}
+use Rattle.outside.specs.World.{KeepsOtherTwo, KeepsOthers, World}
 use Rattle.outside.proofs.FrameLemmas.{keeps_other_two-then, keeps_others-then}
 use Rattle.disk.specs.DiskSeen.{DiskSeen, IsDurable, OnlyLeaves, Passes}
 use Rattle.disk.specs.DiskCalls.{IsOutside, TearsRange, Torn}
 use Rattle.disk.proofs.StepLemmas.{torn-same, torn-then}
 use Rattle.disk.proofs.StopLemmas.{kept-on, only_leaves-passes, passes-then, passes-wider}
 use Rattle.quota_types.specs.Bytes.{byte_at, number_at}
-use Rattle.edit_journal.specs.Recovery.{BeginsSo, ClosesGate, StatesSaved, IsSame, MendsFile, RecoversInPlace, Restores, is_mended}
+use Rattle.edit_journal.specs.Keeps.{InPlace}
+use Rattle.edit_journal.specs.Recovery.{BeginsSo, ClosesGate, IsRead, StatesSaved, IsSame, MendsFile, RecoversInPlace, Restores, is_mended}
 use Rattle.edit_journal.specs.Recovered.{RecoversAsBefore, RecoversSame, IsRecovered}
 use Rattle.edit_journal.specs.Undo.{recovered, saved_ranges, ranges_fit}
 use Rattle.edit_journal.specs.UndoSaves.{HoldsItsRanges}
@@ -17,6 +19,21 @@ use Rattle.edit_journal.proofs.InPlaceLemmas.{recovered-torn}
 use Rattle.edit_journal.proofs.MendedFileLemmas.{recovered-mended, usable-parts}
 use Rattle.edit_journal.proofs.ReadLemmas.{looks-kept}
 use Rattle.edit_journal.proofs.RecoveryResultLemmas.{recovered-closed}
+
+-- what holds whatever the result is, holds where it is Ok
+pub on_ok : {T E P : Type 0} (result : Result T E) → P → OnOk result P
+on_ok (Ok value) is = is
+on_ok (Err fault) is = tt
+
+-- what follows where it is Ok
+pub on_ok-then : {T E P Q : Type 0} (result : Result T E) → OnOk result P → (P → Q) → OnOk result Q
+on_ok-then (Ok value) is so = so is
+on_ok-then (Err fault) is so = tt
+
+-- the same of a call that was not done where its caller was not
+pub in_place-undone : {T E F G : Type 0} {step : World → World → Type 0} {Names : UnsyncedNames → UnsyncedNames → Type 0} {undo : List ℕ} {a b : DiskSeen} {other : Result F G} (result : Result T E)
+    → InPlace step Names undo a b other → OnOk result (drop 1 (unwrap_or (b.files undo) []) ≡ drop 1 (unwrap_or (a.files undo) [])) → InPlace step Names undo a b result
+in_place-undone result closed rest = record { passes = closed.passes; names = closed.names; rest = rest }
 
 -- a wider step, where it is taken from each image
 pub passes-within : (step wider : World → World → Type 0) (a b : DiskSeen) → ((before after : World) → a.images before → step before after → wider before after) → a.images a.files → Passes step a b → Passes wider a b
@@ -86,11 +103,13 @@ closed-made : byte_at (replicate 1024 0) 0 ≢ 1
 closed-made is = absurd (omega (arith, is, get_or-replicate {A = ℕ} 1024 0 0 0 (omega arith)))
 
 module _ (name undo und : List ℕ) (apart : name ≢ undo) (unmade : name ≢ und) where
-  recovers-then : (a b c : DiskSeen) → Passes (RecoversSame name undo und) a b → Passes (RecoversSame name undo und) b c → Passes (RecoversSame name undo und) a c
+  -- a recovery, and then another one
+  pub recovers-then : (a b c : DiskSeen) → Passes (RecoversSame name undo und) a b → Passes (RecoversSame name undo und) b c → Passes (RecoversSame name undo und) a c
   recovers-then a b c first second =
       passes-then (RecoversSame name undo und) a b c
       (λ x y z one two. (two.0 ∙ one.0, λ other one_differs two_differs three_differs. two.1 other one_differs two_differs three_differs ∙ one.1 other one_differs two_differs three_differs)) first second
 
+  -- a restoring recovers to the same
   pub recovers-restores : (a b : DiskSeen) → Passes (Restores name undo) a b → Passes (RecoversSame name undo und) a b
   recovers-restores a b passes =
       passes-wider (Restores name undo) (RecoversSame name undo und) a b (λ x y step. (step.0, λ other differ two_differs three_differs. step.1 other differ)) passes
@@ -103,6 +122,7 @@ module _ (name undo und : List ℕ) (apart : name ≢ undo) (unmade : name ≢ u
       passes-then (RecoversInPlace name undo) a b c
       (λ x y z one two. (two.0 ∙ one.0, torn-then (IsOutside 0 1) (x undo) (y undo) (z undo) one.1 two.1, keeps_other_two-then name undo x y z one.2 two.2)) first second
 
+  -- a restoring is one in place
   pub in_place-restores : (a b : DiskSeen) → Passes (Restores name undo) a b → Passes (RecoversInPlace name undo) a b
   in_place-restores a b passes =
       passes-wider (Restores name undo) (RecoversInPlace name undo) a b
@@ -113,19 +133,28 @@ module _ (name undo und : List ℕ) (apart : name ≢ undo) (unmade : name ≢ u
       ))
       passes
 
+  -- where nothing but the file itself changes
+  pub in_place-restored : {T E : Type 0} (result : Result T E) (a b : DiskSeen) → Passes (Restores name undo) a b → KeepsOtherTwo name undo a.unsynced b.unsynced
+      → InPlace (RecoversInPlace name undo) (KeepsOtherTwo name undo) undo a b result
+  in_place-restored result a b restores names = record {
+    passes = in_place-restores a b restores;
+    names = names;
+    rest = on_ok result (ap (λ (u : Option (List ℕ)). drop 1 (unwrap_or u [])) (restores.follows.read.1 undo (λ same. apart (sym same))));
+  }
+
   -- a file that recovers to itself does so beside a new undo file
-  remade : (file old new : Option (List ℕ)) → recovered file old ≡ file → (new ≡ old) ⊎ (new ≡ Some (replicate 1024 0)) → recovered file new ≡ recovered file old
-  remade file old new itself (inl same) = ap (λ (u : Option (List ℕ)). recovered file u) same
-  remade file old new itself (inr made) =
+  recovered-remade : (file old new : Option (List ℕ)) → recovered file old ≡ file → (new ≡ old) ⊎ (new ≡ Some (replicate 1024 0)) → recovered file new ≡ recovered file old
+  recovered-remade file old new itself (inl same) = ap (λ (u : Option (List ℕ)). recovered file u) same
+  recovered-remade file old new itself (inr made) =
       ap (λ (u : Option (List ℕ)). recovered file u) made ∙ recovered-unopened file (Some (replicate 1024 0)) closed-made ∙ sym itself
 
   -- so does one whose gate is being closed
-  closing : (before after : World) → byte_at (unwrap_or (before undo) []) 0 ≡ 1 → recovered (before name) (before undo) ≡ before name → ClosesGate und undo before after → RecoversSame name undo und before after
-  closing before after opened itself (inl makes) = (
-    ap (λ (f : Option (List ℕ)). recovered f (after undo)) (makes.0 name unmade apart) ∙ remade (before name) (before undo) (after undo) itself makes.1,
+  recovers-while_closing : (before after : World) → byte_at (unwrap_or (before undo) []) 0 ≡ 1 → recovered (before name) (before undo) ≡ before name → ClosesGate und undo before after → RecoversSame name undo und before after
+  recovers-while_closing before after opened itself (inl makes) = (
+    ap (λ (f : Option (List ℕ)). recovered f (after undo)) (makes.0 name unmade apart) ∙ recovered-remade (before name) (before undo) (after undo) itself makes.1,
     λ other one_differs two_differs three_differs. makes.0 other three_differs two_differs,
   )
-  closing before after opened itself (inr in_place) = (
+  recovers-while_closing before after opened itself (inr in_place) = (
     ap (λ (f : Option (List ℕ)). recovered f (after undo)) (in_place.1.1 name apart)
         ∙ recovered-torn (before name) (before undo) (after undo) opened in_place.0 in_place.1.0 itself
         ∙ sym itself,
@@ -135,6 +164,7 @@ module _ (name undo und : List ℕ) (apart : name ≢ undo) (unmade : name ≢ u
   -- a file is mended, and its undo file still names as many ranges, and has an open gate
   module _ (a b c : DiskSeen) (count : ℕ) (start : a.images a.files) (is : b.images b.files) (kept : IsDurable name b) (saved : IsDurable undo a) (done : b.files name ≡ recovered (a.files name) (a.files undo))
       (opened : byte_at (unwrap_or (a.files undo) []) 0 ≡ 1) (many : count ≡ number_at 4 (unwrap_or (a.files undo) []) 16) (restores : Passes (Restores name undo) a b) where
+    -- the undo file stays while the file is restored
     undo_there : b.files undo ≡ a.files undo
     undo_there = restores.follows.read.1 undo (λ same. apart (sym same))
 
@@ -147,6 +177,7 @@ module _ (name undo und : List ℕ) (apart : name ≢ undo) (unmade : name ≢ u
     open_still : (before : World) → b.images before → byte_at (unwrap_or (before undo) []) 0 ≡ 1
     open_still before left = ap (λ (u : Option (List ℕ)). byte_at (unwrap_or u []) 0) (undo_kept before left ∙ undo_there) ∙ opened
 
+    -- the restored file recovers to itself
     recovers_itself : (before : World) → b.images before → recovered (before name) (before undo) ≡ before name
     recovers_itself before left =
         ap (λ (f : Option (List ℕ)). recovered f (before undo)) (kept before left)
@@ -157,19 +188,26 @@ module _ (name undo und : List ℕ) (apart : name ≢ undo) (unmade : name ≢ u
     pub recovers-closed : (count ≡ number_at 4 (unwrap_or (b.files undo) []) 16 → IsDurable undo b → Passes (ClosesGate und undo) b c) → Passes (RecoversSame name undo und) a c
     recovers-closed closes =
         recovers-then a b c (recovers-restores a b restores)
-        (passes-within (ClosesGate und undo) (RecoversSame name undo und) b c (λ before after left step. closing before after (open_still before left) (recovers_itself before left) step) is (closes many_there undo_kept))
+        (passes-within (ClosesGate und undo) (RecoversSame name undo und) b c (λ before after left step. recovers-while_closing before after (open_still before left) (recovers_itself before left) step) is (closes many_there undo_kept))
 
     -- in place, where the undo file holds its ranges
-    pub recovers-in_place : HoldsItsRanges (unwrap_or (a.files undo) []) → (count ≡ number_at 4 (unwrap_or (b.files undo) []) 16 → HoldsItsRanges (unwrap_or (b.files undo) []) → Passes (TearsRange undo 0 1) b c) → Passes (RecoversInPlace name undo) a c
-    recovers-in_place holds tears =
+    pub recovers-in_place : {T E : Type 0} (result : Result T E) → KeepsOthers name a.unsynced b.unsynced → HoldsItsRanges (unwrap_or (a.files undo) [])
+        → (count ≡ number_at 4 (unwrap_or (b.files undo) []) 16 → HoldsItsRanges (unwrap_or (b.files undo) []) → InPlace (TearsRange undo 0 1) (KeepsOthers undo) undo b c result)
+        → InPlace (RecoversInPlace name undo) (KeepsOtherTwo name undo) undo a c result
+    recovers-in_place result names holds closes =
         let there : HoldsItsRanges (unwrap_or (b.files undo) []) = subst (λ (u : Option (List ℕ)). HoldsItsRanges (unwrap_or u [])) (sym undo_there) holds in
-        in_place-then a b c (in_place-restores a b restores)
-        (passes-within (TearsRange undo 0 1) (RecoversInPlace name undo) b c
-        (λ before after left step.
-        let holds_still : HoldsItsRanges (unwrap_or (before undo) []) = subst (λ (u : Option (List ℕ)). HoldsItsRanges (unwrap_or u [])) (sym (undo_kept before left)) there in
-        let same = closing before after (open_still before left) (recovers_itself before left) (inr (holds_still, step)) in
-        (same.0, step.0, λ other differs two_differs. step.1 other two_differs))
-        is (tears many_there there))
+        let closed : InPlace (TearsRange undo 0 1) (KeepsOthers undo) undo b c result = closes many_there there in
+        record {
+          passes = in_place-then a b c (in_place-restores a b restores)
+              (passes-within (TearsRange undo 0 1) (RecoversInPlace name undo) b c
+              (λ before after left step.
+              let holds_still : HoldsItsRanges (unwrap_or (before undo) []) = subst (λ (u : Option (List ℕ)). HoldsItsRanges (unwrap_or u [])) (sym (undo_kept before left)) there in
+              let same = recovers-while_closing before after (open_still before left) (recovers_itself before left) (inr (holds_still, step)) in
+              (same.0, step.0, λ other differs two_differs. step.1 other two_differs))
+              is closed.passes);
+          names = λ other differs two_differs. closed.names other two_differs ∙ names other differs;
+          rest = on_ok-then result closed.rest (λ rest. rest ∙ ap (λ (u : Option (List ℕ)). drop 1 (unwrap_or u [])) undo_there);
+        }
 
 -- a file whose gate is closed is recovered where it and its undo file are kept
 pub is_recovered-closed : (name undo : List ℕ) (file : Option (List ℕ)) (disk : DiskSeen) → IsDurable name disk → IsDurable undo disk → disk.files name ≡ file → byte_at (unwrap_or (disk.files undo) []) 0 ≢ 1 → IsRecovered name undo file disk
@@ -188,11 +226,13 @@ as_before name undo und a b is now passes =
     passes.follows.read
     is
 
--- the head of an undo file that was read, as the undo file is then
-pub begins-read : (undo : List ℕ) (gate old_length count : ℕ) (a b : DiskSeen) → Passes IsSame a b → gate ≡ byte_at (unwrap_or (a.files undo) []) 0 → old_length ≡ number_at 8 (unwrap_or (a.files undo) []) 8 → count ≡ number_at 4 (unwrap_or (a.files undo) []) 16
-    → BeginsSo gate old_length count (unwrap_or (b.files undo) [])
-begins-read undo gate old_length count a b looks gate_byte long many =
-    subst (λ (f : World). BeginsSo gate old_length count (unwrap_or (f undo) [])) (sym looks.follows.read) (record { gate_byte = gate_byte; long = long; many = many })
+-- files that are kept are so once the head of the undo file was read
+pub is_read : (name undo : List ℕ) (gate old_length count : ℕ) (a b : DiskSeen) → IsDurable name a → IsDurable undo a → Passes IsSame a b → BeginsSo gate old_length count (unwrap_or (a.files undo) []) → IsRead name undo gate old_length count b
+is_read name undo gate old_length count a b kept saved looks begins = record {
+  file = looks-kept name a b kept looks;
+  saved = looks-kept undo a b saved looks;
+  begins = subst (λ (f : World). BeginsSo gate old_length count (unwrap_or (f undo) [])) (sym looks.follows.read) begins;
+}
 
 -- a file whose gate was read, and is closed, is recovered
 pub is_recovered-read : (name undo : List ℕ) (gate : ℕ) (a b c : DiskSeen) → Passes IsSame a b → Passes IsSame b c → IsDurable name b → IsDurable undo b → gate ≡ byte_at (unwrap_or (b.files undo) []) 0 → gate ≢ 1 → IsRecovered name undo (recovered (a.files name) (a.files undo)) c

@@ -23,6 +23,7 @@ fits_by old_length span few low within =
           rw (a, b, c, d) refl
     ]
 
+-- a range that was saved fits
 fits_saved : (old undo : List ℕ) (k : ℕ) (range : ByteRange) → SavesOne old k range.at (length range.bytes) undo → range_fits (length old) (saved_range undo k) ≡ true
 fits_saved old undo k range saves =
     let same = saved_range-bytes old k range undo saves in
@@ -32,6 +33,7 @@ fits_saved old undo k range saves =
     (omega (arith, saves.place, saves.low))
     (λ some. omega (arith, long, saves.place, saved-within old range (omega (arith, long, some))))
 
+-- all do
 all_fit : (old undo : List ℕ) (k : ℕ) (ranges : List ByteRange) → SavesFrom old k ranges undo → ranges_fit (length old) (saved_ranges undo k (length ranges)) ≡ true
 all_fit old undo k [] saves = refl
 all_fit old undo k (range ∷ rest) saves =
@@ -39,6 +41,7 @@ all_fit old undo k (range ∷ rest) saves =
     let others : ranges_fit (length old) (saved_ranges undo (suc k) (length rest)) ≡ true = all_fit old undo (suc k) rest saves.1 in
     rw (one, others) refl
 
+-- so the undo file is usable
 usable-saved : (old file undo : List ℕ) (ranges : List ByteRange) → Saves old ranges undo → byte_at undo 0 ≡ 1 → length old ≤ length file → is_usable file undo ≡ true
 usable-saved old file undo ranges saves opened longer =
     let a : nat_eq (byte_at undo 0) 1 ≡ true = eq-eqb _ _ opened in
@@ -50,6 +53,7 @@ usable-saved old file undo ranges saves opened longer =
     ∙ all_fit old undo 0 ranges saves.saved in
     rw (a, b, c, d) refl
 
+-- and what it says is the old file
 undone-saved : (old file undo : List ℕ) (ranges : List ByteRange) → Saves old ranges undo → length old ≤ length file
     → ((place : ℕ) → IsOutsideAll ranges place → place < length old → get_or file place 0 ≡ get_or old place 0) → undone file undo ≡ old
 undone-saved old file undo ranges saves longer same =

@@ -1,7 +1,8 @@
+pub mod ByteRanges
+pub mod Keeps
 pub mod Recovered
 pub mod Recovery
 pub mod Settled
-pub mod ByteRanges
 pub mod Undo
 pub mod UndoName
 pub mod UndoSaves

@@ -5,6 +5,10 @@ use Rattle.outside.specs.World.{World}
 use Rattle.disk.specs.DiskSeen.{DiskSeen, EachImage}
 use Rattle.edit_journal.specs.Undo.{recovered}
 
+-- the bytes of a file of a disk as they are read, and none where there is no file
+abbrev pub bytes_of : DiskSeen → List ℕ → List ℕ
+bytes_of disk name = unwrap_or (disk.files name) []
+
 -- a recovery of these files makes what one of some image of a disk makes
 abbrev pub RecoversAsBefore : (name undo : List ℕ) → DiskSeen → World → Type 0
 RecoversAsBefore name undo disk image = (before : World) × disk.images before × (recovered (image name) (image undo) ≡ recovered (before name) (before undo))

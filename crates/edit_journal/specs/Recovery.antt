@@ -1,6 +1,7 @@
 -- What a recovery makes of a file, call by call.
 use Rattle.std.specs.Prelude.{◌≡◌, ◌<◌, ◌≤◌, ◌⊎◌, ℕ, Bool, true, false, min, List, [], length, Option, None, Some, IsSome, slice_index, unwrap_or}
 use Rattle.outside.specs.World.{KeepsOtherTwo, KeepsOthers, World}
+use Rattle.disk.specs.DiskSeen.{DiskSeen, IsDurable}
 use Rattle.disk.specs.DiskCalls.{ChangesFile, IsOutside, TearsRange, Torn}
 use Rattle.quota_types.specs.Bytes.{byte_at, number_at}
 use Rattle.edit_journal.specs.Settled.{MakesUndo}
@@ -50,6 +51,12 @@ pub record BeginsSo (gate old_length count : ℕ) (undo : List ℕ) : Type 0 whe
   pub gate_byte : gate ≡ byte_at undo 0
   pub long : old_length ≡ number_at 8 undo 8
   pub many : count ≡ number_at 4 undo 16
+
+-- a file is kept, as its undo file is, which begins so
+pub record IsRead (name undo : List ℕ) (gate old_length count : ℕ) (disk : DiskSeen) : Type 0 where
+  pub file : IsDurable name disk
+  pub saved : IsDurable undo disk
+  pub begins : BeginsSo gate old_length count (unwrap_or (disk.files undo) [])
 
 -- an undo file says that the old file had this length, and saves this many ranges, each of which fits
 pub record StatesSaved (old_length count : ℕ) (undo : List ℕ) : Type 0 where

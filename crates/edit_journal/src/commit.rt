@@ -1,11 +1,11 @@
 //! A commit of ranges to a file.
 
-ghost use Rattle.std.specs.Prelude.{◌≡◌, ◌≢◌, ◌≤◌, List, ℕ, length, IsTrue, OnOk, OnErr, false};
+ghost use Rattle.std.specs.Prelude.{◌≡◌, ◌≢◌, ◌≤◌, List, ℕ, length, IsTrue, OnOk, false};
 ghost use Rattle.disk.specs.DiskSeen.{OnlyLeaves, Passes};
+ghost use Rattle.edit_journal.specs.Keeps.{Keeps};
 ghost use Rattle.edit_journal.specs.Settled.{CanCommit, IsSettled, RecoversToEither};
 ghost use Rattle.edit_journal.specs.Recovered.{KeepsOtherThree};
 ghost use Rattle.edit_journal.specs.ByteRanges.{laid, ranges_of};
-ghost use Rattle.outside.specs.Count.{Rose};
 ghost use Rattle.outside.specs.World.{KeepsOtherTwo};
 
 use crate::undo_file::{CLOSED, OPEN, save_ranges, set_gate};
@@ -31,10 +31,8 @@ pub fn commit_ranges<D: Disk>(
     ensures settled { OnOk result (IsTrue D.tells → (old : List ℕ) → IsSettled name.now undo.now old (D.seen disk.old)
         → IsSettled name.now undo.now (laid (ranges_of ranges.now) old) (D.seen disk.new)) }
     ensures others { Passes (KeepsOtherTwo name.now undo.now) (D.seen disk.old) (D.seen disk.new) }
-    ensures names { KeepsOtherTwo name.now undo.now (D.seen disk.old).unsynced (D.seen disk.new).unsynced }
     ensures synced { OnOk result (IsTrue D.tells → (D.seen disk.new).unsynced name.now ≡ false) }
-    ensures cause { OnErr result (Rose (D.seen disk.old).faults (D.seen disk.new).faults) }
-    ensures counted { (D.seen disk.old).faults ≤ (D.seen disk.new).faults }
+    ensures keeps { Keeps (KeepsOtherTwo name.now undo.now) (D.seen disk.old) (D.seen disk.new) result }
 {
     save_ranges(disk, name, undo, ranges)?;
     set_gate(disk, undo, OPEN)?;
@@ -66,10 +64,8 @@ pub fn commit_file<D: Disk>(
     ensures settled { OnOk result (IsTrue D.tells → (old : List ℕ) → CanCommit name.now undo.now old (D.seen disk.old)
         → IsSettled name.now undo.now (laid (ranges_of ranges.now) old) (D.seen disk.new)) }
     ensures others { IsTrue D.tells → Passes (KeepsOtherThree name.now undo.now und.now) (D.seen disk.old) (D.seen disk.new) }
-    ensures names { KeepsOtherThree name.now undo.now und.now (D.seen disk.old).unsynced (D.seen disk.new).unsynced }
     ensures synced { OnOk result (IsTrue D.tells → (D.seen disk.new).unsynced name.now ≡ false) }
-    ensures cause { OnErr result (Rose (D.seen disk.old).faults (D.seen disk.new).faults) }
-    ensures counted { (D.seen disk.old).faults ≤ (D.seen disk.new).faults }
+    ensures keeps { Keeps (KeepsOtherThree name.now undo.now und.now) (D.seen disk.old) (D.seen disk.new) result }
 {
     ready_undo(disk, undo, und)?;
     commit_ranges(disk, name, undo, ranges)?;

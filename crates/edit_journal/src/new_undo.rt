@@ -2,6 +2,8 @@
 
 ghost use Rattle.std.specs.Prelude.{◌≡◌, ◌≢◌, ◌↔◌, ◌≤◌, [], List, ℕ, Some, length, replicate, unwrap_or, IfOk, IsTrue, OnOk, OnErr};
 ghost use Rattle.disk.specs.DiskSeen.{ChangesNothing, IsDurable, OnlyLeaves, Passes};
+ghost use Rattle.edit_journal.specs.Recovered.{bytes_of};
+ghost use Rattle.edit_journal.specs.Keeps.{Keeps};
 ghost use Rattle.edit_journal.specs.Settled.{CanCommit, IsSettled, MakesUndo, RecoversTo};
 ghost use Rattle.outside.specs.Count.{Rose};
 ghost use Rattle.outside.specs.World.{KeepsOtherTwo};
@@ -19,9 +21,7 @@ pub fn make_undo<D: Disk>(disk: &mut D, undo: &str, und: &str) -> Result<(), Dis
     ensures made { OnOk result (IsTrue D.tells → (D.seen disk.new).files undo.now ≡ Some (replicate 1024 0)) }
     ensures kept { OnOk result (IsTrue D.tells → IsDurable undo.now (D.seen disk.new)) }
     ensures passes { IsTrue D.tells → Passes (MakesUndo und.now undo.now) (D.seen disk.old) (D.seen disk.new) }
-    ensures names { KeepsOtherTwo und.now undo.now (D.seen disk.old).unsynced (D.seen disk.new).unsynced }
-    ensures cause { OnErr result (Rose (D.seen disk.old).faults (D.seen disk.new).faults) }
-    ensures counted { (D.seen disk.old).faults ≤ (D.seen disk.new).faults }
+    ensures keeps { Keeps (KeepsOtherTwo und.now undo.now) (D.seen disk.old) (D.seen disk.new) result }
 {
     disk.create(und)?;
     disk.write(und, 0, &[0; 1024])?;
@@ -32,8 +32,7 @@ pub fn make_undo<D: Disk>(disk: &mut D, undo: &str, und: &str) -> Result<(), Dis
 
 /// Whether an undo file has room for its head.
 fn has_room<D: Disk>(disk: &mut D, undo: &str) -> Result<bool, DiskFault>
-    ensures room { IfOk result (λ room. IsTrue D.tells
-        → (IsTrue room ↔ (1024 ≤ length (unwrap_or ((D.seen disk.old).files undo.now) [])))) }
+    ensures room { IfOk result (λ room. IsTrue D.tells → (IsTrue room ↔ (1024 ≤ length (bytes_of (D.seen disk.old) undo.now)))) }
     ensures names { (D.seen disk.new).unsynced ≡ (D.seen disk.old).unsynced }
     ensures cause { OnErr result (Rose (D.seen disk.old).faults (D.seen disk.new).faults) }
     ensures leaves { ChangesNothing (D.seen disk.old) (D.seen disk.new) }
@@ -55,9 +54,7 @@ pub fn ready_undo<D: Disk>(disk: &mut D, undo: &str, und: &str) -> Result<(), Di
     ensures settled { OnOk result (IsTrue D.tells → (name file : List ℕ) → name ≢ und.now → name ≢ undo.now
         → CanCommit name undo.now file (D.seen disk.old) → IsSettled name undo.now file (D.seen disk.new)) }
     ensures passes { IsTrue D.tells → Passes (MakesUndo und.now undo.now) (D.seen disk.old) (D.seen disk.new) }
-    ensures names { KeepsOtherTwo und.now undo.now (D.seen disk.old).unsynced (D.seen disk.new).unsynced }
-    ensures cause { OnErr result (Rose (D.seen disk.old).faults (D.seen disk.new).faults) }
-    ensures counted { (D.seen disk.old).faults ≤ (D.seen disk.new).faults }
+    ensures keeps { Keeps (KeepsOtherTwo und.now undo.now) (D.seen disk.old) (D.seen disk.new) result }
 {
     if has_room(disk, undo)? {
         return Ok(());

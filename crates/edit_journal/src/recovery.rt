@@ -1,14 +1,14 @@
 //! The recovery of a file.
 
-ghost use Rattle.std.specs.Prelude.{◌≡◌, ◌≢◌, ◌<◌, ◌≤◌, ◌^◌, ◌+◌, [], List, ℕ, Some, drop, length, true, unwrap_or, IfOk, IsTrue, OnOk, OnErr, false};
+ghost use Rattle.std.specs.Prelude.{◌≡◌, ◌≢◌, ◌<◌, ◌≤◌, ◌^◌, ◌+◌, [], List, ℕ, Some, length, true, IfOk, IsTrue, OnOk, false};
 ghost use Rattle.disk.specs.DiskSeen.{IsDurable, OnlyLeaves, Passes};
 ghost use Rattle.disk.specs.DiskCalls.{TearsRange};
-ghost use Rattle.edit_journal.specs.Recovery.{BeginsSo, ClosesGate, StatesSaved, IsSame, MendsFile, RecoversInPlace, Restores, is_mended};
-ghost use Rattle.edit_journal.specs.Recovered.{RecoversAsBefore, RecoversSame, IsRecovered, KeepsOtherThree};
+ghost use Rattle.edit_journal.specs.Keeps.{InPlace, Keeps, OnlyLooks};
+ghost use Rattle.edit_journal.specs.Recovery.{BeginsSo, ClosesGate, IsRead, StatesSaved, IsSame, MendsFile, RecoversInPlace, Restores, is_mended};
+ghost use Rattle.edit_journal.specs.Recovered.{bytes_of, RecoversAsBefore, RecoversSame, IsRecovered, KeepsOtherThree};
 ghost use Rattle.edit_journal.specs.ByteRanges.{laid, with_laid};
 ghost use Rattle.edit_journal.specs.Undo.{bytes_at, recovered, saved_range, saved_ranges, range_fits, ranges_fit, undone};
 ghost use Rattle.edit_journal.specs.UndoSaves.{HoldsItsRanges};
-ghost use Rattle.outside.specs.Count.{Rose};
 ghost use Rattle.quota_types.specs.Bytes.{byte_at, number_at};
 ghost use Rattle.outside.specs.World.{KeepsOtherTwo, KeepsOthers};
 
@@ -30,13 +30,11 @@ fn lay_through<D: Disk>(
 ) -> Result<(), DiskFault>
     requires few { length buf.old ≤ 1024 }
     requires place { at ≤ 2 ^ 42 }
-    ensures laid { OnOk result (IsTrue D.tells → unwrap_or ((D.seen disk.new).files name.now) []
-        ≡ with_laid (unwrap_or ((D.seen disk.old).files name.now) []) at
-        (bytes_at (unwrap_or ((D.seen disk.old).files undo.now) []) from (length buf.old))) }
+    ensures laid { OnOk result (IsTrue D.tells → bytes_of (D.seen disk.new) name.now
+        ≡ with_laid (bytes_of (D.seen disk.old) name.now) at
+        (bytes_at (bytes_of (D.seen disk.old) undo.now) from (length buf.old))) }
     ensures passes { Passes (TearsRange name.now at (length buf.old)) (D.seen disk.old) (D.seen disk.new) }
-    ensures names { KeepsOthers name.now (D.seen disk.old).unsynced (D.seen disk.new).unsynced }
-    ensures cause { OnErr result (Rose (D.seen disk.old).faults (D.seen disk.new).faults) }
-    ensures counted { (D.seen disk.old).faults ≤ (D.seen disk.new).faults }
+    ensures keeps { Keeps (KeepsOthers name.now) (D.seen disk.old) (D.seen disk.new) result }
 {
     read_padded(disk, undo, from, buf)?;
     write_some(disk, name, at, buf)?;
@@ -60,19 +58,14 @@ fn clamped(span: SpanHead) -> SpanHead
 fn lay_span<D: Disk>(disk: &mut D, name: &str, undo: &str, k: u32) -> Result<(), DiskFault>
     requires number { k < 12 }
     ensures laid { OnOk result (IsTrue D.tells → (old_length : ℕ)
-        → range_fits old_length (saved_range (unwrap_or ((D.seen disk.old).files undo.now) []) k) ≡ true
-        → unwrap_or ((D.seen disk.new).files name.now) []
-        ≡ with_laid (unwrap_or ((D.seen disk.old).files name.now) [])
-        (saved_range (unwrap_or ((D.seen disk.old).files undo.now) []) k).at
-        (saved_range (unwrap_or ((D.seen disk.old).files undo.now) []) k).bytes) }
+        → range_fits old_length (saved_range (bytes_of (D.seen disk.old) undo.now) k) ≡ true
+        → bytes_of (D.seen disk.new) name.now ≡ with_laid (bytes_of (D.seen disk.old) name.now)
+        (saved_range (bytes_of (D.seen disk.old) undo.now) k).at (saved_range (bytes_of (D.seen disk.old) undo.now) k).bytes) }
     ensures passes { IsTrue D.tells → (old_length : ℕ)
-        → range_fits old_length (saved_range (unwrap_or ((D.seen disk.old).files undo.now) []) k) ≡ true
-        → Passes (TearsRange name.now
-        (saved_range (unwrap_or ((D.seen disk.old).files undo.now) []) k).at
-        (length (saved_range (unwrap_or ((D.seen disk.old).files undo.now) []) k).bytes)) (D.seen disk.old) (D.seen disk.new) }
-    ensures names { KeepsOthers name.now (D.seen disk.old).unsynced (D.seen disk.new).unsynced }
-    ensures cause { OnErr result (Rose (D.seen disk.old).faults (D.seen disk.new).faults) }
-    ensures counted { (D.seen disk.old).faults ≤ (D.seen disk.new).faults }
+        → range_fits old_length (saved_range (bytes_of (D.seen disk.old) undo.now) k) ≡ true
+        → Passes (TearsRange name.now (saved_range (bytes_of (D.seen disk.old) undo.now) k).at
+        (length (saved_range (bytes_of (D.seen disk.old) undo.now) k).bytes)) (D.seen disk.old) (D.seen disk.new) }
+    ensures keeps { Keeps (KeepsOthers name.now) (D.seen disk.old) (D.seen disk.new) result }
 {
     let found = read_span(disk, undo, k)?;
     let span = clamped(found);
@@ -94,16 +87,13 @@ fn lay_spans<D: Disk>(disk: &mut D, name: &str, undo: &str, count: u32) -> Resul
     requires apart { name.now ≢ undo.now }
     requires most { count ≤ 12 }
     ensures laid { OnOk result (IsTrue D.tells → (old_length : ℕ)
-        → ranges_fit old_length (saved_ranges (unwrap_or ((D.seen disk.old).files undo.now) []) 0 count) ≡ true
-        → unwrap_or ((D.seen disk.new).files name.now) []
-        ≡ laid (saved_ranges (unwrap_or ((D.seen disk.old).files undo.now) []) 0 count) (unwrap_or ((D.seen disk.old).files name.now) [])) }
+        → ranges_fit old_length (saved_ranges (bytes_of (D.seen disk.old) undo.now) 0 count) ≡ true
+        → bytes_of (D.seen disk.new) name.now ≡ laid (saved_ranges (bytes_of (D.seen disk.old) undo.now) 0 count) (bytes_of (D.seen disk.old) name.now)) }
     ensures passes { IsTrue D.tells → (old_length : ℕ)
-        → ranges_fit old_length (saved_ranges (unwrap_or ((D.seen disk.old).files undo.now) []) 0 count) ≡ true
-        → number_at 4 (unwrap_or ((D.seen disk.old).files undo.now) []) 16 ≡ count
-        → Passes (MendsFile name.now (unwrap_or ((D.seen disk.old).files undo.now) [])) (D.seen disk.old) (D.seen disk.new) }
-    ensures names { KeepsOthers name.now (D.seen disk.old).unsynced (D.seen disk.new).unsynced }
-    ensures cause { OnErr result (Rose (D.seen disk.old).faults (D.seen disk.new).faults) }
-    ensures counted { (D.seen disk.old).faults ≤ (D.seen disk.new).faults }
+        → ranges_fit old_length (saved_ranges (bytes_of (D.seen disk.old) undo.now) 0 count) ≡ true
+        → number_at 4 (bytes_of (D.seen disk.old) undo.now) 16 ≡ count
+        → Passes (MendsFile name.now (bytes_of (D.seen disk.old) undo.now)) (D.seen disk.old) (D.seen disk.new) }
+    ensures keeps { Keeps (KeepsOthers name.now) (D.seen disk.old) (D.seen disk.new) result }
 {
     for k in 0..count {
         lay_span(disk, name, undo, k)?;
@@ -120,17 +110,14 @@ fn mend<D: Disk>(disk: &mut D, name: &str, undo: &str, head: UndoHead) -> Result
     requires apart { name.now ≢ undo.now }
     requires most { head.count ≤ 12 }
     ensures mended { OnOk result (IsTrue D.tells → (file : List ℕ)
-        → StatesSaved head.old_length head.count (unwrap_or ((D.seen disk.old).files undo.now) [])
+        → StatesSaved head.old_length head.count (bytes_of (D.seen disk.old) undo.now)
         → (D.seen disk.old).files name.now ≡ Some file
-        → (D.seen disk.new).files name.now ≡ Some (undone file (unwrap_or ((D.seen disk.old).files undo.now) []))) }
+        → (D.seen disk.new).files name.now ≡ Some (undone file (bytes_of (D.seen disk.old) undo.now))) }
     ensures kept { OnOk result (IsTrue D.tells → IsDurable name.now (D.seen disk.new)) }
-    ensures passes { IsTrue D.tells
-        → StatesSaved head.old_length head.count (unwrap_or ((D.seen disk.old).files undo.now) [])
-        → Passes (MendsFile name.now (unwrap_or ((D.seen disk.old).files undo.now) [])) (D.seen disk.old) (D.seen disk.new) }
-    ensures names { KeepsOthers name.now (D.seen disk.old).unsynced (D.seen disk.new).unsynced }
+    ensures passes { IsTrue D.tells → StatesSaved head.old_length head.count (bytes_of (D.seen disk.old) undo.now)
+        → Passes (MendsFile name.now (bytes_of (D.seen disk.old) undo.now)) (D.seen disk.old) (D.seen disk.new) }
     ensures synced { OnOk result (IsTrue D.tells → (D.seen disk.new).unsynced name.now ≡ false) }
-    ensures cause { OnErr result (Rose (D.seen disk.old).faults (D.seen disk.new).faults) }
-    ensures counted { (D.seen disk.old).faults ≤ (D.seen disk.new).faults }
+    ensures keeps { Keeps (KeepsOthers name.now) (D.seen disk.old) (D.seen disk.new) result }
 {
     lay_spans(disk, name, undo, head.count)?;
     disk.cut(name, head.old_length)?;
@@ -142,10 +129,8 @@ fn mend<D: Disk>(disk: &mut D, name: &str, undo: &str, head: UndoHead) -> Result
 fn keep_both<D: Disk>(disk: &mut D, name: &str, undo: &str) -> Result<(), DiskFault>
     ensures file { OnOk result (IsTrue D.tells → IsDurable name.now (D.seen disk.new)) }
     ensures saved { OnOk result (IsTrue D.tells → IsDurable undo.now (D.seen disk.new)) }
-    ensures names { KeepsOtherTwo name.now undo.now (D.seen disk.old).unsynced (D.seen disk.new).unsynced }
     ensures synced { OnOk result (IsTrue D.tells → (D.seen disk.new).unsynced name.now ≡ false) }
-    ensures cause { OnErr result (Rose (D.seen disk.old).faults (D.seen disk.new).faults) }
-    ensures counted { (D.seen disk.old).faults ≤ (D.seen disk.new).faults }
+    ensures keeps { Keeps (KeepsOtherTwo name.now undo.now) (D.seen disk.old) (D.seen disk.new) result }
     ensures looks { Passes IsSame (D.seen disk.old) (D.seen disk.new) }
 {
     disk.sync(name)?;
@@ -162,14 +147,9 @@ fn can_mend<D: Disk>(
 ) -> Result<bool, DiskFault>
     ensures most { IfOk result (λ can. IsTrue can → head.count ≤ 12) }
     ensures usable { IfOk result (λ can. IsTrue D.tells
-        → head.gate ≡ byte_at (unwrap_or ((D.seen disk.old).files undo.now) []) 0
-        → head.old_length ≡ number_at 8 (unwrap_or ((D.seen disk.old).files undo.now) []) 8
-        → head.count ≡ number_at 4 (unwrap_or ((D.seen disk.old).files undo.now) []) 16
+        → BeginsSo head.gate head.old_length head.count (bytes_of (D.seen disk.old) undo.now)
         → can ≡ is_mended ((D.seen disk.old).files name.now) ((D.seen disk.old).files undo.now)) }
-    ensures names { (D.seen disk.new).unsynced ≡ (D.seen disk.old).unsynced }
-    ensures cause { OnErr result (Rose (D.seen disk.old).faults (D.seen disk.new).faults) }
-    ensures counted { (D.seen disk.old).faults ≤ (D.seen disk.new).faults }
-    ensures looks { Passes IsSame (D.seen disk.old) (D.seen disk.new) }
+    ensures looks { OnlyLooks (D.seen disk.old) (D.seen disk.new) result }
 {
     if head.gate != OPEN || head.count > 12 {
         return Ok(false);
@@ -191,17 +171,13 @@ fn can_mend<D: Disk>(
 fn restore<D: Disk>(disk: &mut D, name: &str, undo: &str, head: UndoHead) -> Result<(), DiskFault>
     requires apart { name.now ≢ undo.now }
     ensures restored { OnOk result (IsTrue D.tells
-        → BeginsSo head.gate head.old_length head.count (unwrap_or ((D.seen disk.old).files undo.now) [])
+        → BeginsSo head.gate head.old_length head.count (bytes_of (D.seen disk.old) undo.now)
         → (D.seen disk.new).files name.now ≡ recovered ((D.seen disk.old).files name.now) ((D.seen disk.old).files undo.now)) }
     ensures kept { OnOk result (IsTrue D.tells → IsDurable name.now (D.seen disk.old) → IsDurable name.now (D.seen disk.new)) }
-    ensures passes { IsTrue D.tells
-        → BeginsSo head.gate head.old_length head.count (unwrap_or ((D.seen disk.old).files undo.now) [])
-        → IsDurable name.now (D.seen disk.old) → IsDurable undo.now (D.seen disk.old)
+    ensures passes { IsTrue D.tells → IsRead name.now undo.now head.gate head.old_length head.count (D.seen disk.old)
         → Passes (Restores name.now undo.now) (D.seen disk.old) (D.seen disk.new) }
-    ensures names { KeepsOthers name.now (D.seen disk.old).unsynced (D.seen disk.new).unsynced }
     ensures synced { OnOk result (IsTrue D.tells → (D.seen disk.old).unsynced name.now ≡ false → (D.seen disk.new).unsynced name.now ≡ false) }
-    ensures cause { OnErr result (Rose (D.seen disk.old).faults (D.seen disk.new).faults) }
-    ensures counted { (D.seen disk.old).faults ≤ (D.seen disk.new).faults }
+    ensures keeps { Keeps (KeepsOthers name.now) (D.seen disk.old) (D.seen disk.new) result }
 {
     let usable = can_mend(disk, name, undo, head)?;
     if !usable {
@@ -221,23 +197,14 @@ fn restore<D: Disk>(disk: &mut D, name: &str, undo: &str, head: UndoHead) -> Res
 /// it was, or the new one.
 fn close_gate<D: Disk>(disk: &mut D, undo: &str, und: &str, count: u32) -> Result<(), DiskFault>
     requires apart { und.now ≢ undo.now }
-    ensures closed { OnOk result (IsTrue D.tells → byte_at (unwrap_or ((D.seen disk.new).files undo.now) []) 0 ≢ 1) }
+    ensures closed { OnOk result (IsTrue D.tells → byte_at (bytes_of (D.seen disk.new) undo.now) 0 ≢ 1) }
     ensures kept { OnOk result (IsTrue D.tells → IsDurable undo.now (D.seen disk.new)) }
-    ensures passes { IsTrue D.tells → count ≡ number_at 4 (unwrap_or ((D.seen disk.old).files undo.now) []) 16
+    ensures passes { IsTrue D.tells → count ≡ number_at 4 (bytes_of (D.seen disk.old) undo.now) 16
         → IsDurable undo.now (D.seen disk.old) → Passes (ClosesGate und.now undo.now) (D.seen disk.old) (D.seen disk.new) }
-    ensures in_place { IsTrue D.tells → count ≡ number_at 4 (unwrap_or ((D.seen disk.old).files undo.now) []) 16
-        → HoldsItsRanges (unwrap_or ((D.seen disk.old).files undo.now) [])
-        → Passes (TearsRange undo.now 0 1) (D.seen disk.old) (D.seen disk.new) }
-    ensures in_place_names { IsTrue D.tells → count ≡ number_at 4 (unwrap_or ((D.seen disk.old).files undo.now) []) 16
-        → HoldsItsRanges (unwrap_or ((D.seen disk.old).files undo.now) [])
-        → KeepsOthers undo.now (D.seen disk.old).unsynced (D.seen disk.new).unsynced }
-    ensures in_place_rest { OnOk result (IsTrue D.tells
-        → count ≡ number_at 4 (unwrap_or ((D.seen disk.old).files undo.now) []) 16
-        → HoldsItsRanges (unwrap_or ((D.seen disk.old).files undo.now) [])
-        → drop 1 (unwrap_or ((D.seen disk.new).files undo.now) []) ≡ drop 1 (unwrap_or ((D.seen disk.old).files undo.now) [])) }
-    ensures names { KeepsOtherTwo und.now undo.now (D.seen disk.old).unsynced (D.seen disk.new).unsynced }
-    ensures cause { OnErr result (Rose (D.seen disk.old).faults (D.seen disk.new).faults) }
-    ensures counted { (D.seen disk.old).faults ≤ (D.seen disk.new).faults }
+    ensures in_place { IsTrue D.tells → count ≡ number_at 4 (bytes_of (D.seen disk.old) undo.now) 16
+        → HoldsItsRanges (bytes_of (D.seen disk.old) undo.now)
+        → InPlace (TearsRange undo.now 0 1) (KeepsOthers undo.now) undo.now (D.seen disk.old) (D.seen disk.new) result }
+    ensures keeps { Keeps (KeepsOtherTwo und.now undo.now) (D.seen disk.old) (D.seen disk.new) result }
 {
     if holds_ranges(disk, undo, count)? {
         set_gate(disk, undo, CLOSED)?;
@@ -263,33 +230,16 @@ fn recover_kept<D: Disk>(
     requires unmade { name.now ≢ und.now }
     requires first { und.now ≢ undo.now }
     requires open { head.gate ≡ 1 }
-    ensures done { OnOk result (IsTrue D.tells
-        → BeginsSo head.gate head.old_length head.count (unwrap_or ((D.seen disk.old).files undo.now) [])
-        → IsDurable name.now (D.seen disk.old) → IsDurable undo.now (D.seen disk.old)
+    ensures done { OnOk result (IsTrue D.tells → IsRead name.now undo.now head.gate head.old_length head.count (D.seen disk.old)
         → IsRecovered name.now undo.now (recovered ((D.seen disk.old).files name.now) ((D.seen disk.old).files undo.now)) (D.seen disk.new)) }
-    ensures passes { IsTrue D.tells
-        → BeginsSo head.gate head.old_length head.count (unwrap_or ((D.seen disk.old).files undo.now) [])
-        → IsDurable name.now (D.seen disk.old) → IsDurable undo.now (D.seen disk.old)
+    ensures passes { IsTrue D.tells → IsRead name.now undo.now head.gate head.old_length head.count (D.seen disk.old)
         → Passes (RecoversSame name.now undo.now und.now) (D.seen disk.old) (D.seen disk.new) }
-    ensures in_place { IsTrue D.tells
-        → BeginsSo head.gate head.old_length head.count (unwrap_or ((D.seen disk.old).files undo.now) [])
-        → IsDurable name.now (D.seen disk.old) → IsDurable undo.now (D.seen disk.old)
-        → HoldsItsRanges (unwrap_or ((D.seen disk.old).files undo.now) [])
-        → Passes (RecoversInPlace name.now undo.now) (D.seen disk.old) (D.seen disk.new) }
-    ensures in_place_names { IsTrue D.tells
-        → BeginsSo head.gate head.old_length head.count (unwrap_or ((D.seen disk.old).files undo.now) [])
-        → IsDurable name.now (D.seen disk.old) → IsDurable undo.now (D.seen disk.old)
-        → HoldsItsRanges (unwrap_or ((D.seen disk.old).files undo.now) [])
-        → KeepsOtherTwo name.now undo.now (D.seen disk.old).unsynced (D.seen disk.new).unsynced }
-    ensures in_place_rest { OnOk result (IsTrue D.tells
-        → BeginsSo head.gate head.old_length head.count (unwrap_or ((D.seen disk.old).files undo.now) [])
-        → IsDurable name.now (D.seen disk.old) → IsDurable undo.now (D.seen disk.old)
-        → HoldsItsRanges (unwrap_or ((D.seen disk.old).files undo.now) [])
-        → drop 1 (unwrap_or ((D.seen disk.new).files undo.now) []) ≡ drop 1 (unwrap_or ((D.seen disk.old).files undo.now) [])) }
-    ensures names { KeepsOtherThree name.now undo.now und.now (D.seen disk.old).unsynced (D.seen disk.new).unsynced }
+    ensures in_place { IsTrue D.tells → IsRead name.now undo.now head.gate head.old_length head.count (D.seen disk.old)
+        → HoldsItsRanges (bytes_of (D.seen disk.old) undo.now)
+        → InPlace (RecoversInPlace name.now undo.now) (KeepsOtherTwo name.now undo.now) undo.now (D.seen disk.old)
+        (D.seen disk.new) result }
     ensures synced { OnOk result (IsTrue D.tells → (D.seen disk.old).unsynced name.now ≡ false → (D.seen disk.new).unsynced name.now ≡ false) }
-    ensures cause { OnErr result (Rose (D.seen disk.old).faults (D.seen disk.new).faults) }
-    ensures counted { (D.seen disk.old).faults ≤ (D.seen disk.new).faults }
+    ensures keeps { Keeps (KeepsOtherThree name.now undo.now und.now) (D.seen disk.old) (D.seen disk.new) result }
 {
     restore(disk, name, undo, head)?;
     close_gate(disk, undo, und, head.count)?;
@@ -320,16 +270,11 @@ pub fn recover_file<D: Disk>(
     ensures leaves { IsTrue D.tells
         → OnlyLeaves (RecoversAsBefore name.now undo.now (D.seen disk.old)) (D.seen disk.old) (D.seen disk.new) }
     ensures passes { IsTrue D.tells → Passes (RecoversSame name.now undo.now und.now) (D.seen disk.old) (D.seen disk.new) }
-    ensures in_place { IsTrue D.tells → HoldsItsRanges (unwrap_or ((D.seen disk.old).files undo.now) [])
-        → Passes (RecoversInPlace name.now undo.now) (D.seen disk.old) (D.seen disk.new) }
-    ensures in_place_names { IsTrue D.tells → HoldsItsRanges (unwrap_or ((D.seen disk.old).files undo.now) [])
-        → KeepsOtherTwo name.now undo.now (D.seen disk.old).unsynced (D.seen disk.new).unsynced }
-    ensures in_place_rest { OnOk result (IsTrue D.tells → HoldsItsRanges (unwrap_or ((D.seen disk.old).files undo.now) [])
-        → drop 1 (unwrap_or ((D.seen disk.new).files undo.now) []) ≡ drop 1 (unwrap_or ((D.seen disk.old).files undo.now) [])) }
-    ensures names { KeepsOtherThree name.now undo.now und.now (D.seen disk.old).unsynced (D.seen disk.new).unsynced }
+    ensures in_place { IsTrue D.tells → HoldsItsRanges (bytes_of (D.seen disk.old) undo.now)
+        → InPlace (RecoversInPlace name.now undo.now) (KeepsOtherTwo name.now undo.now) undo.now (D.seen disk.old)
+        (D.seen disk.new) result }
     ensures synced { OnOk result (IsTrue D.tells → (D.seen disk.new).unsynced name.now ≡ false) }
-    ensures cause { OnErr result (Rose (D.seen disk.old).faults (D.seen disk.new).faults) }
-    ensures counted { (D.seen disk.old).faults ≤ (D.seen disk.new).faults }
+    ensures keeps { Keeps (KeepsOtherThree name.now undo.now und.now) (D.seen disk.old) (D.seen disk.new) result }
 {
     keep_both(disk, name, undo)?;
     let head = read_head(disk, undo)?;

@@ -1,13 +1,14 @@
 //! The parts of an undo file.
 
-ghost use Rattle.std.specs.Prelude.{◌≡◌, ◌≢◌, ◌+◌, ◌<◌, ◌≤◌, ◌^◌, [], ◌∷◌, length, unwrap_or, IsTrue, OnOk, OnErr};
+ghost use Rattle.std.specs.Prelude.{◌≡◌, ◌≢◌, ◌+◌, ◌<◌, ◌≤◌, ◌^◌, [], ◌∷◌, length, unwrap_or, IsTrue, OnOk};
 ghost use Rattle.disk.specs.DiskSeen.{IsDurable, Passes};
 ghost use Rattle.disk.specs.DiskCalls.{TearsRange};
+ghost use Rattle.edit_journal.specs.Recovered.{bytes_of};
+ghost use Rattle.edit_journal.specs.Keeps.{Keeps};
 ghost use Rattle.edit_journal.specs.Settled.{TearsFrom};
 ghost use Rattle.edit_journal.specs.ByteRanges.{ranges_of, with_laid};
 ghost use Rattle.edit_journal.specs.Undo.{range_at};
 ghost use Rattle.edit_journal.specs.UndoSaves.{Saves, SavesOne};
-ghost use Rattle.outside.specs.Count.{Rose};
 ghost use Rattle.outside.specs.World.{KeepsOthers, with_bytes};
 ghost use Rattle.quota_types.specs.Bytes.{number_at};
 
@@ -31,9 +32,7 @@ pub fn set_gate<D: Disk>(disk: &mut D, undo: &str, gate: u8) -> Result<(), DiskF
         → (D.seen disk.new).files ≡ with_bytes (D.seen disk.old).files undo.now 0 (gate ∷ [])) }
     ensures kept { OnOk result (IsTrue D.tells → IsDurable undo.now (D.seen disk.new)) }
     ensures passes { Passes (TearsRange undo.now 0 1) (D.seen disk.old) (D.seen disk.new) }
-    ensures names { KeepsOthers undo.now (D.seen disk.old).unsynced (D.seen disk.new).unsynced }
-    ensures cause { OnErr result (Rose (D.seen disk.old).faults (D.seen disk.new).faults) }
-    ensures counted { (D.seen disk.old).faults ≤ (D.seen disk.new).faults }
+    ensures keeps { Keeps (KeepsOthers undo.now) (D.seen disk.old) (D.seen disk.new) result }
 {
     disk.write(undo, 0, &[gate])?;
     disk.sync(undo)?;
@@ -49,12 +48,10 @@ pub(crate) fn write_some<D: Disk>(
 ) -> Result<(), DiskFault>
     requires few { length bytes.now ≤ 1024 }
     requires place { at ≤ 2 ^ 42 }
-    ensures written { OnOk result (IsTrue D.tells → unwrap_or ((D.seen disk.new).files name.now) []
-        ≡ with_laid (unwrap_or ((D.seen disk.old).files name.now) []) at bytes.now) }
+    ensures written { OnOk result (IsTrue D.tells → bytes_of (D.seen disk.new) name.now
+        ≡ with_laid (bytes_of (D.seen disk.old) name.now) at bytes.now) }
     ensures passes { Passes (TearsRange name.now at (length bytes.now)) (D.seen disk.old) (D.seen disk.new) }
-    ensures names { KeepsOthers name.now (D.seen disk.old).unsynced (D.seen disk.new).unsynced }
-    ensures cause { OnErr result (Rose (D.seen disk.old).faults (D.seen disk.new).faults) }
-    ensures counted { (D.seen disk.old).faults ≤ (D.seen disk.new).faults }
+    ensures keeps { Keeps (KeepsOthers name.now) (D.seen disk.old) (D.seen disk.new) result }
 {
     if bytes.is_empty() {
         return Ok(());
@@ -88,12 +85,10 @@ fn save_through<D: Disk>(
     requires number { k < 12 }
     requires place { at ≤ 2 ^ 42 }
     requires few { length buf.old ≤ 1024 }
-    ensures saved { OnOk result (IsTrue D.tells → SavesOne (unwrap_or ((D.seen disk.old).files name.now) []) k at (length buf.old)
-        (unwrap_or ((D.seen disk.new).files undo.now) [])) }
+    ensures saved { OnOk result (IsTrue D.tells → SavesOne (bytes_of (D.seen disk.old) name.now) k at (length buf.old)
+        (bytes_of (D.seen disk.new) undo.now)) }
     ensures passes { Passes (TearsRange undo.now (range_at k) 1040) (D.seen disk.old) (D.seen disk.new) }
-    ensures names { KeepsOthers undo.now (D.seen disk.old).unsynced (D.seen disk.new).unsynced }
-    ensures cause { OnErr result (Rose (D.seen disk.old).faults (D.seen disk.new).faults) }
-    ensures counted { (D.seen disk.old).faults ≤ (D.seen disk.new).faults }
+    ensures keeps { Keeps (KeepsOthers undo.now) (D.seen disk.old) (D.seen disk.new) result }
 {
     let count = disk.read(name, at, buf)?;
     let place = 1024 + 1040 * k;
@@ -116,12 +111,10 @@ pub fn save_range<D: Disk>(
 ) -> Result<(), DiskFault>
     requires apart { name.now ≢ undo.now }
     requires number { k < 12 }
-    ensures saved { OnOk result (IsTrue D.tells → SavesOne (unwrap_or ((D.seen disk.old).files name.now) []) k
-        range.now.at (length range.now.bytes.items) (unwrap_or ((D.seen disk.new).files undo.now) [])) }
+    ensures saved { OnOk result (IsTrue D.tells → SavesOne (bytes_of (D.seen disk.old) name.now) k
+        range.now.at (length range.now.bytes.items) (bytes_of (D.seen disk.new) undo.now)) }
     ensures passes { Passes (TearsRange undo.now (range_at k) 1040) (D.seen disk.old) (D.seen disk.new) }
-    ensures names { KeepsOthers undo.now (D.seen disk.old).unsynced (D.seen disk.new).unsynced }
-    ensures cause { OnErr result (Rose (D.seen disk.old).faults (D.seen disk.new).faults) }
-    ensures counted { (D.seen disk.old).faults ≤ (D.seen disk.new).faults }
+    ensures keeps { Keeps (KeepsOthers undo.now) (D.seen disk.old) (D.seen disk.new) result }
 {
     let mut room = [0; 1024];
     save_through(
@@ -159,14 +152,11 @@ pub fn save_ranges<D: Disk>(
 ) -> Result<(), DiskFault>
     requires apart { name.now ≢ undo.now }
     requires most { length ranges.now ≤ 12 }
-    ensures saved { OnOk result (IsTrue D.tells → 1024 ≤ length (unwrap_or ((D.seen disk.old).files undo.now) [])
-        → Saves (unwrap_or ((D.seen disk.old).files name.now) []) (ranges_of ranges.now)
-        (unwrap_or ((D.seen disk.new).files undo.now) [])) }
+    ensures saved { OnOk result (IsTrue D.tells → 1024 ≤ length (bytes_of (D.seen disk.old) undo.now)
+        → Saves (bytes_of (D.seen disk.old) name.now) (ranges_of ranges.now) (bytes_of (D.seen disk.new) undo.now)) }
     ensures kept { OnOk result (IsTrue D.tells → IsDurable undo.now (D.seen disk.new)) }
     ensures passes { Passes (TearsFrom undo.now 8) (D.seen disk.old) (D.seen disk.new) }
-    ensures names { KeepsOthers undo.now (D.seen disk.old).unsynced (D.seen disk.new).unsynced }
-    ensures cause { OnErr result (Rose (D.seen disk.old).faults (D.seen disk.new).faults) }
-    ensures counted { (D.seen disk.old).faults ≤ (D.seen disk.new).faults }
+    ensures keeps { Keeps (KeepsOthers undo.now) (D.seen disk.old) (D.seen disk.new) result }
 {
     let old_length = disk.size(name)?.unwrap_or(0);
     for (index, range) in ranges.iter().enumerate() {

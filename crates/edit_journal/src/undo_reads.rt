@@ -1,11 +1,11 @@
 //! What is read of an undo file.
 
-ghost use Rattle.std.specs.Prelude.{◌≡◌, ◌↔◌, ◌<◌, ◌≤◌, ◌+◌, ◌^◌, ◌&&◌, ◌||◌, [], ℕ, length, nat_eq, nat_le, slice_index, unwrap_or, IfOk, IsTrue, OnOk, OnErr};
-ghost use Rattle.disk.specs.DiskSeen.{Passes};
-ghost use Rattle.edit_journal.specs.Recovery.{IsSame};
+ghost use Rattle.std.specs.Prelude.{◌≡◌, ◌↔◌, ◌<◌, ◌≤◌, ◌+◌, ◌^◌, ◌&&◌, ◌||◌, [], ℕ, length, nat_eq, nat_le, slice_index, unwrap_or, IfOk, IsTrue, OnOk};
+ghost use Rattle.edit_journal.specs.Recovered.{bytes_of};
+ghost use Rattle.edit_journal.specs.Keeps.{OnlyLooks};
+ghost use Rattle.edit_journal.specs.Recovery.{BeginsSo};
 ghost use Rattle.edit_journal.specs.Undo.{range_at, saved_ranges, ranges_fit};
 ghost use Rattle.edit_journal.specs.UndoSaves.{HoldsItsRanges};
-ghost use Rattle.outside.specs.Count.{Rose};
 ghost use Rattle.quota_types.specs.Bytes.{byte_at, number_at};
 
 use disk::{Disk, DiskFault};
@@ -39,11 +39,8 @@ pub fn read_padded<D: Disk>(
 ) -> Result<(), DiskFault>
     requires { length buf.old ≤ 1024 }
     ensures same { OnOk result (IsTrue D.tells → (j : ℕ) → j < length buf.old
-        → slice_index buf.new j ≡ byte_at (unwrap_or ((D.seen disk.old).files name.now) []) (at + j)) }
-    ensures names { (D.seen disk.new).unsynced ≡ (D.seen disk.old).unsynced }
-    ensures cause { OnErr result (Rose (D.seen disk.old).faults (D.seen disk.new).faults) }
-    ensures counted { (D.seen disk.old).faults ≤ (D.seen disk.new).faults }
-    ensures looks { Passes IsSame (D.seen disk.old) (D.seen disk.new) }
+        → slice_index buf.new j ≡ byte_at (bytes_of (D.seen disk.old) name.now) (at + j)) }
+    ensures looks { OnlyLooks (D.seen disk.old) (D.seen disk.new) result }
 {
     let count = disk.read(name, at, buf)?;
     for place in count..buf.len() {
@@ -54,16 +51,9 @@ pub fn read_padded<D: Disk>(
 
 /// Reads the head of an undo file.
 pub(crate) fn read_head<D: Disk>(disk: &mut D, undo: &str) -> Result<UndoHead, DiskFault>
-    ensures gate { IfOk result (λ head. IsTrue D.tells
-        → head.gate ≡ byte_at (unwrap_or ((D.seen disk.old).files undo.now) []) 0) }
-    ensures old_length { IfOk result (λ head. IsTrue D.tells
-        → head.old_length ≡ number_at 8 (unwrap_or ((D.seen disk.old).files undo.now) []) 8) }
-    ensures count { IfOk result (λ head. IsTrue D.tells
-        → head.count ≡ number_at 4 (unwrap_or ((D.seen disk.old).files undo.now) []) 16) }
-    ensures names { (D.seen disk.new).unsynced ≡ (D.seen disk.old).unsynced }
-    ensures cause { OnErr result (Rose (D.seen disk.old).faults (D.seen disk.new).faults) }
-    ensures counted { (D.seen disk.old).faults ≤ (D.seen disk.new).faults }
-    ensures looks { Passes IsSame (D.seen disk.old) (D.seen disk.new) }
+    ensures begins { IfOk result (λ head. IsTrue D.tells
+        → BeginsSo head.gate head.old_length head.count (bytes_of (D.seen disk.old) undo.now)) }
+    ensures looks { OnlyLooks (D.seen disk.old) (D.seen disk.new) result }
 {
     let mut bytes = [0; 20];
     read_padded(disk, undo, 0, &mut bytes)?;
@@ -78,13 +68,10 @@ pub(crate) fn read_head<D: Disk>(disk: &mut D, undo: &str) -> Result<UndoHead, D
 pub(crate) fn read_span<D: Disk>(disk: &mut D, undo: &str, k: u32) -> Result<SpanHead, DiskFault>
     requires { k < 12 }
     ensures place { IfOk result (λ span. IsTrue D.tells
-        → span.at ≡ number_at 8 (unwrap_or ((D.seen disk.old).files undo.now) []) (range_at k)) }
+        → span.at ≡ number_at 8 (bytes_of (D.seen disk.old) undo.now) (range_at k)) }
     ensures number { IfOk result (λ span. IsTrue D.tells
-        → span.saved ≡ number_at 2 (unwrap_or ((D.seen disk.old).files undo.now) []) (range_at k + 8)) }
-    ensures names { (D.seen disk.new).unsynced ≡ (D.seen disk.old).unsynced }
-    ensures cause { OnErr result (Rose (D.seen disk.old).faults (D.seen disk.new).faults) }
-    ensures counted { (D.seen disk.old).faults ≤ (D.seen disk.new).faults }
-    ensures looks { Passes IsSame (D.seen disk.old) (D.seen disk.new) }
+        → span.saved ≡ number_at 2 (bytes_of (D.seen disk.old) undo.now) (range_at k + 8)) }
+    ensures looks { OnlyLooks (D.seen disk.old) (D.seen disk.new) result }
 {
     let mut bytes = [0; 16];
     read_padded(disk, undo, 1024 + 1040 * u64::from(k), &mut bytes)?;
@@ -113,11 +100,8 @@ pub(crate) fn all_fit<D: Disk>(
 ) -> Result<bool, DiskFault>
     requires { count ≤ 12 }
     ensures fit { IfOk result (λ fit. IsTrue D.tells → fit
-        ≡ ranges_fit old_length (saved_ranges (unwrap_or ((D.seen disk.old).files undo.now) []) 0 count)) }
-    ensures names { (D.seen disk.new).unsynced ≡ (D.seen disk.old).unsynced }
-    ensures cause { OnErr result (Rose (D.seen disk.old).faults (D.seen disk.new).faults) }
-    ensures counted { (D.seen disk.old).faults ≤ (D.seen disk.new).faults }
-    ensures looks { Passes IsSame (D.seen disk.old) (D.seen disk.new) }
+        ≡ ranges_fit old_length (saved_ranges (bytes_of (D.seen disk.old) undo.now) 0 count)) }
+    ensures looks { OnlyLooks (D.seen disk.old) (D.seen disk.new) result }
 {
     for k in 0..count {
         let span = read_span(disk, undo, k)?;
@@ -132,11 +116,8 @@ pub(crate) fn all_fit<D: Disk>(
 fn end_within<D: Disk>(disk: &mut D, undo: &str, length: u64, count: u32) -> Result<bool, DiskFault>
     requires { count ≤ 12 }
     ensures within { IfOk result (λ within. IsTrue D.tells → (IsTrue within ↔ ((k : ℕ) → k < count
-        → range_at k + 16 + number_at 2 (unwrap_or ((D.seen disk.old).files undo.now) []) (range_at k + 8) ≤ length))) }
-    ensures names { (D.seen disk.new).unsynced ≡ (D.seen disk.old).unsynced }
-    ensures cause { OnErr result (Rose (D.seen disk.old).faults (D.seen disk.new).faults) }
-    ensures counted { (D.seen disk.old).faults ≤ (D.seen disk.new).faults }
-    ensures looks { Passes IsSame (D.seen disk.old) (D.seen disk.new) }
+        → range_at k + 16 + number_at 2 (bytes_of (D.seen disk.old) undo.now) (range_at k + 8) ≤ length))) }
+    ensures looks { OnlyLooks (D.seen disk.old) (D.seen disk.new) result }
 {
     for k in 0..count {
         let span = read_span(disk, undo, k)?;
@@ -151,13 +132,9 @@ fn end_within<D: Disk>(disk: &mut D, undo: &str, length: u64, count: u32) -> Res
 /// Whether an undo file that names this many ranges holds them: it has room for its head, and each of them ends within it.
 /// Of more than 12 a recovery reads none.
 pub(crate) fn holds_ranges<D: Disk>(disk: &mut D, undo: &str, count: u32) -> Result<bool, DiskFault>
-    ensures holds { IfOk result (λ holds. IsTrue D.tells
-        → count ≡ number_at 4 (unwrap_or ((D.seen disk.old).files undo.now) []) 16
-        → (IsTrue holds ↔ HoldsItsRanges (unwrap_or ((D.seen disk.old).files undo.now) []))) }
-    ensures names { (D.seen disk.new).unsynced ≡ (D.seen disk.old).unsynced }
-    ensures cause { OnErr result (Rose (D.seen disk.old).faults (D.seen disk.new).faults) }
-    ensures counted { (D.seen disk.old).faults ≤ (D.seen disk.new).faults }
-    ensures looks { Passes IsSame (D.seen disk.old) (D.seen disk.new) }
+    ensures holds { IfOk result (λ holds. IsTrue D.tells → count ≡ number_at 4 (bytes_of (D.seen disk.old) undo.now) 16
+        → (IsTrue holds ↔ HoldsItsRanges (bytes_of (D.seen disk.old) undo.now))) }
+    ensures looks { OnlyLooks (D.seen disk.old) (D.seen disk.new) result }
 {
     let length = disk.size(undo)?.unwrap_or(0);
     if length < 1024 {

@@ -1,18 +1,18 @@
 -- What one call of a journal puts where a stop of the machine leaves it.
-use Rattle.std.proofs.Common.{◌≡◌, ◌≢◌, inl, inr, ⊎_elim, ℕ, List, [], ◌∷◌, Option, Some, None, unwrap_or, refl, sym, ap, ◌∙◌, subst}
+use Rattle.std.proofs.Common.{◌≡◌, ◌≢◌, inl, inr, ⊎_elim, ℕ, List, [], ◌∷◌, Option, Some, None, unwrap_or, sym, ap, ◌∙◌, subst}
 use Rattle.std.specs.Str.{bytes_eq}
-use Rattle.std.specs.Option.{option_map_or}
 use Rattle.std.proofs.lemmas.Bool.{cases_Bool}
-use Rattle.outside.specs.World.{World, with_file, with_new_name}
-use Rattle.outside.proofs.WorldLemmas.{bytes_eq-true, with_file-at, with_new_name-absent, with_new_name-others}
-use Rattle.disk.specs.DiskSeen.{ChangesNothing, DiskSeen, EachImage, IsDurable, OnlyLeaves, Passes, TakesStep}
+use Rattle.outside.specs.World.{World, with_new_name}
+use Rattle.outside.proofs.WorldLemmas.{bytes_eq-true, with_new_name-absent, with_new_name-others}
+use Rattle.disk.specs.DiskSeen.{DiskSeen, EachImage, IsDurable, OnlyLeaves, Passes, TakesStep}
 use Rattle.disk.specs.DiskCalls.{ChangesFile, MayBeRenamed}
-use Rattle.disk.proofs.StopLemmas.{passes-nothing, passes-step}
+use Rattle.disk.proofs.StopLemmas.{passes-step}
 use Rattle.quota_types.specs.Bytes.{byte_at}
 use Rattle.edit_journal.specs.Recovery.{IsSame}
 use Rattle.edit_journal.specs.Recovered.{RecoversSame, KeepsOtherThree}
 use Rattle.edit_journal.specs.Undo.{recovered}
 use Rattle.edit_journal.specs.UndoName.{und_name, undo_name}
+use Rattle.edit_journal.proofs.MakeLemmas.{new_name-to}
 use Rattle.edit_journal.proofs.NameLemmas.{und-undo, undo-injective}
 use Rattle.edit_journal.proofs.RecoveryResultLemmas.{recovered-closed}
 use Rattle.journal_store.specs.Commits.{Commits, RecoversOr, commits_then, nothing_commits}
@@ -65,9 +65,6 @@ pub commits_same : (a b : DiskSeen) → Passes IsSame a b → Commits [] a b
 commits_same a b passes =
     commits_alike IsSame a b (λ old new same name plain. alike-same name old new (ap (λ (w : World). w name) same) (ap (λ (w : World). w (undo_name name)) same)) passes
 
-pub commits_nothing : (a b : DiskSeen) → ChangesNothing a b → Commits [] a b
-commits_nothing a b nothing = commits_same a b (passes-nothing IsSame a b (λ files. refl) nothing)
-
 -- nor does a change of a file whose name is new
 pub commits_new : (Changes : Option (List ℕ) → Option (List ℕ) → Type 0) (name : List ℕ) → IsNew name → (a b : DiskSeen) → TakesStep (ChangesFile Changes name) a b → Commits [] a b
 commits_new Changes name new a b takes =
@@ -110,12 +107,6 @@ commits_before worlds a b c none some = commits_then [] worlds a b c none some
 pub commits_any : (worlds : List World) (a b : DiskSeen) → Commits [] a b → Commits worlds a b
 commits_any worlds a b none = commits_then [] worlds a b b none (nothing_commits worlds b)
 
--- the file that the new name gets is the one that the old name had
-renamed-at : (files : World) (from to bytes : List ℕ) → files from ≡ Some bytes → with_new_name files from to to ≡ Some bytes
-renamed-at files from to bytes there =
-    ap (λ (f : Option (List ℕ)). option_map_or (λ (b : List ℕ). with_file (with_file files from None) to (Some b)) f files to) there
-    ∙ with_file-at (with_file files from None) to (Some bytes)
-
 module _ (from to : List ℕ) (new : IsNew from) (plain : IsPlain to) where
   -- a rename leaves each plain name but the new one
   alike-renamed : (old now : World) → now ≡ with_new_name old from to → (other : List ℕ) → kind_of other ≡ Plain → other ≢ to → RecoversAlike other old now
@@ -138,10 +129,10 @@ module _ (from to : List ℕ) (new : IsNew from) (plain : IsPlain to) where
       elim (cases_Bool (bytes_eq to other)) [
         | inl e ↦ subst (λ (n : List ℕ). RecoversOr (with_new_name world from to ∷ []) disk n now) (bytes_eq-true to other e)
             (inr (inl (
-            ap (λ (f : Option (List ℕ)). recovered f (now (undo_name to))) (ap (λ (w : World). w to) renamed ∙ renamed-at old from to bytes (kept old was))
+            ap (λ (f : Option (List ℕ)). recovered f (now (undo_name to))) (ap (λ (w : World). w to) renamed ∙ new_name-to old from to bytes (kept old was))
             ∙ ap (λ (u : Option (List ℕ)). recovered (Some bytes) u) (ap (λ (w : World). w (undo_name to)) renamed ∙ with_new_name-others old from to (undo_name to) (λ same. undo-apart from to new.undo (sym same)) (λ same. undo-apart to to plain.undo (sym same)))
             ∙ recovered-closed bytes (old (undo_name to)) (closed old was)
-            ∙ sym (renamed-at world from to bytes told))))
+            ∙ sym (new_name-to world from to bytes told))))
         | inr e ↦ inl (old, was, alike-renamed old now renamed other is (differs to other e))
       ]
 

@@ -46,6 +46,7 @@ pub record IsNew (name : List ℕ) : Type 0 where
   pub undo : is_undo name ≡ false
   pub new : is_new name ≡ true
 
+-- what the tests say of a plain name, and of a new one
 plain_tests : (u n a b : Bool) → (if u then Barred else (if n then (if a then New else Barred) else (if b then Plain else Barred))) ≡ Plain → (u ≡ false) × (n ≡ false) × (b ≡ true)
 plain_tests false false a true is = (refl, refl, refl)
 plain_tests true n a b is = absurd (cc)
@@ -60,6 +61,7 @@ new_tests false true false b is = absurd (cc)
 new_tests false false a true is = absurd (cc)
 new_tests false false a false is = absurd (cc)
 
+-- what a plain name is, and a new one
 pub is_plain : (name : List ℕ) → kind_of name ≡ Plain → IsPlain name
 is_plain name is =
     let tests = plain_tests (is_undo name) (is_new name) (nat_le (length name) 254) (nat_le (length name) 250) is in
@@ -69,6 +71,13 @@ pub is_new_name : (name : List ℕ) → kind_of name ≡ New → IsNew name
 is_new_name name is =
     let tests = new_tests (is_undo name) (is_new name) (nat_le (length name) 254) (nat_le (length name) 250) is in
     record { undo = tests.0; new = tests.1 }
+
+-- no name is both
+pub new-plain : (name : List ℕ) → kind_of name ≡ New → kind_of name ≡ Plain → ⊥
+new-plain name new plain = false≢true (sym (is_plain name plain).new ∙ (is_new_name name new).new)
+
+pub plain-barred : (name : List ℕ) → kind_of name ≡ Plain → kind_of name ≡ Barred → ⊥
+plain-barred name plain barred = let same : Plain ≡ Barred = sym plain ∙ barred in absurd (cc)
 
 -- a plain name is not one under which a new file is written
 pub new-apart : (name other : List ℕ) → is_new name ≡ false → is_new other ≡ true → other ≢ name

@@ -1,16 +1,13 @@
-pub mod BesideLemmas
-pub mod CallLemmas
 pub mod ToldAfterChangeLemmas
-pub mod ToldAfterCommitLemmas
 pub mod CommitsLemmas
 pub mod HeldCommitLemmas
 pub mod HeldLemmas
 pub mod KindLemmas
 pub mod LaidTwiceLemmas
 pub mod LookLemmas
+pub mod MomentLemmas
 pub mod NamesLemmas
 pub mod OverlayLemmas
 pub mod ReadyLemmas
-pub mod ReplacedLemmas
 pub mod SeenLemmas
 pub mod ToldLemmas

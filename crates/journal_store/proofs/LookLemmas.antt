@@ -2,7 +2,8 @@
 use Rattle.std.proofs.Common.{◌≡◌, ◌≤◌, inl, inr, ℕ, Bool, ◌||◌, true, false, IsTrue, refl, List, length, Option, option_map, sym, ap, ◌∙◌, subst}
 use Rattle.std.specs.Str.{bytes_eq}
 use Rattle.std.proofs.lemmas.Bool.{cases_Bool, cond-false, false≢true}
-use Rattle.outside.specs.Unsynced.{UnsyncedNames}
+use Rattle.outside.specs.Unsynced.{AddsNone, UnsyncedNames}
+use Rattle.outside.specs.World.{KeepsOthers, World}
 use Rattle.outside.proofs.WorldLemmas.{bytes_eq-true}
 use Rattle.outside.proofs.FrameLemmas.{adds_none-then, keeps_others-then}
 use Rattle.disk.specs.DiskSeen.{DiskSeen}
@@ -14,22 +15,27 @@ use Rattle.edit_journal.proofs.RecoveryCallLemmas.{recovered-unopened}
 use Rattle.journal_store.specs.Told.{LooksAtName, Told, are_kept, ranges_for, told, told_files, told_names}
 use Rattle.journal_store.specs.Kinds.{is_undo}
 use Rattle.journal_store.proofs.KindLemmas.{IsPlain}
+use Rattle.journal_store.proofs.NamesLemmas.{adds_none-told, told-names-at}
 use Rattle.journal_store.proofs.ToldLemmas.{are_kept-moved, differs, names-others, ranges_for-held, told-plain, told-recovers}
 
--- a call that changed nothing only looked
-pub looks-nothing : {done : Bool} (name : List ℕ) (a b : Told) → b ≡ a → LooksAtName done name a b
-looks-nothing {done} name a b same = record {
-  files = ap (λ (t : Told). t.files) same;
-  unsynced = λ other differ. ap (λ (t : Told). t.unsynced other) same;
-  synced = λ is other unsynced. subst (λ (t : Told). IsTrue (t.unsynced other)) same unsynced;
-}
-
+-- two calls that only look
 pub looks-then : {done : Bool} (name : List ℕ) (a b c : Told) → LooksAtName true name a b → LooksAtName done name b c → LooksAtName done name a c
 looks-then name a b c first second = record {
   files = second.files ∙ first.files;
   unsynced = keeps_others-then name _ _ _ first.unsynced second.unsynced;
   synced = λ done. adds_none-then a.unsynced b.unsynced c.unsynced (first.synced refl) (second.synced done);
 }
+
+-- a sync behind a call that only looks
+pub looks-synced : {done : Bool} (name held : List ℕ) (spans : List ByteRange) (before : Told) (a b : DiskSeen) → LooksAtName true name before (told a held spans) → b.files ≡ a.files → KeepsOthers name a.unsynced b.unsynced
+    → (IsTrue done → AddsNone a.unsynced b.unsynced) → LooksAtName done name before (told b held spans)
+looks-synced {done} name held spans before a b first same keeps none =
+    looks-then name before (told a held spans) (told b held spans) first
+    (record {
+      files = ap (λ (w : World). told_files w held spans) same;
+      unsynced = λ other differ. told-names-at a.unsynced b.unsynced held spans other (keeps other differ);
+      synced = λ is. adds_none-told a.unsynced b.unsynced held spans (none is);
+    })
 
 -- what is told of the held file, where it is recovered
 pub told-ready : (disk : DiskSeen) (held : List ℕ) (spans : List ByteRange) (name : List ℕ) → held ≡ name → IsPlain name → disk.images disk.files → IsRecovered name (undo_name name) (disk.files name) disk
@@ -45,6 +51,7 @@ or-kept : (kept : Bool) (is : Bool) → is ≡ false → IsTrue (kept || is) →
 or-kept true is synced unsynced = refl
 or-kept false is synced unsynced = absurd (false≢true (sym synced ∙ unsynced))
 
+-- a synced name is told unsynced only where it was before
 kept-still : (one other : UnsyncedNames) (held new_held : List ℕ) (spans : List ByteRange) (name : List ℕ) → is_undo name ≡ false → (1 ≤ length spans → held ≡ new_held) → other name ≡ false
     → IsTrue (told_names other new_held spans name) → IsTrue (told_names one held spans name)
 kept-still one other held new_held spans name undo moved synced unsynced =

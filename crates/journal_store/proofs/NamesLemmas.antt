@@ -1,11 +1,12 @@
 -- Which names a journal tells to be unsynced after a change.
-use Rattle.std.proofs.Common.{◌≡◌, ◌≢◌, inl, inr, ℕ, Bool, ◌||◌, ◌&&◌, true, false, List, [], ◌∷◌, ◌++◌, length, sym, ap, ◌∙◌, arith, length-append}
+use Rattle.std.proofs.Common.{◌≡◌, ◌≢◌, inl, inr, ℕ, Bool, ◌||◌, ◌&&◌, true, false, IsTrue, refl, List, [], ◌∷◌, ◌++◌, length, sym, ap, ◌∙◌, arith, length-append}
 use Rattle.std.specs.Prelude.{nat_eq, not}
 use Rattle.std.specs.Str.{bytes_eq}
 use Rattle.std.proofs.Math.Bool.{and-false}
-use Rattle.std.proofs.lemmas.Bool.{cases_Bool, cond-false, cond-true, eqb-true, false_from_ne_true}
-use Rattle.outside.specs.Unsynced.{UnsyncedNames, with_handed, with_name}
+use Rattle.std.proofs.lemmas.Bool.{cases_Bool, cond-false, cond-true, eqb-true, false_from_ne_true, false≢true}
+use Rattle.outside.specs.Unsynced.{AddsNone, UnsyncedNames, with_handed, with_name}
 use Rattle.outside.specs.World.{KeepsOthers}
+use Rattle.outside.proofs.UnsyncedLemmas.{with_name-at}
 use Rattle.outside.proofs.WorldLemmas.{bytes_eq-ne, bytes_eq-same, bytes_eq-true}
 use Rattle.edit_journal.specs.ByteRanges.{ByteRange}
 use Rattle.journal_store.specs.Kinds.{is_undo}
@@ -33,18 +34,47 @@ are_kept-other held spans name differ = ap (λ (b : Bool). b && not (nat_eq (len
 pub names-told : (names : UnsyncedNames) (held : List ℕ) (spans : List ByteRange) (name : List ℕ) → is_undo name ≡ false → are_kept held spans name ≡ false → told_names names held spans name ≡ names name
 names-told names held spans name undo none = cond-false _ _ _ undo ∙ ap (λ (b : Bool). b || names name) none
 
-pub with_name-at : (names : UnsyncedNames) (name : List ℕ) (is : Bool) → with_name names name is name ≡ is
-with_name-at names name is = cond-true _ _ _ (bytes_eq-same name)
-
+-- all other names stay
 pub with_name-other : (names : UnsyncedNames) (name : List ℕ) (is : Bool) → KeepsOthers name names (with_name names name is)
 with_name-other names name is n differ = cond-false _ _ _ (bytes_eq-ne name n (λ same. differ (sym same)))
 
+-- a name that stays so is told as before
 pub told-names-at : (one other : UnsyncedNames) (held : List ℕ) (spans : List ByteRange) (n : List ℕ) → other n ≡ one n → told_names other held spans n ≡ told_names one held spans n
 told-names-at one other held spans n same =
     elim (cases_Bool (is_undo n)) [
       | inl is ↦ cond-true _ _ _ is ∙ sym (cond-true _ _ _ is)
       | inr undo ↦ cond-false _ _ _ undo ∙ ap (λ (b : Bool). are_kept held spans n || b) same ∙ sym (cond-false _ _ _ undo)
     ]
+
+or-mono : (kept a b : Bool) → (IsTrue b → IsTrue a) → IsTrue (kept || b) → IsTrue (kept || a)
+or-mono true a b sub is = refl
+or-mono false a b sub is = sub is
+
+-- no name is told unsynced that was not where none is that was not
+pub adds_none-told : (one other : UnsyncedNames) (held : List ℕ) (spans : List ByteRange) → AddsNone one other → AddsNone (told_names one held spans) (told_names other held spans)
+adds_none-told one other held spans adds n is =
+    elim (cases_Bool (is_undo n)) [
+      | inl undo ↦ absurd (false≢true (sym (cond-true _ _ _ undo) ∙ is))
+      | inr undo ↦ cond-false _ _ _ undo ∙ or-mono (are_kept held spans n) (one n) (other n) (adds n) (sym (cond-false _ _ _ undo) ∙ is)
+    ]
+
+-- one name is made so, whatever it was
+pub with_name-keeps : (one other : UnsyncedNames) (name : List ℕ) (is : Bool) → KeepsOthers name one other → with_name other name is ≡ with_name one name is
+with_name-keeps one other name is keeps =
+    names-with one (with_name other name is) name is
+    (λ n differ. with_name-other other name is n differ ∙ keeps n differ)
+    (with_name-at other name is)
+
+-- a name is handed over, whatever the one that gets it was
+pub with_handed-keeps : (one other : UnsyncedNames) (from to : List ℕ) → from ≢ to → KeepsOthers to one other → with_handed other from to ≡ with_handed one from to
+with_handed-keeps one other from to differ keeps =
+    ap (λ (b : Bool). with_name (with_name other from false) to b) (keeps from differ)
+    ∙ with_name-keeps (with_name one from false) (with_name other from false) to (one from)
+    (λ n apart.
+    elim (cases_Bool (bytes_eq from n)) [
+      | inl same ↦ cond-true _ _ _ same ∙ sym (cond-true _ _ _ same)
+      | inr other_name ↦ cond-false _ _ _ other_name ∙ keeps n apart ∙ sym (cond-false _ _ _ other_name)
+    ])
 
 -- a name that is made so on the disk, and for which no ranges are kept
 pub names-put : (names : UnsyncedNames) (held : List ℕ) (spans : List ByteRange) (name : List ℕ) (is : Bool) → is_undo name ≡ false → are_kept held spans name ≡ false → told_names (with_name names name is) held spans ≡ with_name (told_names names held spans) name is

@@ -1,11 +1,10 @@
 -- What is read of a file over which ranges are laid.
 use Rattle.std.proofs.Common.{◌≡◌, ◌⊎◌, inl, inr, ℕ, ◌+◌, ◌-◌, ◌<◌, ◌≤◌, List, [], ◌∷◌, ◌++◌, length, take, drop, get_or, replicate, sym, ap, ◌∙◌, arith, length-append, length-drop, length-take}
 use Rattle.std.specs.Prelude.{max}
-use Rattle.std.proofs.lemmas.List.{length-replicate, map_more, take_all}
+use Rattle.std.proofs.lemmas.List.{length-replicate}
 use Rattle.quota_types.specs.Bytes.{byte_at}
-use Rattle.edit_journal.specs.ByteRanges.{ByteRange, laid, range_of, ranges_of, with_laid}
-use Rattle.edit_journal.specs.declared.kept.KeptRange.{KeptRange}
-use Rattle.edit_journal.proofs.LaidBytesLemmas.{get_or-with_laid_before, get_or-with_laid_behind, get_or-with_laid_inside, laid-more}
+use Rattle.edit_journal.specs.ByteRanges.{with_laid}
+use Rattle.edit_journal.proofs.LaidBytesLemmas.{get_or-with_laid_before, get_or-with_laid_behind, get_or-with_laid_inside}
 
 -- the length of a file over which bytes are laid
 pub length-laid_one : (file : List ℕ) (at : ℕ) (bytes : List ℕ) → 1 ≤ length bytes → length (with_laid file at bytes) ≡ max (length file) (at + length bytes)
@@ -22,16 +21,6 @@ length-laid_one file at (byte ∷ rest) some =
       length-replicate {A = ℕ} (at - length file) 0,
       length-drop (at + length bytes) file,
     )
-
--- one range more
-pub ranges-more : (ranges : List KeptRange) (i : ℕ) (range : KeptRange) (file : List ℕ) → range ≡ get_or ranges i range → i < length ranges → laid (ranges_of (take (i + 1) ranges)) file ≡ with_laid (laid (ranges_of (take i ranges)) file) range.at range.bytes.items
-ranges-more ranges i range file is below =
-    ap (λ (s : List ByteRange). laid s file) (map_more range_of ranges i range below)
-    ∙ laid-more (ranges_of (take i ranges)) (range_of (get_or ranges i range)) file
-    ∙ ap (λ (r : KeptRange). with_laid (laid (ranges_of (take i ranges)) file) r.at r.bytes.items) (sym is)
-
-pub ranges-all : (ranges : List KeptRange) (i : ℕ) → length ranges ≤ i → ranges_of (take i ranges) ≡ ranges_of ranges
-ranges-all ranges i all = ap (λ (l : List KeptRange). ranges_of l) (take_all i ranges all)
 
 -- a place that is not in a range that is laid over a file
 pub laid-past : (file : List ℕ) (at : ℕ) (bytes : List ℕ) (place : ℕ) → (place < at) ⊎ (at + length bytes ≤ place) → byte_at file place ≡ byte_at (with_laid file at bytes) place

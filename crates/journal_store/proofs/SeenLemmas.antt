@@ -1,8 +1,9 @@
 -- What is seen of a store, by what its journal tells.
-use Rattle.std.proofs.Common.{◌≡◌, ◌≤◌, ◌⊎◌, inl, inr, ℕ, Bool, true, false, IsTrue, refl, List, None, Result, Ok, Err, OnOk, OnErr, is_ok, ap, ◌∙◌, arith}
+use Rattle.std.proofs.Common.{◌≡◌, ◌≤◌, ◌⊎◌, ⊎_elim, inl, inr, ℕ, Bool, true, false, IsTrue, refl, List, None, Result, Ok, Err, OnOk, OnErr, is_ok, ap, ◌∙◌, arith}
+use Rattle.std.proofs.lemmas.Bool.{false≢true}
 use Rattle.outside.specs.Count.{Rose, counted}
 use Rattle.outside.specs.Frame.{ChangesOne, ChangesTwo, OnlyReads}
-use Rattle.outside.specs.Unsynced.{AddsNone}
+use Rattle.outside.specs.Unsynced.{AddsNone, UnsyncedNames}
 use Rattle.outside.specs.World.{KeepsOtherTwo, KeepsOthers, World}
 use Rattle.outside.proofs.FrameLemmas.{unfailed-done}
 use Rattle.journal_store.specs.JournalStore.{seen_as}
@@ -30,6 +31,16 @@ only_reads-seen false result name a b fa ra wa fb rb wb looks later writes cause
   synced = λ is other unsynced. unsynced;
 }
 
+-- a call that was not refused for its reason failed for the other one
+pub unrefused : {T E Reason : Type 0} (Other : Type 0) (result : Result T E) → OnErr result (Reason ⊎ Other) → ¬ Reason → OnErr result Other
+unrefused Other (Ok value) either none = tt
+unrefused Other (Err fault) either none = ⊎_elim (λ reason. absurd (none reason)) (λ other. other) either
+
+-- what a store over a disk that tells shows is what its journal tells
+pub as_told : (tells : Bool) (t : Told) (faults reads writes : ℕ) (P : UnsyncedNames → World → Type 0) → IsTrue tells → P t.unsynced t.files → P (seen_as tells t faults reads writes).unsynced (seen_as tells t faults reads writes).files
+as_told true t faults reads writes P told is = is
+as_told false t faults reads writes P told is = absurd (false≢true told)
+
 -- where a file changed or did not, all others stay
 pub keeps-either : (a b changed : World) (name : List ℕ) → KeepsOthers name a changed → (b ≡ a) ⊎ (b ≡ changed) → KeepsOthers name a b
 keeps-either a b changed name keeps (inl same) other differ = ap (λ (f : World). f other) same
@@ -49,8 +60,8 @@ by_result (Ok value) R ok err done undone = done ok
 by_result (Err fault) R ok err done undone = undone err
 
 -- a call that was done adds no unsynced name where there is no file, as its journal tells
-pub adds_none-seen : {T E : Type 0} (tells : Bool) (result other : Result T E) (from : List ℕ) (a b : Told) → other ≡ result → OnOk result (IsTrue tells → a.files from ≡ None → AddsNone a.unsynced b.unsynced)
-    → OnOk other (IsTrue tells → (seen_as tells a 0 0 0).files from ≡ None → AddsNone (seen_as tells a 0 0 0).unsynced (seen_as tells b 0 0 0).unsynced)
-adds_none-seen true result other from a b same is = rw same is
-adds_none-seen false result (Ok value) from a b same is = λ told absent other unsynced. unsynced
-adds_none-seen false result (Err fault) from a b same is = tt
+pub adds_none-seen : {T E : Type 0} (tells : Bool) (result : Result T E) (from : List ℕ) (a b : Told) → OnOk result (IsTrue tells → a.files from ≡ None → AddsNone a.unsynced b.unsynced)
+    → OnOk result (IsTrue tells → (seen_as tells a 0 0 0).files from ≡ None → AddsNone (seen_as tells a 0 0 0).unsynced (seen_as tells b 0 0 0).unsynced)
+adds_none-seen true result from a b is = is
+adds_none-seen false (Ok value) from a b is = λ told absent other unsynced. unsynced
+adds_none-seen false (Err fault) from a b is = tt

@@ -30,7 +30,8 @@ world-with one other name file keeps is = λ i n. by n i
           | inr apart ↦ keeps n (differs name n apart) ∙ sym (cond-false _ _ _ apart)
         ]
 
-laid_none : (file : Option (List ℕ)) → option_map (laid []) file ≡ file
+-- no ranges change nothing
+pub laid_none : (file : Option (List ℕ)) → option_map (laid []) file ≡ file
 laid_none None = refl
 laid_none (Some file) = refl
 

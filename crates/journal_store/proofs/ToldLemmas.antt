@@ -23,6 +23,7 @@ differs name n is same = false≢true (sym is ∙ ap (λ (m : List ℕ). bytes_e
 abbrev pub shown : World → (held : List ℕ) → List ByteRange → List ℕ → Option (List ℕ)
 shown files held spans name = option_map (laid (ranges_for held spans name)) (recovered (files name) (files (undo_name name)))
 
+-- what is told of a plain file, and of one with a new name
 pub told-plain : (files : World) (held : List ℕ) (spans : List ByteRange) (name : List ℕ) → is_undo name ≡ false → is_new name ≡ false → told_files files held spans name ≡ shown files held spans name
 told-plain files held spans name undo new = cond-false _ _ _ undo ∙ cond-false _ _ _ new
 
@@ -36,25 +37,6 @@ shown-stays one other held new_held spans new_spans name same undo kept =
     ap (λ (f : Option (List ℕ)). option_map (laid (ranges_for new_held new_spans name)) (recovered f (other (undo_name name)))) same
     ∙ ap (λ (u : Option (List ℕ)). option_map (laid (ranges_for new_held new_spans name)) (recovered (one name) u)) undo
     ∙ ap (λ (l : List ByteRange). option_map (laid l) (recovered (one name) (one (undo_name name)))) kept
-
--- a file and another one, with the undo files of both
-pub record StandsApart (name other : List ℕ) : Type 0 where
-  pub itself : other ≢ name
-  pub undo : other ≢ undo_name name
-  pub und : other ≢ und_name name
-  pub undo_itself : undo_name other ≢ name
-  pub undo_undo : undo_name other ≢ undo_name name
-  pub undo_und : undo_name other ≢ und_name name
-
-pub stands_apart : (name other : List ℕ) → is_undo name ≡ false → is_undo other ≡ false → other ≢ name → StandsApart name other
-stands_apart name other is is_other differ = record {
-  itself = differ;
-  undo = undo-apart other name is_other;
-  und = und-apart other name is_other;
-  undo_itself = λ same. undo-apart name other is (sym same);
-  undo_undo = λ same. differ (undo-injective other name same);
-  undo_und = λ same. und-undo name other (sym same);
-}
 
 -- no ranges are kept for any name where none are kept
 pub ranges_for-none : (held name : List ℕ) → ranges_for held [] name ≡ []
@@ -84,9 +66,9 @@ told-others one other held new_held spans new_spans name plain keeps kept n diff
             ∙ keeps n differ (undo-apart n name undo) (und-apart n name undo)
             ∙ sym (told-new one held spans n undo new)
         | inr new ↦
-            let apart = stands_apart name n plain.undo undo differ in
             told-plain other new_held new_spans n undo new
-            ∙ shown-stays one other held new_held spans new_spans n (keeps n apart.itself apart.undo apart.und) (keeps (undo_name n) apart.undo_itself apart.undo_undo apart.undo_und) (kept n differ)
+            ∙ shown-stays one other held new_held spans new_spans n (keeps n differ (undo-apart n name undo) (und-apart n name undo))
+            (keeps (undo_name n) (λ same. undo-apart name n plain.undo (sym same)) (λ same. differ (undo-injective n name same)) (λ same. und-undo name n (sym same))) (kept n differ)
             ∙ sym (told-plain one held spans n undo new)
       ]
     ]

@@ -40,6 +40,7 @@ to_some-more [] two name image some = absurd some
 to_some-more (world ∷ rest) two name image some =
     ⊎_elim (λ is. inl is) (λ later. inr (to_some-more rest two name image later)) some
 
+-- or of others and these
 to_some-behind : (one two : List World) (name : List ℕ) (image : World) → RecoversToSome two name image → RecoversToSome (one ++ two) name image
 to_some-behind [] two name image some = some
 to_some-behind (world ∷ rest) two name image some = inr (to_some-behind rest two name image some)
@@ -51,11 +52,13 @@ to_some-same [] name before image same some = some
 to_some-same (world ∷ rest) name before image same some =
     ⊎_elim (λ is. inl (same ∙ is)) (λ later. inr (to_some-same rest name before image same later)) some
 
-or-more : (one two : List World) (disk : DiskSeen) (name : List ℕ) (image : World) → RecoversOr one disk name image → RecoversOr (one ++ two) disk name image
-or-more one two disk name image either = ⊎_elim (λ as_before. inl as_before) (λ some. inr (to_some-more one two name image some)) either
+-- and so it is where something that was left before may be left
+recovers_or-more : (one two : List World) (disk : DiskSeen) (name : List ℕ) (image : World) → RecoversOr one disk name image → RecoversOr (one ++ two) disk name image
+recovers_or-more one two disk name image either = ⊎_elim (λ as_before. inl as_before) (λ some. inr (to_some-more one two name image some)) either
 
-or-then : (one two : List World) (first between : DiskSeen) (name : List ℕ) → EachImage (RecoversOr one first name) between → (image : World) → RecoversOr two between name image → RecoversOr (one ++ two) first name image
-or-then one two first between name left image either =
+-- what is left along some calls and those that follow them
+recovers_or-then : (one two : List World) (first between : DiskSeen) (name : List ℕ) → EachImage (RecoversOr one first name) between → (image : World) → RecoversOr two between name image → RecoversOr (one ++ two) first name image
+recovers_or-then one two first between name left image either =
     ⊎_elim
     (λ as_before.
     ⊎_elim
@@ -69,14 +72,14 @@ or-then one two first between name left image either =
 pub commits_then : (one two : List World) (first between last : DiskSeen) → Commits one first between → Commits two between last → Commits (one ++ two) first last
 commits_then one two first between last former latter = record {
   later = omega (arith, former.later, latter.later);
-  left = λ name plain image is. or-then one two first between name (former.left name plain) image (latter.left name plain image is);
+  left = λ name plain image is. recovers_or-then one two first between name (former.left name plain) image (latter.left name plain image is);
   known = λ moment image early was.
       ⊎_elim
       (λ before.
       ⊎_elim
       (λ earlier. inl earlier)
-      (λ each. inr (λ name plain. or-more one two first name image (each name plain)))
+      (λ each. inr (λ name plain. recovers_or-more one two first name image (each name plain)))
       (former.known moment image early before))
-      (λ each. inr (λ name plain. or-then one two first between name (former.left name plain) image (each name plain)))
+      (λ each. inr (λ name plain. recovers_or-then one two first between name (former.left name plain) image (each name plain)))
       (latter.known moment image (omega (arith, early, former.later)) was);
 }

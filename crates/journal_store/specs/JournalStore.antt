@@ -54,6 +54,10 @@ module _ {D : Type 0} {g : Ghosts D} where
   abbrev pub KeepsAny : Journal D g → Type 0
   KeepsAny journal = 1 ≤ length journal.ranges.items
 
+  -- a name is held, and its file was recovered
+  abbrev pub Holds : Journal D g → List ℕ → Type 0
+  Holds journal name = (journal.name.bytes ≡ name) × IsTrue journal.ready
+
   -- ranges are kept for this name
   abbrev pub IsPending : Journal D g → List ℕ → Type 0
   IsPending journal name = (journal.name.bytes ≡ name) × KeepsAny journal

@@ -2,40 +2,29 @@
 
 use crate::journal::Journal;
 use crate::kinds::{NameKind, kind_of};
+use crate::overlay::{laid_read, laid_size, overlaps_any};
 use disk::Disk;
+use edit_journal::KeptRange;
 use outside::StoreFault;
 
 impl<D: Disk> Journal<D> {
-    ghost use Rattle.std.specs.Prelude.{◌≡◌, ◌≢◌, ◌⊎◌, ◌↔◌, ◌^◌, ◌≤◌, ◌∷◌, [], None, Some, length, option_map, take, false, true, IfOk, IsErr, IsSome, IsTrue, OnErr, OnOk, is_ok};
-    ghost use Rattle.disk.specs.DiskSeen.{DiskFollows, OnlyLeaves, Passes};
-    ghost use Rattle.edit_journal.specs.Recovered.{RecoversSame, IsRecovered, KeepsOtherThree};
-    ghost use Rattle.edit_journal.specs.Undo.{recovered};
-    ghost use Rattle.edit_journal.specs.UndoName.{und_name, undo_name};
-    ghost use Rattle.journal_store.specs.Commits.{Commits};
-    ghost use Rattle.journal_store.specs.JournalStore.{IsAbsent, IsPending, IsRefused, IsRenameRefused, IsReplaceRefused, IsWriteRefused, RecoversAsBeforeOr, disk_of, told_of};
-    ghost use Rattle.journal_store.specs.Kinds.{is_new, kind_of};
-    ghost use Rattle.journal_store.specs.Replaced.{HasClosedGate, MayReplaceRecovered, ReplacesRecovered};
+    ghost use Rattle.std.specs.Prelude.{◌≡◌, ◌≢◌, ◌⊎◌, ◌^◌, ◌≤◌, [], None, Some, length, option_map, take, false, true, IfOk, IsSome, IsTrue, OnErr, OnOk, is_ok};
+    ghost use Rattle.journal_store.specs.Calls.{CommitsNothing, MakesFile, Refuses, RefusesFor, ReplacesFile, SyncsFile};
+    ghost use Rattle.journal_store.specs.JournalStore.{Holds, IsAbsent, IsRefused, IsRenameRefused, IsReplaceRefused, IsWriteRefused, KeepsSame, disk_of, told_of};
+    ghost use Rattle.journal_store.specs.Kinds.{kind_of};
     ghost use Rattle.journal_store.specs.Told.{LooksAtName};
-    ghost use Rattle.outside.specs.Count.{Rose};
     ghost use Rattle.outside.specs.Unsynced.{AddsNone, with_handed, with_name};
     ghost use Rattle.outside.specs.World.{KeepsOtherTwo, KeepsOthers, bytes_from, with_bytes, with_file, with_new_name};
 
     /// Begins a call on a name: holds it where it is plain, and answers whether it is.
     fn enter(&mut self, name: &str) -> Result<bool, StoreFault>
         ensures plain { IfOk result (λ plain. IsTrue plain → kind_of name.now ≡ NameKind.Plain) }
-        ensures held { IfOk result (λ plain. IsTrue plain → self.new.name.bytes ≡ name.now) }
-        ensures ready { IfOk result (λ plain. IsTrue plain → IsTrue self.new.ready) }
+        ensures held { IfOk result (λ plain. IsTrue plain → Holds self.new name.now) }
         ensures new { IfOk result (λ plain. plain ≡ false → kind_of name.now ≡ NameKind.New) }
-        ensures ranges { self.new.ranges.items ≡ self.old.ranges.items }
+        ensures ranges { KeepsSame self.old self.new }
         ensures leaves { IsTrue D.tells → LooksAtName (is_ok result) name.now (told_of self.old) (told_of self.new) }
-        ensures stops { IsTrue D.tells → kind_of name.now ≡ NameKind.Plain
-            → Passes (RecoversSame name.now (undo_name name.now) (und_name name.now)) (disk_of self.old) (disk_of self.new) }
-        ensures refused { IsRefused self.old name.now → IsErr result }
-        ensures cause { OnErr result (IsRefused self.old name.now ⊎ Rose (disk_of self.old).faults (disk_of self.new).faults) }
-        ensures counted { (disk_of self.old).faults ≤ (disk_of self.new).faults }
-        ensures commits { IsTrue D.tells → Commits [] (disk_of self.old) (disk_of self.new) }
-        ensures still { IsRefused self.old name.now → self.new.disk ≡ self.old.disk }
-        ensures beside { kind_of name.now ≡ NameKind.New → self.new.disk ≡ self.old.disk }
+        ensures moments { IsTrue D.tells → CommitsNothing name.now (disk_of self.old) (disk_of self.new) }
+        ensures refuses { RefusesFor (IsRefused self.old name.now) D.seen self.old.disk self.new.disk result }
     {
         match kind_of(name) {
             NameKind::Barred => Err(StoreFault),
@@ -51,19 +40,14 @@ impl<D: Disk> Journal<D> {
     pub(crate) fn size(&mut self, name: &str) -> Result<Option<u64>, StoreFault>
         ensures found { IfOk result (λ found. IsTrue D.tells → found ≡ option_map length ((told_of self.old).files name.now)) }
         ensures leaves { IsTrue D.tells → LooksAtName (is_ok result) name.now (told_of self.old) (told_of self.new) }
-        ensures stops { IsTrue D.tells → kind_of name.now ≡ NameKind.Plain
-            → Passes (RecoversSame name.now (undo_name name.now) (und_name name.now)) (disk_of self.old) (disk_of self.new) }
-        ensures refused { IsRefused self.old name.now → IsErr result }
-        ensures cause { OnErr result (IsRefused self.old name.now ⊎ Rose (disk_of self.old).faults (disk_of self.new).faults) }
-        ensures counted { (disk_of self.old).faults ≤ (disk_of self.new).faults }
-        ensures commits { IsTrue D.tells → Commits [] (disk_of self.old) (disk_of self.new) }
-        ensures still { IsRefused self.old name.now → self.new.disk ≡ self.old.disk }
-        ensures alone { IsTrue D.tells → kind_of name.now ≡ NameKind.New
-            → Passes (KeepsOthers name.now) (disk_of self.old) (disk_of self.new) }
+        ensures moments { IsTrue D.tells → CommitsNothing name.now (disk_of self.old) (disk_of self.new) }
+        ensures refuses { RefusesFor (IsRefused self.old name.now) D.seen self.old.disk self.new.disk result }
     {
         let plain = self.enter(name)?;
         if plain {
-            let held = self.held_size(name)?;
+            let Ok(held) = laid_size(&mut self.disk, name, self.ranges.as_slice()) else {
+                return Err(StoreFault);
+            };
             return Ok(held);
         }
         let Ok(found) = self.disk.size(name) else {
@@ -81,20 +65,15 @@ impl<D: Disk> Journal<D> {
         ensures bytes { IfOk result (λ count. IsTrue D.tells
             → take count buf.new ≡ bytes_from ((told_of self.old).files name.now) at (length buf.old)) }
         ensures leaves { IsTrue D.tells → LooksAtName (is_ok result) name.now (told_of self.old) (told_of self.new) }
-        ensures stops { IsTrue D.tells → kind_of name.now ≡ NameKind.Plain
-            → Passes (RecoversSame name.now (undo_name name.now) (und_name name.now)) (disk_of self.old) (disk_of self.new) }
-        ensures refused { IsRefused self.old name.now → IsErr result }
-        ensures cause { OnErr result (IsRefused self.old name.now ⊎ Rose (disk_of self.old).faults (disk_of self.new).faults) }
-        ensures counted { (disk_of self.old).faults ≤ (disk_of self.new).faults }
-        ensures commits { IsTrue D.tells → Commits [] (disk_of self.old) (disk_of self.new) }
-        ensures still { IsRefused self.old name.now → self.new.disk ≡ self.old.disk }
-        ensures alone { IsTrue D.tells → kind_of name.now ≡ NameKind.New
-            → Passes (KeepsOthers name.now) (disk_of self.old) (disk_of self.new) }
+        ensures moments { IsTrue D.tells → CommitsNothing name.now (disk_of self.old) (disk_of self.new) }
+        ensures refuses { RefusesFor (IsRefused self.old name.now) D.seen self.old.disk self.new.disk result }
     {
         let plain = self.enter(name)?;
         if plain {
-            let count = self.held_read(name, at, buf)?;
-            return Ok(count);
+            let Ok(held) = laid_read(&mut self.disk, name, self.ranges.as_slice(), at, buf) else {
+                return Err(StoreFault);
+            };
+            return Ok(held);
         }
         let Ok(count) = self.disk.read(name, at, buf) else {
             return Err(StoreFault);
@@ -114,34 +93,36 @@ impl<D: Disk> Journal<D> {
         ensures fault { OnErr result (IsTrue D.tells → ((told_of self.new).files ≡ (told_of self.old).files)
             ⊎ ((told_of self.new).files ≡ with_bytes (told_of self.old).files name.now at bytes.now)) }
         ensures names { IsTrue D.tells → KeepsOthers name.now (told_of self.old).unsynced (told_of self.new).unsynced }
-        ensures stops { IsTrue D.tells → kind_of name.now ≡ NameKind.Plain
-            → Passes (RecoversSame name.now (undo_name name.now) (und_name name.now)) (disk_of self.old) (disk_of self.new) }
-        ensures refused { IsWriteRefused self.old name.now at (length bytes.now) → IsErr result }
         ensures absent { OnOk result (IsTrue D.tells → kind_of name.now ≡ NameKind.Plain
             → IsSome ((told_of self.old).files name.now)) }
-        ensures cause { OnErr result (IsWriteRefused self.old name.now at (length bytes.now)
-            ⊎ (IsTrue D.tells → IsAbsent (told_of self.old).files name.now)
-            ⊎ Rose (disk_of self.old).faults (disk_of self.new).faults) }
-        ensures counted { (disk_of self.old).faults ≤ (disk_of self.new).faults }
-        ensures commits { IsTrue D.tells → Commits [] (disk_of self.old) (disk_of self.new) }
-        ensures still { IsRefused self.old name.now → self.new.disk ≡ self.old.disk }
-        ensures alone { IsTrue D.tells → kind_of name.now ≡ NameKind.New
-            → Passes (KeepsOthers name.now) (disk_of self.old) (disk_of self.new) }
+        ensures moments { IsTrue D.tells → CommitsNothing name.now (disk_of self.old) (disk_of self.new) }
+        ensures refuses { Refuses (IsWriteRefused self.old name.now at (length bytes.now))
+            (IsWriteRefused self.old name.now at (length bytes.now) ⊎ (IsTrue D.tells → IsAbsent (told_of self.old).files name.now))
+            (IsRefused self.old name.now) D.seen self.old.disk self.new.disk result }
     {
         let plain = self.enter(name)?;
-        if plain {
-            self.keep(name, at, bytes)?;
+        if !plain {
+            let Ok(()) = self.disk.write(name, at, bytes) else {
+                return Err(StoreFault);
+            };
             return Ok(());
         }
-        let Ok(()) = self.disk.write(name, at, bytes) else {
+        if self.ranges.is_full() || overlaps_any(self.ranges.as_slice(), at, bytes.len() as u64) {
+            return Err(StoreFault);
+        }
+        let Ok(found) = self.disk.size(name) else {
             return Err(StoreFault);
         };
+        if found.is_none() {
+            return Err(StoreFault);
+        }
+        self.ranges.push(KeptRange::new(at, bytes));
         Ok(())
     }
 
     /// Makes an empty file of this name, in place of the one that was there. A plain one is recovered first, where it is not
     /// held, so its undo file changes nothing of the new one; it is not journaled, and until it is synced a stop may leave any
-    /// bytes in it.
+    /// bytes in it. No name is held then.
     pub(crate) fn create(&mut self, name: &str) -> Result<(), StoreFault>
         ensures ok { OnOk result (IsTrue D.tells
             → (told_of self.new).files ≡ with_file (told_of self.old).files name.now (Some [])) }
@@ -150,24 +131,21 @@ impl<D: Disk> Journal<D> {
         ensures fault { OnErr result (IsTrue D.tells → ((told_of self.new).files ≡ (told_of self.old).files)
             ⊎ ((told_of self.new).files ≡ with_file (told_of self.old).files name.now (Some []))) }
         ensures names { IsTrue D.tells → KeepsOthers name.now (told_of self.old).unsynced (told_of self.new).unsynced }
-        ensures refused { IsReplaceRefused self.old name.now → IsErr result }
-        ensures cause { OnErr result (IsReplaceRefused self.old name.now
-            ⊎ Rose (disk_of self.old).faults (disk_of self.new).faults) }
-        ensures counted { (disk_of self.old).faults ≤ (disk_of self.new).faults }
-        ensures commits { IsTrue D.tells → is_new name.now ≡ true → Commits [] (disk_of self.old) (disk_of self.new) }
-        ensures still { IsRefused self.old name.now → self.new.disk ≡ self.old.disk }
-        ensures alone { IsTrue D.tells → kind_of name.now ≡ NameKind.New
-            → Passes (KeepsOthers name.now) (disk_of self.old) (disk_of self.new) }
-        ensures others { IsTrue D.tells → kind_of name.now ≡ NameKind.Plain
-            → Passes (KeepsOtherThree name.now (undo_name name.now) (und_name name.now)) (disk_of self.old) (disk_of self.new) }
-        ensures closed { OnOk result (IsTrue D.tells → kind_of name.now ≡ NameKind.Plain
-            → HasClosedGate name.now (disk_of self.new)) }
+        ensures moments { IsTrue D.tells → MakesFile name.now (disk_of self.old) (disk_of self.new) result }
+        ensures refuses { Refuses (IsReplaceRefused self.old name.now) (IsReplaceRefused self.old name.now)
+            (IsRefused self.old name.now) D.seen self.old.disk self.new.disk result }
     {
         let plain = self.enter(name)?;
-        if plain {
-            self.held_create(name)?;
+        if !plain {
+            let Ok(()) = self.disk.create(name) else {
+                return Err(StoreFault);
+            };
             return Ok(());
         }
+        if !self.ranges.is_empty() {
+            return Err(StoreFault);
+        }
+        self.ready = false;
         let Ok(()) = self.disk.create(name) else {
             return Err(StoreFault);
         };
@@ -179,22 +157,11 @@ impl<D: Disk> Journal<D> {
         ensures unsynced { OnOk result (IsTrue D.tells
             → (told_of self.new).unsynced ≡ with_name (told_of self.old).unsynced name.now false) }
         ensures leaves { IsTrue D.tells → LooksAtName (is_ok result) name.now (told_of self.old) (told_of self.new) }
-        ensures stops { IsTrue D.tells → kind_of name.now ≡ NameKind.Plain
-            → OnlyLeaves (RecoversAsBeforeOr name.now (undo_name name.now) (disk_of self.old) ((told_of self.old).files name.now))
-            (disk_of self.old) (disk_of self.new) }
-        ensures others { IsTrue D.tells → kind_of name.now ≡ NameKind.Plain
-            → Passes (KeepsOtherThree name.now (undo_name name.now) (und_name name.now)) (disk_of self.old) (disk_of self.new) }
-        ensures done { OnOk result (IsTrue D.tells → kind_of name.now ≡ NameKind.Plain
-            → IsRecovered name.now (undo_name name.now) ((told_of self.old).files name.now) (disk_of self.new)) }
+        ensures moments { IsTrue D.tells
+            → SyncsFile name.now (told_of self.old).files (disk_of self.old) (disk_of self.new) result }
         ensures given { OnOk result (kind_of name.now ≡ NameKind.Plain → self.new.ranges.items ≡ []) }
-        ensures refused { IsRefused self.old name.now → IsErr result }
-        ensures cause { OnErr result (IsRefused self.old name.now ⊎ Rose (disk_of self.old).faults (disk_of self.new).faults) }
-        ensures counted { (disk_of self.old).faults ≤ (disk_of self.new).faults }
-        ensures commits { IsTrue D.tells → Commits ((told_of self.new).files ∷ []) (disk_of self.old) (disk_of self.new) }
-        ensures beside { IsTrue D.tells → is_new name.now ≡ true → Commits [] (disk_of self.old) (disk_of self.new) }
-        ensures still { IsRefused self.old name.now → self.new.disk ≡ self.old.disk }
-        ensures alone { IsTrue D.tells → kind_of name.now ≡ NameKind.New
-            → Passes (KeepsOthers name.now) (disk_of self.old) (disk_of self.new) }
+        ensures kept { OnErr result (KeepsSame self.old self.new) }
+        ensures refuses { RefusesFor (IsRefused self.old name.now) D.seen self.old.disk self.new.disk result }
     {
         let plain = self.enter(name)?;
         if !plain {
@@ -204,14 +171,17 @@ impl<D: Disk> Journal<D> {
             return Ok(());
         }
         if self.ranges.is_empty() {
-            self.held_sync(name)?;
+            let Ok(()) = self.disk.sync(name) else {
+                return Err(StoreFault);
+            };
             return Ok(());
         }
         self.held_commit(name)?;
         Ok(())
     }
 
-    /// Gives a file whose name is new a plain name, whose file is recovered first. A call that is refused touches nothing.
+    /// Gives a file whose name is new a plain name, whose file is recovered first. A call that is refused touches nothing. No
+    /// name is held then.
     pub(crate) fn rename(&mut self, from: &str, to: &str) -> Result<(), StoreFault>
         requires { from.now ≢ to.now }
         ensures ok { OnOk result (IsTrue D.tells
@@ -222,17 +192,9 @@ impl<D: Disk> Journal<D> {
             → AddsNone (told_of self.old).unsynced (told_of self.new).unsynced) }
         ensures fault { OnErr result (IsTrue D.tells → (told_of self.new).files ≡ (told_of self.old).files) }
         ensures names { IsTrue D.tells → KeepsOtherTwo from.now to.now (told_of self.old).unsynced (told_of self.new).unsynced }
-        ensures refused { IsRenameRefused self.old from.now to.now → IsErr result }
-        ensures cause { OnErr result (IsRenameRefused self.old from.now to.now
-            ⊎ Rose (disk_of self.old).faults (disk_of self.new).faults) }
-        ensures counted { (disk_of self.old).faults ≤ (disk_of self.new).faults }
-        ensures commits { IsTrue D.tells → (told_of self.old).unsynced from.now ≡ false
-            → Commits (with_new_name (told_of self.old).files from.now to.now ∷ []) (disk_of self.old) (disk_of self.new) }
-        ensures still { IsRenameRefused self.old from.now to.now → self.new.disk ≡ self.old.disk }
-        ensures stops { IsTrue D.tells → Passes (MayReplaceRecovered from.now to.now) (disk_of self.old) (disk_of self.new) }
-        ensures done { OnOk result (IsTrue D.tells
-            → DiskFollows (ReplacesRecovered from.now to.now) (disk_of self.old) (disk_of self.new)) }
-        ensures closed { OnOk result (IsTrue D.tells → HasClosedGate to.now (disk_of self.new)) }
+        ensures moments { IsTrue D.tells → ReplacesFile from.now to.now (told_of self.old).unsynced (told_of self.old).files
+            (disk_of self.old) (disk_of self.new) result }
+        ensures refuses { RefusesFor (IsRenameRefused self.old from.now to.now) D.seen self.old.disk self.new.disk result }
     {
         if kind_of(from) != NameKind::New || kind_of(to) != NameKind::Plain {
             return Err(StoreFault);
@@ -241,63 +203,10 @@ impl<D: Disk> Journal<D> {
             return Err(StoreFault);
         }
         self.hold(to)?;
-        self.held_rename(from, to)?;
-        Ok(())
-    }
-
-    /// Whether ranges are kept for a name.
-    pub(crate) fn is_pending(&self, name: &str) -> bool
-        ensures { IsTrue result ↔ IsPending self.now name.now }
-    {
-        self.is_named(name) && !self.ranges.is_empty()
-    }
-
-    /// Writes the ranges that are kept for a file into it.
-    pub(crate) fn commit(&mut self, name: &str) -> Result<(), StoreFault>
-        requires { IsPending self.old name.now }
-        ensures unsynced { OnOk result (IsTrue D.tells
-            → (told_of self.new).unsynced ≡ with_name (told_of self.old).unsynced name.now false) }
-        ensures leaves { IsTrue D.tells → LooksAtName (is_ok result) name.now (told_of self.old) (told_of self.new) }
-        ensures stops { IsTrue D.tells
-            → OnlyLeaves (RecoversAsBeforeOr name.now (undo_name name.now) (disk_of self.old)
-            ((told_of self.old).files name.now)) (disk_of self.old) (disk_of self.new) }
-        ensures others { IsTrue D.tells
-            → Passes (KeepsOtherThree name.now (undo_name name.now) (und_name name.now)) (disk_of self.old) (disk_of self.new) }
-        ensures done { OnOk result (IsTrue D.tells
-            → IsRecovered name.now (undo_name name.now) ((told_of self.old).files name.now) (disk_of self.new)) }
-        ensures given { OnOk result (self.new.ranges.items ≡ []) }
-        ensures kept { OnErr result (self.new.ranges.items ≡ self.old.ranges.items) }
-        ensures cause { OnErr result (Rose (disk_of self.old).faults (disk_of self.new).faults) }
-        ensures counted { (disk_of self.old).faults ≤ (disk_of self.new).faults }
-        ensures commits { IsTrue D.tells → Commits ((told_of self.new).files ∷ []) (disk_of self.old) (disk_of self.new) }
-    {
-        self.hold(name)?;
-        self.held_commit(name)?;
-        Ok(())
-    }
-
-    /// Recovers a file, and holds its name. What is kept stays kept.
-    pub(crate) fn recover(&mut self, name: &str) -> Result<(), StoreFault>
-        requires { is_new name.now ≡ false }
-        ensures leaves { IsTrue D.tells → LooksAtName (is_ok result) name.now (told_of self.old) (told_of self.new) }
-        ensures stops { IsTrue D.tells
-            → Passes (RecoversSame name.now (undo_name name.now) (und_name name.now)) (disk_of self.old) (disk_of self.new) }
-        ensures done { OnOk result (IsTrue D.tells → IsRecovered name.now (undo_name name.now)
-            (recovered ((disk_of self.old).files name.now) ((disk_of self.old).files (undo_name name.now))) (disk_of self.new)) }
-        ensures kept { self.new.ranges.items ≡ self.old.ranges.items }
-        ensures refused { IsRefused self.old name.now → IsErr result }
-        ensures cause { OnErr result (IsRefused self.old name.now ⊎ Rose (disk_of self.old).faults (disk_of self.new).faults) }
-        ensures counted { (disk_of self.old).faults ≤ (disk_of self.new).faults }
-        ensures commits { IsTrue D.tells → Commits [] (disk_of self.old) (disk_of self.new) }
-        ensures still { IsRefused self.old name.now → self.new.disk ≡ self.old.disk }
-    {
-        if kind_of(name) != NameKind::Plain {
+        self.ready = false;
+        let Ok(()) = self.disk.rename(from, to) else {
             return Err(StoreFault);
-        }
-        if !self.ranges.is_empty() && !self.is_named(name) {
-            return Err(StoreFault);
-        }
-        self.take(name)?;
+        };
         Ok(())
     }
 }

@@ -1,18 +1,14 @@
 //! A store over a disk.
 
-ghost use Rattle.std.specs.Prelude.{List, ℕ, ◌≡◌, ◌≢◌, ◌⊎◌, ◌↔◌, ◌^◌, ◌≤◌, ◌∷◌, [], None, Some, length, option_map, take, false, true, if◌then◌else◌, IfOk, IsErr, IsSome, IsTrue, OnErr, OnOk, is_ok};
-ghost use Rattle.disk.specs.DiskSeen.{DiskFollows, OnlyLeaves, Passes};
-ghost use Rattle.edit_journal.specs.Recovered.{RecoversSame, IsRecovered, KeepsOtherThree};
-ghost use Rattle.edit_journal.specs.Undo.{recovered};
-ghost use Rattle.edit_journal.specs.UndoName.{und_name, undo_name};
+ghost use Rattle.std.specs.Prelude.{List, ℕ, ◌≡◌, ◌≢◌, ◌⊎◌, ◌↔◌, ◌^◌, ◌≤◌, ◌∷◌, [], None, Some, length, option_map, take, false, true, IfOk, IsSome, IsTrue, OnErr, OnOk, is_ok};
+ghost use Rattle.edit_journal.specs.Keeps.{CountsFaults};
 ghost use Rattle.journal_store.specs.Kinds.{is_new, kind_of};
-ghost use Rattle.journal_store.specs.Replaced.{HasClosedGate, MayReplaceRecovered, ReplacesRecovered};
 ghost use Rattle.journal_store.specs.Told.{told_files, told_names};
 ghost use Rattle.outside.specs.Count.{Rose, counted};
 ghost use Rattle.outside.specs.Frame.{ChangesOne, ChangesTwo, OnlyReads};
 ghost use Rattle.outside.specs.Replacement.{replacement_name};
 ghost use Rattle.outside.specs.Unsynced.{AddsNone, with_handed, with_name};
-ghost use Rattle.outside.specs.World.{KeepsOthers, bytes_from, with_bytes, with_file, with_new_name};
+ghost use Rattle.outside.specs.World.{bytes_from, with_bytes, with_file, with_new_name};
 
 use crate::NameKind;
 use crate::journal::Journal;
@@ -39,22 +35,20 @@ pub struct JournalStore<D: Disk> {
     writes: u64,
 }
 
-/// Counts a fault.
-fn outcome<T>(faults: &mut u64, done: Result<T, StoreFault>) -> Result<T, StoreFault>
-    ensures same { result ≡ done }
-    ensures ok { OnOk result (faults.new ≡ faults.old) }
-    ensures err { OnErr result (faults.new ≡ counted faults.old) }
+/// Counts a call that was refused.
+fn count_fault<T>(faults: &mut u64, done: &Result<T, StoreFault>)
+    ensures ok { OnOk done.now (faults.new ≡ faults.old) }
+    ensures err { OnErr done.now (faults.new ≡ counted faults.old) }
     ensures later { faults.old ≤ faults.new }
 {
     if done.is_err() {
         *faults = faults.saturating_add(1);
     }
-    done
 }
 
 impl<D: Disk> JournalStore<D> {
-    ghost use Rattle.journal_store.specs.Commits.{Commits};
-    ghost use Rattle.journal_store.specs.JournalStore.{IsAbsent, IsPending, IsRefused, IsRenameRefused, IsReplaceRefused, IsWriteRefused, KeepsSame, RecoversAsBeforeOr, disk_in, disk_seen, inside, store_seen};
+    ghost use Rattle.journal_store.specs.Calls.{CommitsFile, CountsRefusal, RecoversFile, RefusesFor};
+    ghost use Rattle.journal_store.specs.JournalStore.{IsPending, IsRefused, KeepsSame, disk_in, disk_seen, inside, store_seen};
 
     /// A store over this disk. It holds no name.
     pub fn new(disk: D) -> Self
@@ -101,24 +95,16 @@ impl<D: Disk> JournalStore<D> {
         ensures cause { OnErr result (Rose (store_seen self.old).faults (store_seen self.new).faults) }
         ensures leaves { OnlyReads (is_ok result) name.now (store_seen self.old) (store_seen self.new) }
         ensures reads { (store_seen self.new).reads ≡ (store_seen self.old).reads }
-        ensures stops { IsTrue D.tells
-            → OnlyLeaves (RecoversAsBeforeOr name.now (undo_name name.now) (disk_seen self.old)
-            ((store_seen self.old).files name.now)) (disk_seen self.old) (disk_seen self.new) }
-        ensures others { IsTrue D.tells
-            → Passes (KeepsOtherThree name.now (undo_name name.now) (und_name name.now)) (disk_seen self.old)
-            (disk_seen self.new) }
-        ensures done { OnOk result (IsTrue D.tells
-            → IsRecovered name.now (undo_name name.now) ((store_seen self.old).files name.now) (disk_seen self.new)) }
+        ensures moments { IsTrue D.tells
+            → CommitsFile name.now (store_seen self.old).files (disk_seen self.old) (disk_seen self.new) result }
         ensures given { OnOk result (IsPending (inside self.new) name.now → ⊥) }
         ensures kept { OnErr result (KeepsSame (inside self.old) (inside self.new)) }
-        ensures only { OnErr result (Rose (disk_seen self.old).faults (disk_seen self.new).faults) }
-        ensures own { (store_seen self.new).faults
-            ≡ (if is_ok result then (store_seen self.old).faults else counted (store_seen self.old).faults) }
-        ensures commits { IsTrue D.tells
-            → Commits ((store_seen self.new).files ∷ []) (disk_seen self.old) (disk_seen self.new) }
+        ensures only { CountsFaults (disk_seen self.old) (disk_seen self.new) result }
+        ensures own { CountsRefusal result (store_seen self.old).faults (store_seen self.new).faults }
     {
-        let done = self.journal.commit(name);
-        outcome(&mut self.faults, done)
+        let done = self.journal.sync(name);
+        count_fault(&mut self.faults, &done);
+        done
     }
 
     /// Recovers a file, and holds its name: it is, in whatever a stop may leave then, what its undo file says that it was,
@@ -133,28 +119,21 @@ impl<D: Disk> JournalStore<D> {
         ensures cause { OnErr result (Rose (store_seen self.old).faults (store_seen self.new).faults) }
         ensures leaves { OnlyReads (is_ok result) name.now (store_seen self.old) (store_seen self.new) }
         ensures reads { (store_seen self.new).reads ≡ (store_seen self.old).reads }
-        ensures stops { IsTrue D.tells
-            → Passes (RecoversSame name.now (undo_name name.now) (und_name name.now)) (disk_seen self.old) (disk_seen self.new) }
-        ensures done { OnOk result (IsTrue D.tells → IsRecovered name.now (undo_name name.now)
-            (recovered ((disk_seen self.old).files name.now) ((disk_seen self.old).files (undo_name name.now)))
-            (disk_seen self.new)) }
+        ensures moments { IsTrue D.tells → RecoversFile name.now (disk_seen self.old) (disk_seen self.new) result }
         ensures kept { KeepsSame (inside self.old) (inside self.new) }
-        ensures refused { IsRefused (inside self.old) name.now → IsErr result }
-        ensures only { OnErr result (IsRefused (inside self.old) name.now
-            ⊎ Rose (disk_seen self.old).faults (disk_seen self.new).faults) }
-        ensures own { (store_seen self.new).faults
-            ≡ (if is_ok result then (store_seen self.old).faults else counted (store_seen self.old).faults) }
-        ensures commits { IsTrue D.tells → Commits [] (disk_seen self.old) (disk_seen self.new) }
-        ensures still { IsRefused (inside self.old) name.now → disk_in self.new ≡ disk_in self.old }
+        ensures refuses { RefusesFor (IsRefused (inside self.old) name.now) D.seen (disk_in self.old) (disk_in self.new) result }
+        ensures own { CountsRefusal result (store_seen self.old).faults (store_seen self.new).faults }
     {
         let done = self.journal.recover(name);
-        outcome(&mut self.faults, done)
+        count_fault(&mut self.faults, &done);
+        done
     }
 }
 
 impl<D: Disk> Store for JournalStore<D> {
+    ghost use Rattle.journal_store.specs.Calls.{CommitsNothing, CountsRefusal, MakesFile, Refuses, RefusesFor, ReplacesFile, SyncsFile};
     ghost use Rattle.journal_store.specs.Commits.{Commits, commits_then, nothing_commits};
-    ghost use Rattle.journal_store.specs.JournalStore.{IsAbsent, IsPending, IsRefused, IsRenameRefused, IsReplaceRefused, IsWriteRefused, KeepsSame, RecoversAsBeforeOr, disk_in, disk_seen, inside, store_seen};
+    ghost use Rattle.journal_store.specs.JournalStore.{IsAbsent, IsRefused, IsRenameRefused, IsReplaceRefused, IsWriteRefused, disk_in, disk_seen, inside, store_seen};
 
     ghost tells = { D.tells };
 
@@ -172,20 +151,14 @@ impl<D: Disk> Store for JournalStore<D> {
         ensures cause { OnErr result (Rose (store_seen self.old).faults (store_seen self.new).faults) }
         ensures leaves { OnlyReads (is_ok result) name.now (store_seen self.old) (store_seen self.new) }
         ensures reads { (store_seen self.new).reads ≡ (store_seen self.old).reads }
-        ensures stops { IsTrue D.tells → kind_of name.now ≡ NameKind.Plain
-            → Passes (RecoversSame name.now (undo_name name.now) (und_name name.now)) (disk_seen self.old) (disk_seen self.new) }
-        ensures refused { IsRefused (inside self.old) name.now → IsErr result }
-        ensures only { OnErr result (IsRefused (inside self.old) name.now
-            ⊎ Rose (disk_seen self.old).faults (disk_seen self.new).faults) }
-        ensures own { (store_seen self.new).faults
-            ≡ (if is_ok result then (store_seen self.old).faults else counted (store_seen self.old).faults) }
         ensures commits { IsTrue D.tells → Commits [] (disk_seen self.old) (disk_seen self.new) }
-        ensures still { IsRefused (inside self.old) name.now → disk_in self.new ≡ disk_in self.old }
-        ensures alone { IsTrue D.tells → kind_of name.now ≡ NameKind.New
-            → Passes (KeepsOthers name.now) (disk_seen self.old) (disk_seen self.new) }
+        ensures moments { IsTrue D.tells → CommitsNothing name.now (disk_seen self.old) (disk_seen self.new) }
+        ensures refuses { RefusesFor (IsRefused (inside self.old) name.now) D.seen (disk_in self.old) (disk_in self.new) result }
+        ensures own { CountsRefusal result (store_seen self.old).faults (store_seen self.new).faults }
     {
         let done = self.journal.size(name);
-        outcome(&mut self.faults, done)
+        count_fault(&mut self.faults, &done);
+        done
     }
 
     fn read(&mut self, name: &str, at: u64, buf: &mut [u8]) -> Result<usize, StoreFault>
@@ -198,21 +171,15 @@ impl<D: Disk> Store for JournalStore<D> {
         ensures cause { OnErr result (Rose (store_seen self.old).faults (store_seen self.new).faults) }
         ensures leaves { OnlyReads (is_ok result) name.now (store_seen self.old) (store_seen self.new) }
         ensures reads { (store_seen self.new).reads ≡ counted (store_seen self.old).reads }
-        ensures stops { IsTrue D.tells → kind_of name.now ≡ NameKind.Plain
-            → Passes (RecoversSame name.now (undo_name name.now) (und_name name.now)) (disk_seen self.old) (disk_seen self.new) }
-        ensures refused { IsRefused (inside self.old) name.now → IsErr result }
-        ensures only { OnErr result (IsRefused (inside self.old) name.now
-            ⊎ Rose (disk_seen self.old).faults (disk_seen self.new).faults) }
-        ensures own { (store_seen self.new).faults
-            ≡ (if is_ok result then (store_seen self.old).faults else counted (store_seen self.old).faults) }
         ensures commits { IsTrue D.tells → Commits [] (disk_seen self.old) (disk_seen self.new) }
-        ensures still { IsRefused (inside self.old) name.now → disk_in self.new ≡ disk_in self.old }
-        ensures alone { IsTrue D.tells → kind_of name.now ≡ NameKind.New
-            → Passes (KeepsOthers name.now) (disk_seen self.old) (disk_seen self.new) }
+        ensures moments { IsTrue D.tells → CommitsNothing name.now (disk_seen self.old) (disk_seen self.new) }
+        ensures refuses { RefusesFor (IsRefused (inside self.old) name.now) D.seen (disk_in self.old) (disk_in self.new) result }
+        ensures own { CountsRefusal result (store_seen self.old).faults (store_seen self.new).faults }
     {
         self.reads = self.reads.saturating_add(1);
         let done = self.journal.read(name, at, buf);
-        outcome(&mut self.faults, done)
+        count_fault(&mut self.faults, &done);
+        done
     }
 
     fn write(&mut self, name: &str, at: u64, bytes: &[u8]) -> Result<(), StoreFault>
@@ -228,24 +195,20 @@ impl<D: Disk> Store for JournalStore<D> {
         ensures cause { OnErr result (Rose (store_seen self.old).faults (store_seen self.new).faults) }
         ensures leaves { ChangesOne name.now (store_seen self.old) (store_seen self.new) }
         ensures writes { (store_seen self.new).writes ≡ counted (store_seen self.old).writes }
-        ensures stops { IsTrue D.tells → kind_of name.now ≡ NameKind.Plain
-            → Passes (RecoversSame name.now (undo_name name.now) (und_name name.now)) (disk_seen self.old) (disk_seen self.new) }
-        ensures refused { IsWriteRefused (inside self.old) name.now at (length bytes.now) → IsErr result }
+        ensures commits { IsTrue D.tells → Commits [] (disk_seen self.old) (disk_seen self.new) }
         ensures absent { OnOk result (IsTrue D.tells → kind_of name.now ≡ NameKind.Plain
             → IsSome ((store_seen self.old).files name.now)) }
-        ensures only { OnErr result (IsWriteRefused (inside self.old) name.now at (length bytes.now)
-            ⊎ (IsTrue D.tells → IsAbsent (store_seen self.old).files name.now)
-            ⊎ Rose (disk_seen self.old).faults (disk_seen self.new).faults) }
-        ensures own { (store_seen self.new).faults
-            ≡ (if is_ok result then (store_seen self.old).faults else counted (store_seen self.old).faults) }
-        ensures commits { IsTrue D.tells → Commits [] (disk_seen self.old) (disk_seen self.new) }
-        ensures still { IsRefused (inside self.old) name.now → disk_in self.new ≡ disk_in self.old }
-        ensures alone { IsTrue D.tells → kind_of name.now ≡ NameKind.New
-            → Passes (KeepsOthers name.now) (disk_seen self.old) (disk_seen self.new) }
+        ensures moments { IsTrue D.tells → CommitsNothing name.now (disk_seen self.old) (disk_seen self.new) }
+        ensures refuses { Refuses (IsWriteRefused (inside self.old) name.now at (length bytes.now))
+            (IsWriteRefused (inside self.old) name.now at (length bytes.now)
+            ⊎ (IsTrue D.tells → IsAbsent (store_seen self.old).files name.now))
+            (IsRefused (inside self.old) name.now) D.seen (disk_in self.old) (disk_in self.new) result }
+        ensures own { CountsRefusal result (store_seen self.old).faults (store_seen self.new).faults }
     {
         self.writes = self.writes.saturating_add(1);
         let done = self.journal.write(name, at, bytes);
-        outcome(&mut self.faults, done)
+        count_fault(&mut self.faults, &done);
+        done
     }
 
     /// Makes an empty file, as `Store` says. One of a plain name is recovered first where it is not held, an absent one too,
@@ -260,24 +223,16 @@ impl<D: Disk> Store for JournalStore<D> {
         ensures cause { OnErr result (Rose (store_seen self.old).faults (store_seen self.new).faults) }
         ensures leaves { ChangesOne name.now (store_seen self.old) (store_seen self.new) }
         ensures writes { (store_seen self.new).writes ≡ (store_seen self.old).writes }
-        ensures refused { IsReplaceRefused (inside self.old) name.now → IsErr result }
-        ensures only { OnErr result (IsReplaceRefused (inside self.old) name.now
-            ⊎ Rose (disk_seen self.old).faults (disk_seen self.new).faults) }
-        ensures own { (store_seen self.new).faults
-            ≡ (if is_ok result then (store_seen self.old).faults else counted (store_seen self.old).faults) }
         ensures commits { (base : List ℕ) → name.now ≡ replacement_name base → IsTrue D.tells
             → Commits [] (disk_seen self.old) (disk_seen self.new) }
-        ensures still { IsRefused (inside self.old) name.now → disk_in self.new ≡ disk_in self.old }
-        ensures alone { IsTrue D.tells → kind_of name.now ≡ NameKind.New
-            → Passes (KeepsOthers name.now) (disk_seen self.old) (disk_seen self.new) }
-        ensures others { IsTrue D.tells → kind_of name.now ≡ NameKind.Plain
-            → Passes (KeepsOtherThree name.now (undo_name name.now) (und_name name.now)) (disk_seen self.old)
-            (disk_seen self.new) }
-        ensures closed { OnOk result (IsTrue D.tells → kind_of name.now ≡ NameKind.Plain
-            → HasClosedGate name.now (disk_seen self.new)) }
+        ensures moments { IsTrue D.tells → MakesFile name.now (disk_seen self.old) (disk_seen self.new) result }
+        ensures refuses { Refuses (IsReplaceRefused (inside self.old) name.now) (IsReplaceRefused (inside self.old) name.now)
+            (IsRefused (inside self.old) name.now) D.seen (disk_in self.old) (disk_in self.new) result }
+        ensures own { CountsRefusal result (store_seen self.old).faults (store_seen self.new).faults }
     {
         let done = self.journal.create(name);
-        outcome(&mut self.faults, done)
+        count_fault(&mut self.faults, &done);
+        done
     }
 
     fn sync(&mut self, name: &str) -> Result<(), StoreFault>
@@ -286,29 +241,18 @@ impl<D: Disk> Store for JournalStore<D> {
         ensures cause { OnErr result (Rose (store_seen self.old).faults (store_seen self.new).faults) }
         ensures leaves { OnlyReads (is_ok result) name.now (store_seen self.old) (store_seen self.new) }
         ensures reads { (store_seen self.new).reads ≡ (store_seen self.old).reads }
-        ensures stops { IsTrue D.tells → kind_of name.now ≡ NameKind.Plain
-            → OnlyLeaves (RecoversAsBeforeOr name.now (undo_name name.now) (disk_seen self.old)
-            ((store_seen self.old).files name.now)) (disk_seen self.old) (disk_seen self.new) }
-        ensures others { IsTrue D.tells → kind_of name.now ≡ NameKind.Plain
-            → Passes (KeepsOtherThree name.now (undo_name name.now) (und_name name.now)) (disk_seen self.old)
-            (disk_seen self.new) }
-        ensures done { OnOk result (IsTrue D.tells → kind_of name.now ≡ NameKind.Plain
-            → IsRecovered name.now (undo_name name.now) ((store_seen self.old).files name.now) (disk_seen self.new)) }
-        ensures refused { IsRefused (inside self.old) name.now → IsErr result }
-        ensures only { OnErr result (IsRefused (inside self.old) name.now
-            ⊎ Rose (disk_seen self.old).faults (disk_seen self.new).faults) }
-        ensures own { (store_seen self.new).faults
-            ≡ (if is_ok result then (store_seen self.old).faults else counted (store_seen self.old).faults) }
         ensures commits { IsTrue D.tells
             → Commits ((store_seen self.new).files ∷ []) (disk_seen self.old) (disk_seen self.new) }
         ensures beside { (base : List ℕ) → name.now ≡ replacement_name base → IsTrue D.tells
             → Commits [] (disk_seen self.old) (disk_seen self.new) }
-        ensures still { IsRefused (inside self.old) name.now → disk_in self.new ≡ disk_in self.old }
-        ensures alone { IsTrue D.tells → kind_of name.now ≡ NameKind.New
-            → Passes (KeepsOthers name.now) (disk_seen self.old) (disk_seen self.new) }
+        ensures moments { IsTrue D.tells
+            → SyncsFile name.now (store_seen self.old).files (disk_seen self.old) (disk_seen self.new) result }
+        ensures refuses { RefusesFor (IsRefused (inside self.old) name.now) D.seen (disk_in self.old) (disk_in self.new) result }
+        ensures own { CountsRefusal result (store_seen self.old).faults (store_seen self.new).faults }
     {
         let done = self.journal.sync(name);
-        outcome(&mut self.faults, done)
+        count_fault(&mut self.faults, &done);
+        done
     }
 
     /// Gives a file another name, as `Store` says, once the file that has that name is recovered, an absent one too. A call
@@ -325,20 +269,15 @@ impl<D: Disk> Store for JournalStore<D> {
         ensures cause { OnErr result (Rose (store_seen self.old).faults (store_seen self.new).faults) }
         ensures leaves { ChangesTwo from.now to.now (store_seen self.old) (store_seen self.new) }
         ensures writes { (store_seen self.new).writes ≡ (store_seen self.old).writes }
-        ensures refused { IsRenameRefused (inside self.old) from.now to.now → IsErr result }
-        ensures only { OnErr result (IsRenameRefused (inside self.old) from.now to.now
-            ⊎ Rose (disk_seen self.old).faults (disk_seen self.new).faults) }
-        ensures own { (store_seen self.new).faults
-            ≡ (if is_ok result then (store_seen self.old).faults else counted (store_seen self.old).faults) }
         ensures commits { (store_seen self.old).unsynced from.now ≡ false → IsTrue D.tells
             → Commits (with_new_name (store_seen self.old).files from.now to.now ∷ []) (disk_seen self.old) (disk_seen self.new) }
-        ensures still { IsRenameRefused (inside self.old) from.now to.now → disk_in self.new ≡ disk_in self.old }
-        ensures stops { IsTrue D.tells → Passes (MayReplaceRecovered from.now to.now) (disk_seen self.old) (disk_seen self.new) }
-        ensures done { OnOk result (IsTrue D.tells
-            → DiskFollows (ReplacesRecovered from.now to.now) (disk_seen self.old) (disk_seen self.new)) }
-        ensures closed { OnOk result (IsTrue D.tells → HasClosedGate to.now (disk_seen self.new)) }
+        ensures moments { IsTrue D.tells → ReplacesFile from.now to.now (store_seen self.old).unsynced (store_seen self.old).files
+            (disk_seen self.old) (disk_seen self.new) result }
+        ensures refuses { RefusesFor (IsRenameRefused (inside self.old) from.now to.now) D.seen (disk_in self.old) (disk_in self.new) result }
+        ensures own { CountsRefusal result (store_seen self.old).faults (store_seen self.new).faults }
     {
         let done = self.journal.rename(from, to);
-        outcome(&mut self.faults, done)
+        count_fault(&mut self.faults, &done);
+        done
     }
 }

@@ -1,11 +1,9 @@
 //! What is read of a file over which kept ranges are laid.
 
-ghost use Rattle.std.specs.Prelude.{◌≡◌, ◌<◌, ◌≤◌, ◌+◌, ◌-◌, ◌^◌, List, ℕ, length, min, option_map, slice_index, take, unwrap_or, IfOk, IsTrue, OnErr};
-ghost use Rattle.disk.specs.DiskSeen.{Passes};
-ghost use Rattle.edit_journal.specs.Recovery.{IsSame};
+ghost use Rattle.std.specs.Prelude.{◌≡◌, ◌<◌, ◌≤◌, ◌+◌, ◌-◌, ◌^◌, List, ℕ, length, min, option_map, slice_index, take, unwrap_or, IfOk, IsTrue};
+ghost use Rattle.edit_journal.specs.Keeps.{OnlyLooks};
 ghost use Rattle.edit_journal.specs.ByteRanges.{laid, range_of, ranges_of, with_laid};
 ghost use Rattle.journal_store.specs.Overlap.{overlaps, overlaps_any};
-ghost use Rattle.outside.specs.Count.{Rose};
 ghost use Rattle.outside.specs.World.{bytes_from};
 ghost use Rattle.quota_types.specs.Bytes.{byte_at};
 
@@ -109,10 +107,7 @@ pub(crate) fn laid_size<D: Disk>(
 ) -> Result<Option<u64>, DiskFault>
     ensures found { IfOk result (λ found. IsTrue D.tells
         → found ≡ option_map length (option_map (laid (ranges_of ranges.now)) ((D.seen disk.old).files name.now))) }
-    ensures names { (D.seen disk.new).unsynced ≡ (D.seen disk.old).unsynced }
-    ensures cause { OnErr result (Rose (D.seen disk.old).faults (D.seen disk.new).faults) }
-    ensures counted { (D.seen disk.old).faults ≤ (D.seen disk.new).faults }
-    ensures looks { Passes IsSame (D.seen disk.old) (D.seen disk.new) }
+    ensures looks { OnlyLooks (D.seen disk.old) (D.seen disk.new) result }
 {
     let Some(old_length) = disk.size(name)? else {
         return Ok(None);
@@ -138,10 +133,7 @@ pub(crate) fn laid_read<D: Disk>(
         ≡ length (bytes_from (option_map (laid (ranges_of ranges.now)) ((D.seen disk.old).files name.now)) at (length buf.old))) }
     ensures bytes { IfOk result (λ count. IsTrue D.tells → take count buf.new
         ≡ bytes_from (option_map (laid (ranges_of ranges.now)) ((D.seen disk.old).files name.now)) at (length buf.old)) }
-    ensures names { (D.seen disk.new).unsynced ≡ (D.seen disk.old).unsynced }
-    ensures cause { OnErr result (Rose (D.seen disk.old).faults (D.seen disk.new).faults) }
-    ensures counted { (D.seen disk.old).faults ≤ (D.seen disk.new).faults }
-    ensures looks { Passes IsSame (D.seen disk.old) (D.seen disk.new) }
+    ensures looks { OnlyLooks (D.seen disk.old) (D.seen disk.new) result }
 {
     if ranges.is_empty() {
         let count = disk.read(name, at, buf)?;

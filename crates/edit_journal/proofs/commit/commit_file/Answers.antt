@@ -1,7 +1,6 @@
 use Rattle.edit_journal.specs.Settled.{RecoversToEither}
 use Rattle.edit_journal.specs.ByteRanges.{laid, ranges_of}
-use Rattle.edit_journal.proofs.CommitStopLemmas.{only-then}
-use Rattle.edit_journal.proofs.CommitOrderLemmas.{either-old}
+use Rattle.edit_journal.proofs.CommitStopLemmas.{either-old, only-then}
 use Rattle.edit_journal.proofs.commit.commit_file.Goals as goal
 
 pub returns-in_err-commit_ranges-clause-leaves : goal.returns-in_err-commit_ranges-clause-leaves

@@ -30,6 +30,6 @@ loop-k-preserved g c =
           let same : there ≡ undo = ap (λ (f : Option (List ℕ)). unwrap_or f []) (c.loop-k.invariant.same told old_length fit) in
           ranges-mended c.args.name.now undo there c.loop-k.k c.args.count _ _ _ same counts (omega arith) (c.loop-k.invariant.passes told old_length fit counts)
           (c.lay_span.ensures.passes told old_length (fit-here old_length undo there c.loop-k.k c.args.count same fit (omega arith)));
-      names = keeps_others-then c.args.name.now _ _ _ c.loop-k.invariant.names c.lay_span.ensures.names;
-      counted = omega (arith, c.loop-k.invariant.counted, c.lay_span.ensures.counted);
+      names = keeps_others-then c.args.name.now _ _ _ c.loop-k.invariant.names c.lay_span.ensures.keeps.names;
+      counted = omega (arith, c.loop-k.invariant.counted, c.lay_span.ensures.keeps.counts.counted);
     }

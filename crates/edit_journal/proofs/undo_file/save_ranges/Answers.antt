@@ -4,8 +4,7 @@ use Rattle.std.proofs.lemmas.List.{length-map}
 use Rattle.outside.specs.World.{World}
 use Rattle.edit_journal.specs.ByteRanges.{ByteRange, range_of, ranges_of}
 use Rattle.edit_journal.specs.UndoSaves.{SavesFrom}
-use Rattle.edit_journal.proofs.LoopLemmas.{saves-step, ranges-all}
-use Rattle.edit_journal.proofs.TornLemmas.{tears-less, tears-then}
+use Rattle.edit_journal.proofs.LoopLemmas.{ranges-all, saves-step, tears-less, tears-then}
 use Rattle.edit_journal.proofs.WrittenLemmas.{length-or_none, saves-written, written-bytes}
 use Rattle.edit_journal.proofs.undo_file.save_ranges.Goals as goal
 
@@ -20,8 +19,8 @@ loop-index-preserved g c =
           (ap (λ (f : Option (List ℕ)). unwrap_or f []) (kept.passes.follows.read.1 c.args.name.now c.requires.apart))
           (kept.saved told) one.passes.follows.read.0 (one.saved told);
       passes = tears-then _ c.args.undo.now _ _ _ kept.passes (tears-less _ _ c.args.undo.now _ _ (λ place low. inl (omega (arith, low))) one.passes);
-      names = keeps_others-then c.args.undo.now _ _ _ kept.names one.names;
-      counted = omega (arith, kept.counted, one.counted);
+      names = keeps_others-then c.args.undo.now _ _ _ kept.names one.keeps.names;
+      counted = omega (arith, kept.counted, one.keeps.counts.counted);
     }
 
 pub returns-clause-saved : goal.returns-clause-saved

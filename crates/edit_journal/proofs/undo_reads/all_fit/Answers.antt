@@ -32,9 +32,9 @@ loop-k-preserved g c =
           (c.in_ok-span.ensures.place told ∙ ap (λ (f : List ℕ). number_at 8 f (range_at c.loop-k.k)) same)
           (c.in_ok-span.ensures.number told ∙ ap (λ (f : List ℕ). number_at 2 f (range_at c.loop-k.k + 8)) same)
           ∙ sym c.fits.ensures ∙ c.if-not-fits.false);
-      names = c.in_ok-span.ensures.names ∙ c.loop-k.invariant.names;
-      counted = omega (arith, c.loop-k.invariant.counted, c.in_ok-span.ensures.counted);
-      looks = looks-then _ _ _ c.loop-k.invariant.looks c.in_ok-span.ensures.looks;
+      names = c.in_ok-span.ensures.looks.names ∙ c.loop-k.invariant.names;
+      counted = omega (arith, c.loop-k.invariant.counted, c.in_ok-span.ensures.looks.counts.counted);
+      looks = looks-then _ _ _ c.loop-k.invariant.looks c.in_ok-span.ensures.looks.passes;
     }
 
 pub returns-clause-fit : goal.returns-clause-fit

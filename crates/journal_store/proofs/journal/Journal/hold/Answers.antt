@@ -1,5 +1,6 @@
-use Rattle.journal_store.proofs.CommitsLemmas.{commits_recovered}
+use Rattle.journal_store.proofs.MomentLemmas.{nothing-recovered}
 use Rattle.journal_store.proofs.journal.Journal.hold.Goals as goal
 
-pub returns-clause-commits : goal.returns-clause-commits
-returns-clause-commits g c told = commits_recovered c.args.name.now c.requires.plain _ _ (c.take.ensures.stops told)
+pub returns-clause-moments : goal.returns-clause-moments
+returns-clause-moments g c told =
+    nothing-recovered c.args.name.now _ _ _ c.requires.plain (c.take.ensures.moments told)

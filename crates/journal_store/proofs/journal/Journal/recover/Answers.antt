@@ -1,9 +1,7 @@
 use Rattle.std.proofs.Common.{rules}
-use Rattle.journal_store.proofs.CommitsLemmas.{commits_recovered}
 use Rattle.journal_store.proofs.journal.Journal.recover.Goals as goal
 
-pub returns-in_err-take-clause-commits : goal.returns-in_err-take-clause-commits
-returns-in_err-take-clause-commits g c told = commits_recovered c.args.name.now (search rules) _ _ (c.take.ensures.stops told)
-
-pub returns-clause-commits : goal.returns-clause-commits
-returns-clause-commits g c told = commits_recovered c.args.name.now (search rules) _ _ (c.take.ensures.stops told)
+pub returns-in_err-take-clause-moments : goal.returns-in_err-take-clause-moments
+returns-in_err-take-clause-moments g c told =
+    let moments = c.take.ensures.moments told in
+    record { stops = moments.stops; done = search rules; commits = moments.commits }
