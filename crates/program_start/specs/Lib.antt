@@ -1,3 +1,2 @@
-pub mod About
 pub mod Reason
 pub mod Starting

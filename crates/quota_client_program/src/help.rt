@@ -1,7 +1,10 @@
-ghost use Rattle.std.specs.Prelude.{◌≡◌, codes};
-ghost use Rattle.program_start.specs.declared.about.About.TheVariants.{Version};
+ghost use Rattle.std.specs.Option.{option_map};
+ghost use Rattle.std.specs.Prelude.{Some};
+ghost use Rattle.option_words.specs.Items.{texts_of};
+ghost use Rattle.program_help.specs.About.{asked, question_of};
+ghost use Rattle.quota_client_program.specs.Help.{IsTold};
 
-use program_start::About;
+use program_help::About;
 
 /// What `--help` writes.
 const HELP: &str = "Usage: quota_client MODE PORT UID GID PATH...
@@ -34,9 +37,20 @@ The manual page is the reference: man quota_client.
 const VERSION: &str = "quota_client 0.1.0
 ";
 
-/// What the program says about itself, where this is asked for.
-pub fn text_about(about: About) -> &'static str
-    ensures version { about ≡ Version → result.now ≡ codes "quota_client 0.1.0\n" }
+/// The text that words ask for, of what the program says about itself; none where they ask for nothing of that.
+pub fn text_asked(words: &[String]) -> Option<&'static str>
+    ensures { IsTold (asked (texts_of words.now)) (option_map (λ text. text.now) result) }
 {
-    about.text(HELP, VERSION)
+    text_about(About::asked(words)?)
+}
+
+/// The text about this, where there is one. The program has no commands.
+fn text_about(about: About<'_>) -> Option<&'static str>
+    ensures { IsTold (Some (question_of about.entry)) (option_map (λ text. text.now) result) }
+{
+    match about {
+        About::Help => Some(HELP),
+        About::Version => Some(VERSION),
+        About::Command(_) => None,
+    }
 }

@@ -3,10 +3,10 @@
 
 ghost use Rattle.std.specs.Prelude.{◌≡◌, ◌%◌, ◌^◌};
 
-use help::text_about;
+use help::text_asked;
+use program_help::tell;
 use program_start::{
-    About, Failed, Reason, add_reason, given_words, hold_closed_streams, starting_cause, stop,
-    tell, words_cause,
+    Failed, Reason, add_reason, given_words, hold_closed_streams, starting_cause, stop, words_cause,
 };
 use quota_client::run_client;
 use refusals::UsageKind;
@@ -51,8 +51,8 @@ fn main(rt: HostRuntime) -> ExitCode {
         (Ok((called, words)), Ok(now)) => {
             let mut out = StreamSink::new(rt.stdout());
             let mut peer = UdpPeer::new(&rt);
-            let status = match About::asked(&words) {
-                Some(about) => tell(&mut out, &mut err, text_about(about), rt.alloc()),
+            let status = match text_asked(&words) {
+                Some(text) => tell(&mut out, &mut err, text, rt.alloc()),
                 None => run_client(&words, &mut peer, &mut out, &mut err, first_xid(now)),
             };
             add_reason(

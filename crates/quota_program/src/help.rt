@@ -1,12 +1,24 @@
-ghost use Rattle.std.specs.Prelude.{◌≡◌, codes};
-ghost use Rattle.program_start.specs.declared.about.About.TheVariants.{Version};
+ghost use Rattle.std.specs.Option.{option_map};
+ghost use Rattle.std.specs.Prelude.{Some};
+ghost use Rattle.option_words.specs.Items.{texts_of};
+ghost use Rattle.program_help.specs.About.{asked, question_of};
+ghost use Rattle.quota_program.specs.Help.{IsTold};
 
-use program_start::About;
+use crate::usages::usage_text;
+use option_words::Tool;
+use program_help::About;
 
 /// What `--help` writes.
 const HELP: &str = "Usage: quota_cli COMMAND [OPTION]... [OPERAND]...
+   or: quota_cli COMMAND --help
 
 The Linux disk quota tools, for quota files while quotas are off.
+
+Examples:
+    quota_cli repquota -u --names /etc/passwd /home/aquota.user
+    quota_cli setquota -u --names /etc/passwd alice 100M 200M 1k 2k \\
+        /home/aquota.user
+    quota_cli setquota --help
 
 Commands:
   repquota [-u|-g] [-v] [-n] [-p] [-F FORMAT] [--names FILE] FILE
@@ -60,9 +72,20 @@ files, and PROMISES.md, which has what is proved.
 const VERSION: &str = "quota_cli 0.1.0 (vfsold, vfsv0, vfsv1)
 ";
 
-/// What the program says about itself, where this is asked for.
-pub fn text_about(about: About) -> &'static str
-    ensures version { about ≡ Version → result.now ≡ codes "quota_cli 0.1.0 (vfsold, vfsv0, vfsv1)\n" }
+/// The text that words ask for, of what the program says about itself; none where they ask for nothing of that.
+pub fn text_asked(words: &[String]) -> Option<&'static str>
+    ensures { IsTold (asked (texts_of words.now)) (option_map (λ text. text.now) result) }
 {
-    about.text(HELP, VERSION)
+    text_about(About::asked(words)?)
+}
+
+/// The text about this, where there is one.
+fn text_about(about: About<'_>) -> Option<&'static str>
+    ensures { IsTold (Some (question_of about.entry)) (option_map (λ text. text.now) result) }
+{
+    match about {
+        About::Help => Some(HELP),
+        About::Version => Some(VERSION),
+        About::Command(name) => Some(usage_text(Tool::named(name)?)),
+    }
 }

@@ -2,11 +2,11 @@
 #![tactic(auto)]
 
 use command_words::{UsageFault, read_words};
-use help::text_about;
+use help::text_asked;
 use journal_store::JournalStore;
+use program_help::tell;
 use program_start::{
-    About, add_reason, given_words, hold_closed_streams, name_in, starting_cause, stop, tell,
-    words_cause,
+    add_reason, given_words, hold_closed_streams, name_in, starting_cause, stop, words_cause,
 };
 use quota_cli::run::run;
 use quota_files::{QuotaFiles, quota_files_of};
@@ -26,6 +26,7 @@ mod quota_files;
 mod reasons;
 mod recoveries;
 mod sharing;
+mod usages;
 
 /// The most bytes that are taken from the standard input with one call of the system.
 const READ_AHEAD: usize = 65_536;
@@ -81,8 +82,8 @@ fn main(rt: HostRuntime) -> ExitCode {
     let status = match (given_words(&rt, "quota_cli"), moment(&rt)) {
         (Ok((called, words)), Ok(now)) => {
             let mut out = StreamSink::new(rt.stdout());
-            if let Some(about) = About::asked(&words) {
-                let status = tell(&mut out, &mut err, text_about(about), rt.alloc());
+            if let Some(text) = text_asked(&words) {
+                let status = tell(&mut out, &mut err, text, rt.alloc());
                 let reasons = Reasons::of_output(out.failure());
                 add_reason(
                     &mut err,

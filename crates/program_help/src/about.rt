@@ -1,8 +1,9 @@
+ghost use Rattle.std.specs.Option.{option_map};
 ghost use Rattle.std.specs.Prelude.{◌≡◌, ◌≤◌, ◌++◌, ◌⊎◌, [], IsTrue};
 ghost use Rattle.option_words.specs.Items.{texts_of};
 ghost use Rattle.outside.specs.Count.{Rose};
 ghost use Rattle.outside.specs.Text.{AppendsPrefix};
-ghost use Rattle.program_start.specs.About.{about_asked, about_of, about_text};
+ghost use Rattle.program_help.specs.About.{asked, asked_alone, asked_of, question_of};
 ghost use Rattle.refusals.specs.Line.{error_line};
 ghost use Rattle.refusals.specs.Refusals.{refusal_of};
 ghost use Rattle.refusals.specs.Said.{AppendsUnless};
@@ -12,29 +13,32 @@ use outside::Sink;
 use refusals::{Cause, Refusal, Word, refuse};
 use std::alloc::Global;
 
-/// What the program says about itself.
-#[derive(Clone, Copy, Debug, PartialEq, Eq)]
-pub enum About {
+/// What a program says about itself.
+#[derive(Clone, Copy, Debug)]
+pub enum About<'a> {
     /// Its commands, their words and the statuses.
     Help,
     /// Its name and its version.
     Version,
+    /// How the command of this name is used, where it has one.
+    Command(&'a str),
 }
 
-impl About {
-    /// What words ask for: the one word `--help` or `--version`.
-    pub fn asked(words: &[String]) -> Option<Self>
-        ensures { result ≡ about_asked (texts_of words.now) }
+impl<'a> About<'a> {
+    /// What words ask for: the one word `--help` or `--version`, or `--help` as the only word behind the name of a command.
+    pub fn asked(words: &'a [String]) -> Option<Self>
+        ensures { option_map question_of result ≡ asked (texts_of words.now) }
     {
         match words {
-            [word] => About::of(word.as_str()),
+            [word] => About::alone(word.as_str()),
+            [name, word] => About::of(name.as_str(), word.as_str()),
             _ => None,
         }
     }
 
-    /// What a word asks for.
-    fn of(word: &str) -> Option<Self>
-        ensures { result ≡ about_of word.now }
+    /// What a word asks for that stands alone.
+    fn alone(word: &str) -> Option<Self>
+        ensures { option_map question_of result ≡ asked_alone word.now }
     {
         if word == "--help" {
             Some(About::Help)
@@ -45,13 +49,14 @@ impl About {
         }
     }
 
-    /// The text, of the two that a program has.
-    pub fn text<'a>(self, help: &'a str, version: &'a str) -> &'a str
-        ensures { result.now ≡ about_text self help.now version.now }
+    /// What a word asks for behind a name.
+    fn of(name: &'a str, word: &str) -> Option<Self>
+        ensures { option_map question_of result ≡ asked_of name.now word.now }
     {
-        match self {
-            About::Help => help,
-            About::Version => version,
+        if word == "--help" {
+            Some(About::Command(name))
+        } else {
+            None
         }
     }
 }
