@@ -1,8 +1,8 @@
 #!/usr/bin/env bash
 # Goes through all that README.md and its neighbours, docs/*.md and the manual pages show: each display, and what in their text a
-# reader may type or the program says. Each is run, and what comes of it compared with what stands there; or it is looked at as
-# its rule below says. What no rule knows fails, by its file and line, so that nothing is shown that nobody tries. Ends with
-# status 1 where something differs.
+# reader may type or the program says; and through the examples of the help, and of that of each command. Each is run, and what
+# comes of it compared with what stands there; or it is looked at as its rule below says. What no rule knows fails, by its file
+# and line, so that nothing is shown that nobody tries. Ends with status 1 where something differs.
 #
 # What cannot be run as it stands is run with these changes:
 # - /home, /root, /etc/passwd and /etc/group are folders and files of this test. In /home are a quota file of users and one of
@@ -13,6 +13,7 @@
 #   of the stand-ins it finds mail alone.
 # - 8750 is a port that is free, and --calls says 2, or 1 in a loop, which ends once its file is taken away.
 # - `...` behind find stands for the words of the find of COMMANDS, and words in capitals for a file, a user, a number or `true`.
+# - A file `commands` for a script has one command, and a listing that is read is there.
 set -Eeuo pipefail
 shopt -s inherit_errexit
 trap 'echo "examples: line $LINENO failed at ${document-}:${line-}: $BASH_COMMAND" >&2' ERR
@@ -51,10 +52,19 @@ same() {
 
 # units DOCUMENT: its displays, the outputs that stand right behind one, and of its text what has a blank in it between marks,
 # or is an option or a name of a file. Each goes to a file unit.N, and its line here has N, the line at which it begins, what it
-# is, the column of a table in which it stands, and the heading above it.
+# is, the column of a table in which it stands, and the heading above it. Of what the program says of its use each example is a
+# display.
 units() {
     rm -f unit.*
-    if [[ $1 == *.[1-9] ]]; then
+    if [[ $1 == *' --help' ]]; then
+        # shellcheck disable=SC2086
+        built/$1 | awk "$unit"'
+            inside && /^    [^ ]/ && text { unit(from, "display", text); text = "" }
+            inside && /^    [^ ]/ { from = NR }
+            inside && /^    / { text = text substr($0, 5) "\n"; next }
+            text { unit(from, "display", text); text = "" }
+            { inside = /^Examples:$/ }'
+    elif [[ $1 == *.[1-9] ]]; then
         sed -e 's/\\e/\\/g' -e 's/\\&//g' "$top/$1" | awk "$unit"'
             /^\.Bd / { inside = 1; from = NR + 1; text = ""; next }
             /^\.Ed/ { unit(from, "display", text); inside = 0; next }
@@ -189,6 +199,8 @@ prepare() {
     file=$place/home/aquota.$kind
     options=("-${kind:0:1}" --names "$place/passwd")
     if [ "$1" = group ]; then options[2]=$place/group; fi
+    if [[ $text == *'--input /root/listing'* ]]; then echo '1000 1000 1 1 8' >"$place/root/listing"; fi
+    if [[ $text == *'<commands'* ]]; then echo "repquota -u $file" >"$place/commands"; fi
     case "$1 $text" in
         flat*) as vfsold "$file" && options+=(-F vfsold) ;;
         *vfsv0,vfsv1*) as vfsv0 "$file" ;;
@@ -353,6 +365,21 @@ served() {
     cat said ended_badly >>got
     printf '%s\n' "1 $own" "$second $own" >wanted
     same "$line" 'it answers something else'
+}
+
+# told: a server that has the file of alice answers each line, and she exceeds no limit.
+told() {
+    local ended
+    prepare user
+    echo "${text//8750/$port}" >words
+    quota_cli rquotad --calls "$(grep -c '^quota_client ' words)" --port "$port" --export /home user \
+        "$place/home/aquota.user" >said 2>&1 &
+    ended=$!
+    timeout 30 bash -eu words </dev/null >got 2>&1 || echo "status $?" >>got
+    wait "$ended" || true
+    cat said >>got
+    echo '/home: 4 KiB, soft 1024, hard 2048, grace -, files 1, soft 3, hard 4, grace -' >wanted
+    same "$line" 'it tells something else'
 }
 
 # asked: the answer to a call, which is made once more where it is lost between two rounds.
@@ -567,7 +594,9 @@ display() {
         '0 18 * * * '*) scheduled ;;
         'while quota_cli rquotad '*) looped ;;
         'quota_cli rquotad '*) served ;;
+        'quota_client '*) told ;;
         'quota_cli '* | 'quotaoff '* | 'find '* | 'flock '* | 'while read '* | 'systemctl '*) carried_out ;;
+        'echo '*' | quota_cli script'*) carried_out ;;
         'file: '*) wrong_body ;;
         'words ──► '*) in_sources ;;
         *)
@@ -635,6 +664,8 @@ theirs() {
 cd "$top"
 documents=(*.md docs/*.*)
 cd "$folder"
+documents+=('quota_cli --help')
+while read -r it; do documents+=("quota_cli $it --help"); done < <(grep -oE '^  [a-z]+' help | sort -u)
 for document in "${documents[@]}"; do
     units "$document" >list
     mapfile -t list <list

@@ -294,10 +294,12 @@ for_zsh() {
         grep -oE -- '(-[[:alpha:]]|--[[:alpha:]]+)=?\[' | tr -d '=[' | sort -u
 }
 
-# compare PROGRAM: compares the completions of a program with its pages. One without commands has options alone.
+# compare PROGRAM: compares the completions of a program with its pages. One without commands has options alone, and where
+# commands have a help, `--help` is offered right behind them.
 compare() {
-    local name=$1 commands it
+    local name=$1 commands it help=''
     commands=$(commands_of "$name")
+    if grep -A 1 -x '[.]Ar COMMAND' "$top/docs/${pages_of[$name]%% *}" | grep -qx '[.]Fl -help'; then help=--help; fi
     same "what completes $name for bash" "$(complete -p "$name")" "complete -F _$name $name"
     same "what completes $name for zsh" "$(head -n 1 "$top/docs/completions/_$name")" "#compdef $name"
     if [ -z "$commands" ]; then
@@ -311,7 +313,9 @@ compare() {
 --version'
     same "the commands of $name for zsh" "$(sed -nE "s/^ +'([a-z]+):.*'\$/\1/p" "$top/docs/completions/_$name" | sort)" "$commands"
     for it in $commands; do
-        same "the options of $name $it for bash" "$(completed "$name" "$it" -)" "$(in_page "$name" "$it")"
+        same "the options of $name $it for bash" "$(completed "$name" "$it" -)" \
+            "$({ in_page "$name" "$it" && echo "$help"; } | sed '/^$/d' | sort -u)"
+        same "the options of $name $it behind another one for bash" "$(completed "$name" "$it" -u -)" "$(in_page "$name" "$it")"
         same "the options of $name $it for zsh" "$(for_zsh "$name" "$it" || true)" "$(in_page "$name" "$it")"
     done
 }
@@ -361,7 +365,18 @@ if command -v zsh >/dev/null; then
         typeset -A opt_args=(--names names)
         _quota_cli_names
         _quota_cli_files' | tr '\n' ' ')" 'alice DOM\al bob aquota.group aquota.user names dir.new '
+    for it in $(commands_of quota_cli); do
+        same "--help behind $it, and behind $it -u, for zsh" "$(for at in 3 4; do
+            AT=$at IT=$it TOP=$top zsh -f -c '
+                _arguments() { local it; for it; do if [[ $it == *--help* ]]; then print -rn -- "$CURRENT "; fi; done }
+                _message() {}
+                CURRENT=$AT words=(quota_cli $IT -u)
+                . $TOP/docs/completions/_quota_cli'
+        done)" '2 '
+    done
 fi
+same '--help behind each command for zsh' "$(grep -cE '\<_arguments (-s )?[$]help\>' "$top/docs/completions/_quota_cli")" \
+    "$(commands_of quota_cli | wc -l)"
 same 'the formats for zsh' "$(grep -c "formats='($formats)'" "$top/docs/completions/_quota_cli")" 1
 if [ "$failed" = 0 ]; then echo 'install: what is installed works, and is taken away whole'; fi
 exit "$failed"

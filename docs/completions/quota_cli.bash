@@ -25,6 +25,7 @@ _quota_cli_names() {
 _quota_cli() {
     local command=${COMP_WORDS[1]-} current=${COMP_WORDS[COMP_CWORD]} previous=${COMP_WORDS[COMP_CWORD - 1]} words=''
     local formats='vfsold vfsv0 vfsv1' valued=F one other at names='' operands=0 letters=''
+    local commands='repquota setquota edquota quotacheck convertquota rquotad script generate'
     COMPREPLY=()
     # (bash parts words at `=`)
     if [ "$current" = = ]; then
@@ -56,7 +57,7 @@ _quota_cli() {
         esac
     done
     if [ "$COMP_CWORD" = 1 ]; then
-        words='repquota setquota edquota quotacheck convertquota rquotad script generate --help --version'
+        words="$commands --help --version"
     elif [[ $previous == -F || $previous == --format ]]; then
         words=$formats
     elif [ "$previous" = -f ]; then
@@ -72,6 +73,8 @@ _quota_cli() {
             convertquota) words='-u -g -f' ;;
             rquotad) words='--format --calls --port --export' ;;
         esac
+        # (which is the only word behind a command)
+        if [ "$COMP_CWORD" = 2 ] && [[ " $commands " == *" $command "* ]]; then words+=' --help'; fi
     elif [[ $command == script ]]; then
         return
     fi

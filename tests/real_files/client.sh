@@ -11,6 +11,7 @@ ask() { "$top/tests/serve_client.py" "$@"; }
 # Words.
 expect 'its version' 0 'quota_client 0.1.0' '' --version
 expect 'help is one word' 2 '' 'quota: usage: WrongOperands at word 2' --help --version
+expect 'a mode has no help' 2 '' 'quota: usage: WrongOperands at word 2' quota --help
 expect 'no words' 2 '' 'quota: usage: WrongOperands at word 0'
 expect 'no paths' 2 '' 'quota: usage: WrongOperands at word 4' quota 875 1 1
 expect 'sixteen paths and one more' 2 '' 'quota: usage: WrongOperands at word 21' quota 875 1 1 /{1..17}

@@ -46,6 +46,8 @@ if command -v python3 >/dev/null; then
     called=(sh -c 'exec "$@" >/dev/full' sh "${somebody[@]}")
     refused 'a full output' 'output fault' 'program: standard output: No space left on device' repquota -F vfsold q
     refused 'help to a full output' 'output fault' 'program: standard output: No space left on device' --help
+    refused 'help of a command to a full output' 'output fault' 'program: standard output: No space left on device' \
+        script --help
     called=(sh -c 'exec "$@" <&-' sh "${somebody[@]}")
     refused 'a closed input' 'input fault' 'program: standard input: Is a directory' script
     called=(flock q sh -c 'exec "$@" <s' sh "${somebody[@]}")
