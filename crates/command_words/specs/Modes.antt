@@ -1,15 +1,21 @@
 -- The modes of the commands: which options go together, which operands they have, and what they ask for. Source: the
 -- manual pages of the commands.
 use Rattle.std.specs.Prelude.{ℕ, Bool, false, not, ◌&&◌, ◌||◌, nat_lt, if◌then◌else◌, List, [], ◌∷◌, length, Option, Some, None, is_some, is_none, Result, Ok, Err}
+use Rattle.std.specs.List.{list_any}
 use Rattle.std.specs.Str.{bytes_eq}
+use Rattle.quota_types.specs.Format.{is_flat}
+use Rattle.quota_types.specs.Kind.{kinds_eq}
+use Rattle.quota_types.specs.declared.file_kind.Format.{Format}
 use Rattle.quota_types.specs.declared.file_kind.Kind.{Kind}
-use Rattle.quota_types.specs.declared.file_kind.Kind.TheVariants.{User, Group}
+use Rattle.quota_types.specs.declared.file_kind.Kind.TheVariants.{User, Group, Project}
 use Rattle.report_options.specs.declared.options.Options.{Options}
 use Rattle.input_text.specs.Numeral.{number_of}
 use Rattle.refusals.specs.declared.cause.UsageKind.TheVariants.{MissingOption, WrongOperands, BadValue, BadFileName}
 use Rattle.command_words.specs.declared.command.Command.{Command}
 use Rattle.command_words.specs.declared.command.Command.TheVariants.{Report, SetLimits, CopyLimits, Batch, SetGrace, SetTimes, PrintForm, ApplyForm, Check, Convert, Serve, Script, Generate}
 use Rattle.command_words.specs.declared.command.Common.{Common}
+use Rattle.option_words.specs.declared.export_option.ExportOption.{ExportOption}
+use Rattle.option_words.specs.declared.given.Conversion.{Conversion}
 use Rattle.option_words.specs.declared.word_fault.Fault.{Fault}
 use Rattle.command_words.specs.declared.mode.Mode.{Mode}
 use Rattle.command_words.specs.declared.mode.Mode.TheVariants.{Reporting, Limiting, Copying, Batching, SettingGrace, SettingTimes, Printing, Applying, Checking, Converting, Serving, Scripting, Generating}
@@ -26,17 +32,46 @@ use Rattle.option_words.specs.Values.{number_within}
 abbrev pub two_of : Bool → Bool → Bool → Bool → Bool
 two_of a b c d = (a && (b || c || d)) || (b && (c || d)) || (c && d)
 
--- Options that exclude each other: users and groups; two modes of one command; and an input where the mode reads none.
-abbrev pub excludes : Tool → GivenOptions → Bool
-excludes SetquotaTool told =
-    (told.flags.users && told.flags.groups)
-    || two_of (is_some told.proto) told.flags.batch told.flags.grace told.flags.times
+-- two kinds are asked for
+abbrev pub are_two_kinds : Flags → Bool
+are_two_kinds flags = (flags.users && (flags.groups || flags.projects)) || (flags.groups && flags.projects)
+
+-- an export is one of projects
+abbrev pub is_of_projects : ExportOption → Bool
+is_of_projects export = kinds_eq export.kind Project
+
+-- projects are asked for, by the option or by an export
+abbrev pub are_projects : GivenOptions → Bool
+are_projects told = told.flags.projects || list_any is_of_projects told.exports
+
+-- a format is asked for, and it is that of a flat file
+abbrev pub is_flat_format : Option Format → Bool
+is_flat_format None = false
+is_flat_format (Some format) = is_flat format
+
+-- one of the formats of a conversion is that of a flat file
+abbrev pub is_flat_conversion : Option Conversion → Bool
+is_flat_conversion None = false
+is_flat_conversion (Some formats) = is_flat formats.old || is_flat formats.new
+
+-- Flat files of projects are asked for. Their format is older than project quotas, and nothing in such a file tells its kind.
+abbrev pub are_flat_projects : GivenOptions → Bool
+are_flat_projects told = are_projects told && (is_flat_format told.format || is_flat_conversion told.conversion)
+
+-- two modes of one command are asked for, or an input where the mode reads none
+abbrev pub are_two_modes : Tool → GivenOptions → Bool
+are_two_modes SetquotaTool told =
+    two_of (is_some told.proto) told.flags.batch told.flags.grace told.flags.times
     || (is_some told.input && not told.flags.batch)
-excludes EdquotaTool told =
-    (told.flags.users && told.flags.groups)
-    || (told.flags.print && told.flags.apply)
+are_two_modes EdquotaTool told =
+    (told.flags.print && told.flags.apply)
     || (is_some told.input && told.flags.print)
-excludes _ told = told.flags.users && told.flags.groups
+are_two_modes _ told = false
+
+-- Options that exclude each other: two kinds; projects and the format of a flat file; two modes of one command, and an input where the
+-- mode reads none.
+abbrev pub excludes : Tool → GivenOptions → Bool
+excludes tool told = are_two_kinds told.flags || are_flat_projects told || are_two_modes tool told
 
 -- A required option is not there. In a script the standard input is the script's, so what reads an input has to name it.
 abbrev pub lacks : (in_script : Bool) → Tool → GivenOptions → Bool
@@ -64,9 +99,9 @@ mode_of RquotadTool told = Serving
 mode_of ScriptTool told = Scripting
 mode_of GenerateTool told = Generating
 
--- users, unless groups are asked for
+-- users, unless groups or projects are asked for
 abbrev pub kind_asked : Flags → Kind
-kind_asked flags = if flags.groups then Group else User
+kind_asked flags = if flags.projects then Project else if flags.groups then Group else User
 
 -- what the options say of the file
 abbrev pub common_of : GivenOptions → Common

@@ -1,9 +1,10 @@
 ghost use Rattle.std.specs.Prelude.{◌≡◌};
-ghost use Rattle.command_words.specs.Modes.{excludes, mode_of, kind_asked, lacks, options_of, two_of};
-ghost use Rattle.option_words.specs.Given.{given_options};
+ghost use Rattle.std.specs.List.{list_any};
+ghost use Rattle.command_words.specs.Modes.{are_flat_projects, are_projects, are_two_kinds, are_two_modes, excludes, is_flat_conversion, is_flat_format, is_of_projects, kind_asked, lacks, mode_of, options_of, two_of};
+ghost use Rattle.option_words.specs.Given.{exports_given, given_options};
 
-use option_words::{Flags, Given, Tool};
-use quota_types::Kind;
+use option_words::{Conversion, ExportWords, Flags, Given, Tool};
+use quota_types::{Format, Kind};
 use report_options::Options;
 
 /// A mode of a command: what its options choose, with its own operands.
@@ -41,18 +42,69 @@ pub enum Mode {
 pub fn excludes(tool: Tool, given: &Given<'_>) -> bool
     ensures { result ≡ excludes tool (given_options given.now) }
 {
+    are_two_kinds(&given.flags) || are_flat_projects(given) || are_two_modes(tool, given)
+}
+
+/// Whether two kinds are asked for.
+fn are_two_kinds(flags: &Flags) -> bool
+    ensures { result ≡ are_two_kinds flags.now }
+{
+    (flags.users && (flags.groups || flags.projects)) || (flags.groups && flags.projects)
+}
+
+/// Whether flat files of projects are asked for, whose format is older than project quotas.
+fn are_flat_projects(given: &Given<'_>) -> bool
+    ensures { result ≡ are_flat_projects (given_options given.now) }
+{
+    are_projects(given) && (is_flat_format(given.format) || is_flat_conversion(given.conversion))
+}
+
+/// Whether projects are asked for, by the option or by an export.
+fn are_projects(given: &Given<'_>) -> bool
+    ensures { result ≡ are_projects (given_options given.now) }
+{
+    given.flags.projects || exports_projects(given.exports.as_slice())
+}
+
+/// Whether one of the exports is that of projects.
+fn exports_projects(exports: &[ExportWords<'_>]) -> bool
+    ensures { result ≡ list_any is_of_projects (exports_given exports.now) }
+{
+    exports.iter().any(|export| export.kind == Kind::Project)
+}
+
+/// Whether a format is asked for, and it is that of a flat file.
+fn is_flat_format(format: Option<Format>) -> bool
+    ensures { result ≡ is_flat_format format }
+{
+    match format {
+        Some(format) => format.is_flat(),
+        None => false,
+    }
+}
+
+/// Whether one of the formats of a conversion is that of a flat file.
+fn is_flat_conversion(conversion: Option<Conversion>) -> bool
+    ensures { result ≡ is_flat_conversion conversion }
+{
+    match conversion {
+        Some(formats) => formats.old.is_flat() || formats.new.is_flat(),
+        None => false,
+    }
+}
+
+/// Whether two modes of one command are asked for, or an input where the mode reads none.
+fn are_two_modes(tool: Tool, given: &Given<'_>) -> bool
+    ensures { result ≡ are_two_modes tool (given_options given.now) }
+{
     let flags = &given.flags;
-    let both_kinds = flags.users && flags.groups;
     match tool {
         Tool::Setquota => {
-            both_kinds
-                || two_of(given.proto.is_some(), flags.batch, flags.grace, flags.times)
+            two_of(given.proto.is_some(), flags.batch, flags.grace, flags.times)
                 || (given.input.is_some() && !flags.batch)
         }
-        Tool::Edquota => {
-            both_kinds || (flags.print && flags.apply) || (given.input.is_some() && flags.print)
-        }
-        _ => both_kinds,
+        Tool::Edquota => (flags.print && flags.apply) || (given.input.is_some() && flags.print),
+        _ => false,
     }
 }
 
@@ -115,11 +167,13 @@ fn setquota_mode(given: &Given<'_>) -> Mode
     }
 }
 
-/// Users, unless groups are asked for.
+/// Users, unless groups or projects are asked for.
 pub fn kind_asked(flags: &Flags) -> Kind
     ensures { result ≡ kind_asked flags.now }
 {
-    if flags.groups {
+    if flags.projects {
+        Kind::Project
+    } else if flags.groups {
         Kind::Group
     } else {
         Kind::User

@@ -5,7 +5,7 @@ use Rattle.quota_types.specs.Bytes.{number_at}
 use Rattle.quota_types.specs.declared.file_kind.Format.{Format}
 use Rattle.quota_types.specs.declared.file_kind.Format.TheVariants.{V2R0, V2R1}
 use Rattle.quota_types.specs.declared.file_kind.Kind.{Kind}
-use Rattle.quota_types.specs.declared.file_kind.Kind.TheVariants.{User, Group}
+use Rattle.quota_types.specs.declared.file_kind.Kind.TheVariants.{User, Group, Project}
 use Rattle.entry_codec.specs.declared.header.HeaderFault.{HeaderFault}
 use Rattle.entry_codec.specs.declared.header.HeaderFault.TheVariants.{NotQuota, WrongKind, UnknownVersion, BadBlockCount}
 
@@ -37,14 +37,11 @@ header_of file = record {
 abbrev pub magic_of : Kind → ℕ
 magic_of User = 0xd9c01f11
 magic_of Group = 0xd9c01927
-
--- the magic number of the files of projects, which are no kind here
-abbrev pub project_magic : ℕ
-project_magic = 0xd9c03f14
+magic_of Project = 0xd9c03f14
 
 -- the magic number of a quota file, of whatever kind
 abbrev pub is_magic : ℕ → Bool
-is_magic magic = magic == magic_of User || magic == magic_of Group || magic == project_magic
+is_magic magic = magic == magic_of User || magic == magic_of Group || magic == magic_of Project
 
 -- the format with this version number
 abbrev pub format_of : ℕ → Option Format

@@ -38,9 +38,6 @@ pub enum HeaderFault {
     BadBlockCount,
 }
 
-/// The magic number of the files of projects.
-const PROJECT_MAGIC: u32 = 0xd9c0_3f14;
-
 /// The number of blocks of an empty file: the header and the root.
 const LEAST_BLOCKS: u32 = 2;
 
@@ -50,13 +47,16 @@ fn magic_of(kind: Kind) -> u32
     match kind {
         Kind::User => 0xd9c0_1f11,
         Kind::Group => 0xd9c0_1927,
+        Kind::Project => 0xd9c0_3f14,
     }
 }
 
 fn is_magic(magic: u32) -> bool
     ensures { result ≡ is_magic magic }
 {
-    magic == magic_of(Kind::User) || magic == magic_of(Kind::Group) || magic == PROJECT_MAGIC
+    magic == magic_of(Kind::User)
+        || magic == magic_of(Kind::Group)
+        || magic == magic_of(Kind::Project)
 }
 
 fn format_of(version: u32) -> Option<Format>

@@ -48,7 +48,7 @@ abbrev pub scan_outcome : List ℕ → Result UsageMap ScanFault → Outcome Usa
 scan_outcome name (Ok usage) = Passed usage
 scan_outcome name (Err fault) = Refused (refusal_of (scan_cause SourceFault fault) name)
 
--- the step that reads the usage of users or groups from a listing, of one device or of all
+-- the step that reads the usage of users, groups or projects from a listing, of one device or of all
 abbrev pub scan_step : Kind → (device : Option ℕ) → Option (List ℕ) → List ℕ → Outcome UsageMap
 scan_step kind device from bytes = scan_outcome (input_name from) (scanned kind device bytes)
 

@@ -17,8 +17,8 @@ use quota_types::Kind;
 use refusals::{Cause, Refusal, Word};
 use std::alloc::Global;
 
-/// The usage of users or groups that a listing tells, of one device or of all. It stands in the file of this name, or in the
-/// input where no file is named.
+/// The usage of users, groups or projects that a listing tells, of one device or of all. It stands in the file of this name,
+/// or in the input where no file is named.
 ///
 /// # Errors
 ///

@@ -1,11 +1,11 @@
--- Files of names, whose bytes may be any. Source: passwd(5) and group(5).
+-- Files of names, whose bytes may be any. Source: passwd(5), group(5) and projid(5).
 use Rattle.std.specs.Prelude.{ℕ, ◌+◌, ◌^◌, Bool, true, ◌&&◌, not, ◌==◌, nat_lt, nat_le, is_none, if◌then◌else◌, List, [], ◌∷◌, length, position, Option, Some, None, codes}
 use Rattle.std.specs.List.{slice_split, slice_index_or, list_all, list_any, filter_map}
 use Rattle.std.specs.Option.{option_map}
 use Rattle.std.specs.Str.{all_ascii_digits}
 use Rattle.std.specs.Str.Parse.{digits_value}
 use Rattle.quota_types.specs.declared.file_kind.Kind.{Kind}
-use Rattle.quota_types.specs.declared.file_kind.Kind.TheVariants.{User, Group}
+use Rattle.quota_types.specs.declared.file_kind.Kind.TheVariants.{User, Group, Project}
 
 -- a line of names: a name, as its bytes, and the identifier that it stands for
 pub record NameLine : Type 0 where
@@ -35,6 +35,13 @@ is_passed_over (first ∷ behind) = list_any (λ mark. first == mark) (codes "#+
 abbrev pub fields_in : Kind → ℕ
 fields_in User = 7
 fields_in Group = 4
+fields_in Project = 2
+
+-- the place of the field of the identifier, counted from 0
+abbrev pub id_place : Kind → ℕ
+id_place User = 2
+id_place Group = 2
+id_place Project = 1
 
 -- a byte that may stand in a name: no control character and not the space
 abbrev pub is_name_byte : ℕ → Bool
@@ -57,11 +64,11 @@ abbrev pub named : List ℕ → List ℕ → Option NameLine
 named name field = if is_name name then option_map (λ number. record { name = name; id = number }) (id_of_field field) else None
 
 -- the line of names that a line of the file spells: it has as many fields as the lines of its kind, of which the first is
--- the name and the third the identifier
+-- the name, and the third the identifier, or the second in a line of projects
 abbrev pub line_of : Kind → List ℕ → Option NameLine
 line_of kind line =
     if length (fields_of line) == fields_in kind
-    then named (slice_index_or (fields_of line) 0 []) (slice_index_or (fields_of line) 2 []) else None
+    then named (slice_index_or (fields_of line) 0 []) (slice_index_or (fields_of line) (id_place kind) []) else None
 
 -- what a line of the file tells, if anything
 abbrev pub told_by : Kind → List ℕ → Option NameLine

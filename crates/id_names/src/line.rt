@@ -1,5 +1,5 @@
-ghost use Rattle.std.specs.Prelude.{◌≡◌, ◌≢◌, [], IfSome, IfNone, length};
-ghost use Rattle.id_names.specs.NamesFile.{fields_in, fields_of, id_of_field, is_name, is_name_byte, is_passed_over, line_of};
+ghost use Rattle.std.specs.Prelude.{◌≡◌, ◌≢◌, ◌≤◌, [], IfSome, IfNone, length};
+ghost use Rattle.id_names.specs.NamesFile.{fields_in, fields_of, id_of_field, id_place, is_name, is_name_byte, is_passed_over, line_of};
 ghost use Rattle.std.specs.List.{list_all, slice_index_or};
 ghost use Rattle.std.specs.Option.{option_map};
 
@@ -75,11 +75,40 @@ fn fields_in(kind: Kind) -> usize
     match kind {
         Kind::User => 7,
         Kind::Group => 4,
+        Kind::Project => 2,
     }
 }
 
-/// The first and the third field of a line, where it has as many as the kind needs.
+/// The fields of the name and of the identifier of a line, where it has as many as the kind needs.
 fn name_and_id(line: &[u8], kind: Kind) -> Option<(&[u8], &[u8])>
+    ensures name { IfSome result (λ fields. fields.0.now ≡ slice_index_or (fields_of line.now) 0 []) }
+    ensures id { IfSome result (λ fields. fields.1.now ≡ slice_index_or (fields_of line.now) (id_place kind) []) }
+    ensures as_many { IfSome result (λ _. length (fields_of line.now) ≡ fields_in kind) }
+    ensures other { IfNone result (length (fields_of line.now) ≢ fields_in kind) }
+{
+    match kind {
+        Kind::User | Kind::Group => account_fields(line, kind),
+        Kind::Project => project_fields(line),
+    }
+}
+
+/// The two fields of a line of projects: the name, and behind it the identifier.
+fn project_fields(line: &[u8]) -> Option<(&[u8], &[u8])>
+    ensures name { IfSome result (λ fields. fields.0.now ≡ slice_index_or (fields_of line.now) 0 []) }
+    ensures id { IfSome result (λ fields. fields.1.now ≡ slice_index_or (fields_of line.now) 1 []) }
+    ensures as_many { IfSome result (λ _. length (fields_of line.now) ≡ 2) }
+    ensures other { IfNone result (length (fields_of line.now) ≢ 2) }
+{
+    let (name, id) = split_once(line, b':')?;
+    match split_once(id, b':') {
+        None => Some((name, id)),
+        Some(_) => None,
+    }
+}
+
+/// The first and the third field of a line of users or groups, where it has as many as the kind needs.
+fn account_fields(line: &[u8], kind: Kind) -> Option<(&[u8], &[u8])>
+    requires { 4 ≤ fields_in kind }
     ensures name { IfSome result (λ fields. fields.0.now ≡ slice_index_or (fields_of line.now) 0 []) }
     ensures id { IfSome result (λ fields. fields.1.now ≡ slice_index_or (fields_of line.now) 2 []) }
     ensures as_many { IfSome result (λ _. length (fields_of line.now) ≡ fields_in kind) }

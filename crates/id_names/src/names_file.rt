@@ -42,8 +42,8 @@ impl Names {
         }
     }
 
-    /// Reads the bytes of a file in the form of passwd(5) for users, or of group(5) for groups. Empty lines, and those
-    /// that begin with `#`, `+` or `-`, are passed over.
+    /// Reads the bytes of a file in the form of passwd(5) for users, of group(5) for groups, or of projid(5) for projects.
+    /// Empty lines, and those that begin with `#`, `+` or `-`, are passed over.
     ///
     /// # Errors
     ///

@@ -5,7 +5,7 @@ use Rattle.std.specs.FinMap.{from_entries}
 use Rattle.std.specs.List.{enumerate_from, filter_map}
 use Rattle.std.specs.Option.{option_and_then, option_map}
 use Rattle.quota_types.specs.declared.file_kind.Kind.{Kind}
-use Rattle.quota_types.specs.declared.file_kind.Kind.TheVariants.{User, Group}
+use Rattle.quota_types.specs.declared.file_kind.Kind.TheVariants.{User, Group, Project}
 use Rattle.inode_scan.specs.declared.scan_fault.ScanFault.{ScanFault}
 use Rattle.inode_scan.specs.declared.scan_fault.ScanFault.TheVariants.{BadLine, Conflict}
 use Rattle.inode_scan.specs.declared.row.Row.{Row}
@@ -56,10 +56,11 @@ is_first lines line = has_number line.number (first_of lines line.row)
 unfoldable pub first_lines : List Counted → List Counted
 first_lines lines = filter (is_first lines) lines
 
--- whose usage a row adds to: its owner's, or its group's
+-- whose usage a row adds to: its owner's, or that of its second word, which is the group or the project
 abbrev pub owner_of : Kind → Row → ℕ
 owner_of User row = row.owner
 owner_of Group row = row.group
+owner_of Project row = row.group
 
 -- those of the lines that an identifier owns
 abbrev pub owned : Kind → List Counted → ℕ → List Counted
@@ -75,11 +76,11 @@ usage_of kind lines =
     let firsts : List Counted = first_lines lines in
     from_entries (map (λ first. let id : ℕ = owner_of kind first.row in (id, used_in (owned kind firsts id))) firsts)
 
--- two rows tell the same owner, group and number of blocks
+-- two rows tell the same owner, group or project, and number of blocks
 abbrev pub is_agreed : Row → Row → Bool
 is_agreed one other = one.owner == other.owner && one.group == other.group && one.blocks == other.blocks
 
--- a line tells another owner, group or number of blocks than the first line of its inode
+-- a line tells another owner, group or project, or number of blocks than the first line of its inode
 abbrev pub conflict_of : List Counted → Counted → Option ScanFault
 conflict_of lines line =
     option_and_then (λ first. if is_agreed first.row line.row then None else Some (Conflict line.number first.number))

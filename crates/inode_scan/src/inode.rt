@@ -18,7 +18,7 @@ pub(crate) struct Inode {
 pub(crate) struct FirstLine {
     /// The identifier of the owner.
     pub(crate) owner: u32,
-    /// The identifier of the group.
+    /// The identifier of the group, or of the project in a listing of projects.
     pub(crate) group: u32,
     /// How many blocks of 512 bytes the inode uses.
     pub(crate) blocks: u64,

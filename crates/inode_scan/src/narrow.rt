@@ -49,7 +49,7 @@ impl Hash for NarrowInode {
 pub(crate) struct NarrowLine {
     /// The identifier of the owner.
     owner: u32,
-    /// The identifier of the group.
+    /// The identifier of the group, or of the project in a listing of projects.
     group: u32,
     /// How many blocks of 512 bytes the inode uses.
     blocks: u32,

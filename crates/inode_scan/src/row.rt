@@ -10,7 +10,7 @@ use input_text::{has_no_word, next_word, number_in};
 pub(crate) struct Row {
     /// The identifier of the owner.
     pub(crate) owner: u32,
-    /// The identifier of the group.
+    /// The identifier of the group, or of the project in a listing of projects.
     pub(crate) group: u32,
     /// The device that the inode is on.
     pub(crate) device: u64,

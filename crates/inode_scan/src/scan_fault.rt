@@ -18,7 +18,7 @@ pub enum ScanFault {
     BadLine(u64),
     /// The line of this number, from 1 on, has more than 256 bytes.
     LongLine(u64),
-    /// Two lines of one inode do not tell the same owner, group and number of blocks.
+    /// Two lines of one inode do not tell the same owner, group or project, and number of blocks.
     Conflict {
         /// The number of the later line, from 1 on.
         line: u64,

@@ -17,13 +17,13 @@ const MAX_LINE: usize = 256;
 /// How many bytes a listing has at most.
 const MAX_LISTING: u64 = 1_099_511_627_776;
 
-/// Reads a listing of inodes to the end of the source, and adds up what each user or each group uses: 512 bytes a block,
+/// Reads a listing of inodes to the end of the source, and adds up what each user, group or project uses: 512 bytes a block,
 /// and one inode.
 ///
-/// A line has five words between spaces and tabs: owner, group, device, inode, and blocks of 512 bytes. Each has 1 to 20
-/// decimal digits; the first two are below 2^32, the others below 2^64. A line with no word says nothing. Where a device is
-/// given, lines of other devices need to have this form, and count for nothing else. Of each inode of a device the first
-/// line counts, and later ones have to say the same.
+/// A line has five words between spaces and tabs: owner, group, or the project in its place where projects are counted,
+/// device, inode, and blocks of 512 bytes. Each has 1 to 20 decimal digits; the first two are below 2^32, the others
+/// below 2^64. A line with no word says nothing. Where a device is given, lines of other devices need to have this form,
+/// and count for nothing else. Of each inode of a device the first line counts, and later ones have to say the same.
 ///
 /// # Errors
 ///

@@ -112,6 +112,6 @@ fn owner_of(kind: Kind, row: &Row) -> u32
 {
     match kind {
         Kind::User => row.owner,
-        Kind::Group => row.group,
+        Kind::Group | Kind::Project => row.group,
     }
 }

@@ -5,7 +5,7 @@ use Rattle.std.specs.Option.{option_copied}
 use Rattle.std.specs.Str.{bytes_eq}
 use Rattle.quota_types.specs.declared.file_kind.Format.{Format}
 use Rattle.quota_types.specs.declared.file_kind.Kind.{Kind}
-use Rattle.quota_types.specs.declared.file_kind.Kind.TheVariants.{User, Group}
+use Rattle.quota_types.specs.declared.file_kind.Kind.TheVariants.{User, Group, Project}
 use Rattle.input_text.specs.Numeral.{number_of}
 use Rattle.refusals.specs.declared.cause.UsageKind.TheVariants.{UnknownOption, MissingValue, Repeated, BadValue, BadFileName}
 use Rattle.option_words.specs.declared.export_option.ExportOption.{ExportOption}
@@ -14,7 +14,7 @@ use Rattle.option_words.specs.declared.given.Conversion.{Conversion}
 use Rattle.option_words.specs.declared.given.ExportWords.{ExportWords}
 use Rattle.option_words.specs.declared.given.Given.{Given}
 use Rattle.option_words.specs.declared.switch.Flag.{Flag}
-use Rattle.option_words.specs.declared.switch.Flag.TheVariants.{Users, Groups, Verbose, Numeric, Raw, Batch, Grace, Times, Print, Apply, Fresh}
+use Rattle.option_words.specs.declared.switch.Flag.TheVariants.{Users, Groups, Projects, Verbose, Numeric, Raw, Batch, Grace, Times, Print, Apply, Fresh}
 use Rattle.option_words.specs.declared.switch.Flags.{Flags}
 use Rattle.option_words.specs.declared.switch.Setting.{Setting}
 use Rattle.option_words.specs.declared.switch.Setting.TheVariants.{QuotaFormat, Names, Proto, Input, Device, Formats, Calls, Port}
@@ -64,6 +64,7 @@ abbrev pub no_flags : Flags
 no_flags = record {
   users = false;
   groups = false;
+  projects = false;
   verbose = false;
   numeric = false;
   raw = false;
@@ -94,6 +95,7 @@ nothing_given = record {
 abbrev pub raised : Flag → Flags → Flags
 raised Users flags = record flags { users = true }
 raised Groups flags = record flags { groups = true }
+raised Projects flags = record flags { projects = true }
 raised Verbose flags = record flags { verbose = true }
 raised Numeric flags = record flags { numeric = true }
 raised Raw flags = record flags { raw = true }
@@ -131,13 +133,14 @@ put Port value word told = with_value (number_within 0 65535 value) (fault BadVa
 abbrev pub kind_word : Kind → List ℕ
 kind_word User = codes "user"
 kind_word Group = codes "group"
+kind_word Project = codes "project"
 
 -- a pair of a path and a kind was exported
 abbrev pub is_exported : (path kind : List ℕ) → List ExportOption → Bool
 is_exported path kind exports = list_any (λ (e : ExportOption). bytes_eq e.path path && bytes_eq (kind_word e.kind) kind) exports
 
--- What is given with one more export, of which there may be 16: its path has 1 to 1,024 bytes, its kind is `user` or
--- `group`, and its file is the name of a file.
+-- What is given with one more export, of which there may be 16: its path has 1 to 1,024 bytes, its kind is `user`,
+-- `group` or `project`, and its file is the name of a file.
 abbrev pub put_export : (path kind file : List ℕ) (word : ℕ) → GivenOptions → Result GivenOptions Fault
 put_export path kind file word told =
     unless (not (is_export_path path)) (fault BadValue word)

@@ -5,7 +5,7 @@ use Rattle.std.specs.Option.{option_and_then}
 use Rattle.quota_types.specs.declared.file_kind.Format.{Format}
 use Rattle.quota_types.specs.declared.file_kind.Format.TheVariants.{V1, V2R0, V2R1}
 use Rattle.quota_types.specs.declared.file_kind.Kind.{Kind}
-use Rattle.quota_types.specs.declared.file_kind.Kind.TheVariants.{User, Group}
+use Rattle.quota_types.specs.declared.file_kind.Kind.TheVariants.{User, Group, Project}
 use Rattle.input_text.specs.Numeral.{number_of}
 use Rattle.option_words.specs.declared.given.Conversion.{Conversion}
 use Rattle.option_words.specs.Parts.{parted}
@@ -17,7 +17,7 @@ format_of word = look_up ((codes "vfsold", V1) ∷ (codes "vfsv0", V2R0) ∷ (co
 
 -- the kind of files that is exported under a word
 abbrev pub kind_of : List ℕ → Option Kind
-kind_of word = look_up ((codes "user", User) ∷ (codes "group", Group) ∷ []) word
+kind_of word = look_up ((codes "user", User) ∷ (codes "group", Group) ∷ (codes "project", Project) ∷ []) word
 
 -- a number, where it is from one number to another
 abbrev pub within : ℕ → ℕ → ℕ → Option ℕ

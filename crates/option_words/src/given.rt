@@ -214,5 +214,6 @@ fn kind_word(kind: Kind) -> &'static str
     match kind {
         Kind::User => "user",
         Kind::Group => "group",
+        Kind::Project => "project",
     }
 }

@@ -22,6 +22,8 @@ pub enum Flag {
     Users,
     /// The file is one of groups.
     Groups,
+    /// The file is one of projects.
+    Projects,
     /// A report shows the identifiers that use nothing, too.
     Verbose,
     /// A report shows numbers instead of names.
@@ -70,6 +72,8 @@ pub struct Flags {
     pub users: bool,
     /// The file is one of groups.
     pub groups: bool,
+    /// The file is one of projects.
+    pub projects: bool,
     /// A report shows the identifiers that use nothing, too.
     pub verbose: bool,
     /// A report shows numbers instead of names.
@@ -98,6 +102,7 @@ impl Flags {
         Flags {
             users: false,
             groups: false,
+            projects: false,
             verbose: false,
             numeric: false,
             raw: false,
@@ -118,6 +123,7 @@ impl Flags {
         match flag {
             Flag::Users => flags.users = true,
             Flag::Groups => flags.groups = true,
+            Flag::Projects => flags.projects = true,
             Flag::Verbose => flags.verbose = true,
             Flag::Numeric => flags.numeric = true,
             Flag::Raw => flags.raw = true,
@@ -179,6 +185,7 @@ fn repquota_letter(letter: u8) -> Option<Switch>
     match letter {
         b'u' => Some(Switch::Flagged(Flag::Users)),
         b'g' => Some(Switch::Flagged(Flag::Groups)),
+        b'P' => Some(Switch::Flagged(Flag::Projects)),
         b'v' => Some(Switch::Flagged(Flag::Verbose)),
         b'n' => Some(Switch::Flagged(Flag::Numeric)),
         b'p' => Some(Switch::Flagged(Flag::Raw)),
@@ -195,6 +202,7 @@ fn setquota_letter(letter: u8) -> Option<Switch>
     match letter {
         b'u' => Some(Switch::Flagged(Flag::Users)),
         b'g' => Some(Switch::Flagged(Flag::Groups)),
+        b'P' => Some(Switch::Flagged(Flag::Projects)),
         b'b' => Some(Switch::Flagged(Flag::Batch)),
         b't' => Some(Switch::Flagged(Flag::Grace)),
         b'T' => Some(Switch::Flagged(Flag::Times)),
@@ -212,6 +220,7 @@ fn edquota_letter(letter: u8) -> Option<Switch>
     match letter {
         b'u' => Some(Switch::Flagged(Flag::Users)),
         b'g' => Some(Switch::Flagged(Flag::Groups)),
+        b'P' => Some(Switch::Flagged(Flag::Projects)),
         b'F' => Some(Switch::Setting(Setting::QuotaFormat)),
         _ => None,
     }
@@ -225,6 +234,7 @@ fn quotacheck_letter(letter: u8) -> Option<Switch>
     match letter {
         b'u' => Some(Switch::Flagged(Flag::Users)),
         b'g' => Some(Switch::Flagged(Flag::Groups)),
+        b'P' => Some(Switch::Flagged(Flag::Projects)),
         b'c' => Some(Switch::Flagged(Flag::Fresh)),
         b'F' => Some(Switch::Setting(Setting::QuotaFormat)),
         _ => None,
@@ -239,6 +249,7 @@ fn convertquota_letter(letter: u8) -> Option<Switch>
     match letter {
         b'u' => Some(Switch::Flagged(Flag::Users)),
         b'g' => Some(Switch::Flagged(Flag::Groups)),
+        b'P' => Some(Switch::Flagged(Flag::Projects)),
         b'f' => Some(Switch::Setting(Setting::Formats)),
         _ => None,
     }

@@ -20,11 +20,11 @@ pub fn read_format(value: &str, word: usize) -> Result<Format, Fault>
     checked(format_of(value), word)
 }
 
-/// Reads the kind of files that is exported under a word: `user` or `group`.
+/// Reads the kind of files that is exported under a word: `user`, `group` or `project`.
 ///
 /// # Errors
 ///
-/// `BadValue` at `word`, the number of the word in its command, where it is neither.
+/// `BadValue` at `word`, the number of the word in its command, where it is none of these.
 pub fn read_kind(value: &str, word: usize) -> Result<Kind, Fault>
     ensures { result ≡ with_value (kind_of value.now) (fault BadValue word) (λ kind. Ok kind) }
 {
@@ -86,6 +86,7 @@ fn kind_of(word: &str) -> Option<Kind>
     match word {
         "user" => Some(Kind::User),
         "group" => Some(Kind::Group),
+        "project" => Some(Kind::Project),
         _ => None,
     }
 }

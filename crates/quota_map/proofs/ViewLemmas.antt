@@ -11,7 +11,7 @@ use Rattle.quota_v1.specs.View.{IsFlatView}
 use Rattle.quota_map.specs.View.{IsView, asks_flat, most_blocks, opening_reads}
 use Rattle.std.proofs.lemmas.Bool.{cases_lt}
 use Rattle.quota_types.specs.Bytes.{number_at}
-use Rattle.quota_types.specs.declared.file_kind.Kind.TheVariants.{User, Group}
+use Rattle.quota_types.specs.declared.file_kind.Kind.TheVariants.{User, Group, Project}
 use Rattle.entry_codec.specs.Header.{header_of, magic_of}
 use Rattle.tree_meaning.specs.TreeFile.{TreeStandsFor}
 use Rattle.opened_file.specs.Replace.{pieces_of}
@@ -56,6 +56,7 @@ has_bytes : (kind : Kind) (file : List ℕ) → (header_of file).magic ≡ magic
 has_bytes kind (byte ∷ bytes) magic = omega arith
 has_bytes User [] magic = absurd (omega (arith, magic, empty_number))
 has_bytes Group [] magic = absurd (omega (arith, magic, empty_number))
+has_bytes Project [] magic = absurd (omega (arith, magic, empty_number))
 
 tree_opening : (file : List ℕ) (value : QuotaValue) → TreeStandsFor file value → 1 + 2 * (header_of file).blocks ≤ 4 + 3 * pieces_of (length file)
 tree_opening file value stands =

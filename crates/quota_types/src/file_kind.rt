@@ -9,6 +9,8 @@ pub enum Kind {
     User,
     /// Groups, by their gid.
     Group,
+    /// Projects, by their number.
+    Project,
 }
 
 impl Kind {
@@ -19,6 +21,7 @@ impl Kind {
         match self {
             Kind::User => 0,
             Kind::Group => 1,
+            Kind::Project => 2,
         }
     }
 
@@ -29,6 +32,7 @@ impl Kind {
         match number {
             0 => Some(Kind::User),
             1 => Some(Kind::Group),
+            2 => Some(Kind::Project),
             _ => None,
         }
     }

@@ -52,7 +52,7 @@ pub struct Grace {
     pub inode: u64,
 }
 
-/// An identifier (a uid or a gid) with its record.
+/// An identifier (a uid, a gid or the number of a project) with its record.
 #[derive(Clone, Copy, Debug, PartialEq, Eq)]
 pub struct Entry {
     /// The identifier.

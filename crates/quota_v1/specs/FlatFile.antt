@@ -49,8 +49,8 @@ or_week seconds = if seconds == 0 then 604800 else seconds
 abbrev pub flat_grace : List ℕ → Grace
 flat_grace file = record { block = or_week (number_at 8 file (block_time_start 0)); inode = or_week (number_at 8 file (inode_time_start 0)) }
 
--- The file is whole records, and the value has the records and the grace periods of the file. It may be one of users
--- or of groups.
+-- The file is whole records, and the value has the records and the grace periods of the file. It may be one of any
+-- kind: nothing in it tells of which.
 pub record FlatStandsFor (file : List ℕ) (value : QuotaValue) : Type 0 where
   pub whole : length file % record_size ≡ 0
   pub format : value.format ≡ V1

@@ -4,7 +4,7 @@ use Rattle.std.specs.Prelude.{ℕ, ◌-◌, Bool, not, ◌&&◌, ◌||◌, ◌==
 use Rattle.std.specs.List.{flat_map}
 use Rattle.std.specs.FinMap.{entries}
 use Rattle.quota_types.specs.declared.file_kind.Kind.{Kind}
-use Rattle.quota_types.specs.declared.file_kind.Kind.TheVariants.{User, Group}
+use Rattle.quota_types.specs.declared.file_kind.Kind.TheVariants.{User, Group, Project}
 use Rattle.quota_types.specs.declared.record.Rec.{Rec}
 use Rattle.quota_types.specs.declared.record.Grace.{Grace}
 use Rattle.quota_types.specs.Rec.{kib_of}
@@ -56,8 +56,9 @@ line_of row = left_in 12 row.name ++ codes " " ++ row.flags ++ columns_in 10 row
 unfoldable pub title_front : Kind → List ℕ
 title_front User = codes "*** Report for user quotas on "
 title_front Group = codes "*** Report for group quotas on "
+title_front Project = codes "*** Report for project quotas on "
 
--- `*** Report for user quotas on FILE`, or `group`
+-- `*** Report for user quotas on FILE`, or `group` or `project`
 abbrev pub title_line : Kind → List ℕ → List ℕ
 title_line kind title = title_front kind ++ title ++ codes "\n"
 
@@ -69,6 +70,7 @@ grace_line grace = codes "Block grace time: " ++ period_of grace.block ++ codes 
 abbrev pub kind_heading : Kind → List ℕ
 kind_heading User = codes "User"
 kind_heading Group = codes "Group"
+kind_heading Project = codes "Project"
 
 -- the line above the columns
 unfoldable pub heading_line : Kind → List ℕ

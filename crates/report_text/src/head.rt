@@ -61,6 +61,7 @@ fn title_front(kind: Kind) -> &'static [u8]
     match kind {
         Kind::User => b"*** Report for user quotas on ",
         Kind::Group => b"*** Report for group quotas on ",
+        Kind::Project => b"*** Report for project quotas on ",
     }
 }
 
@@ -110,6 +111,9 @@ fn heading_line(kind: Kind) -> &'static [u8]
         }
         Kind::Group => {
             b"Group                 used       soft       hard  grace    files     soft     hard  grace\n"
+        }
+        Kind::Project => {
+            b"Project               used       soft       hard  grace    files     soft     hard  grace\n"
         }
     }
 }

@@ -5,7 +5,7 @@ use Rattle.quota_types.specs.Kind.{kinds_eq}
 use Rattle.quota_types.specs.declared.file_kind.Kind.{Kind}
 use Rattle.quota_value.specs.QuotaValue.{QuotaValue}
 
--- the quota value that is exported under a path, which is its bytes, for users or for groups; or none
+-- the quota value that is exported under a path, which is its bytes, for users, groups or projects; or none
 abbrev pub ExportedValues : Type 0
 ExportedValues = List ℕ → Kind → Option QuotaValue
 

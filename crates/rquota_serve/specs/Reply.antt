@@ -1,11 +1,11 @@
 -- The reply to a datagram. Source: `rquota.x` of the quota tools and rpc.rquotad(8), who may ask; RFC 5531 for the refusals of a
 -- call. The order of the checks is this project's own: whoever may not ask does not learn whether a path is exported.
-use Rattle.std.specs.Prelude.{ℕ, Bool, ◌||◌, ◌==◌, if◌then◌else◌, ◌+◌, List, slice_range, Option, None, Some, option_map, unwrap_or}
+use Rattle.std.specs.Prelude.{ℕ, Bool, false, ◌||◌, ◌==◌, if◌then◌else◌, ◌+◌, List, slice_range, Option, None, Some, option_map, unwrap_or}
 use Rattle.std.specs.FinMap.{get}
 use Rattle.std.specs.List.{list_any}
 use Rattle.quota_types.specs.Kind.{kind_numbered}
 use Rattle.quota_types.specs.declared.file_kind.Kind.{Kind}
-use Rattle.quota_types.specs.declared.file_kind.Kind.TheVariants.{User, Group}
+use Rattle.quota_types.specs.declared.file_kind.Kind.TheVariants.{User, Group, Project}
 use Rattle.quota_types.specs.declared.record.Rec.{Rec}
 use Rattle.quota_types.specs.Rec.{zero_record}
 use Rattle.quota_value.specs.QuotaValue.{QuotaValue}
@@ -18,14 +18,15 @@ use Rattle.rquota_xdr.specs.declared.reply.Reply.TheVariants as reply
 use Rattle.rquota_serve.specs.ExportedValues.{ExportedValues}
 use Rattle.rquota_serve.specs.Quota.{quota_of_record}
 
--- whose usage a type names: 0 is a user's, 1 a group's, and any other number names none
+-- whose usage a type names: 0 is a user's, 1 a group's, 2 a project's, and any other number names none
 abbrev pub kind_named : ℕ → Option Kind
 kind_named type = kind_numbered type
 
--- the caller is this user, or is in this group, by its first group or a further one
+-- the caller is this user, or is in this group, by its first group or a further one; no caller is a project
 abbrev pub is_owner : Kind → Caller → (id : ℕ) → Bool
 is_owner User caller id = caller.uid == id
 is_owner Group caller id = caller.gid == id || list_any (λ gid. gid == id) caller.gids
+is_owner Project caller id = false
 
 -- the caller may ask: the superuser for all identifiers, every other one for his own
 abbrev pub may_ask : Kind → Caller → (id : ℕ) → Bool

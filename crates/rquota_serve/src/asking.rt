@@ -11,13 +11,14 @@ pub(crate) fn kind_named(number: u32) -> Option<Kind>
     Kind::numbered(number)
 }
 
-/// Whether the caller is this user, or is in this group.
+/// Whether the caller is this user, or is in this group; no caller is a project.
 fn is_owner(kind: Kind, caller: &Caller, id: u32) -> bool
     ensures { result ≡ is_owner kind caller.now id }
 {
     match kind {
         Kind::User => caller.uid == id,
         Kind::Group => caller.gid == id || caller.gids.as_slice().contains(&id),
+        Kind::Project => false,
     }
 }
 

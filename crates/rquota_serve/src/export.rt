@@ -7,7 +7,7 @@ use quota_map::{AnyFile, open_file};
 use quota_types::{Format, Kind, Rec};
 use std::alloc::Global;
 
-/// A quota file that is told of under a path, for users or for groups.
+/// A quota file that is told of under a path, for users, groups or projects.
 #[derive(Drop)]
 pub(crate) struct Export {
     path: String,

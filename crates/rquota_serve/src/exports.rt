@@ -9,7 +9,7 @@ use std::alloc::Global;
 /// How many quota files may be exported at most.
 pub const MOST_EXPORTS: usize = 16;
 
-/// Quota files that are told of under paths, for users or for groups. Each stays open.
+/// Quota files that are told of under paths, for users, groups or projects. Each stays open.
 #[derive(Drop)]
 pub struct Exports {
     list: Vec<Export>,

@@ -5,7 +5,7 @@ use opened_file::OpenFault;
 use quota_types::Kind;
 use thiserror::Error;
 
-/// A quota file that is to be told of under a path, for users or for groups.
+/// A quota file that is to be told of under a path, for users, groups or projects.
 #[derive(Clone, Copy, Debug)]
 pub struct NewExport<'a> {
     /// The path that a call names.

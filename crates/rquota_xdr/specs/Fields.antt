@@ -98,7 +98,7 @@ arguments_at datagram = opaque_end datagram (verifier_at datagram + 4)
 abbrev pub is_set : List ℕ → Bool
 is_set datagram = nat_lt 2 (procedure_of datagram)
 
--- the arguments tell whether the identifier is a user's or a group's, as those of version 2 do
+-- the arguments tell whether the identifier is a user's, a group's or a project's, as those of version 2 do
 abbrev pub has_type : List ℕ → Bool
 has_type datagram = version_of datagram == 2
 

@@ -12,7 +12,7 @@ use Rattle.std.proofs.lemmas.Slice.Eq.{bytes_eq-Decides}
 use Rattle.quota_types.specs.Kind.{kinds_eq}
 use Rattle.quota_types.proofs.KindLemmas.{kinds_eq-same, kinds_eq-true}
 use Rattle.quota_types.specs.declared.file_kind.Kind.{Kind}
-use Rattle.quota_types.specs.declared.file_kind.Kind.TheVariants.{User, Group}
+use Rattle.quota_types.specs.declared.file_kind.Kind.TheVariants.{User, Group, Project}
 use Rattle.input_text.specs.Numeral.{number_of}
 use Rattle.opened_file.specs.FileSeen.{FileSeen}
 use Rattle.outside.proofs.WorldLemmas.{bytes_eq-true}
@@ -66,17 +66,20 @@ may_behind before (first ∷ list) export may few free others = (
 -- The words of kinds.
 
 kind_words : (word : List ℕ) (kind : Kind) → kind_of word ≡ Some kind → kind_word kind ≡ word
-kind_words word kind is = by (bytes_eq (codes "user") word) (bytes_eq (codes "group") word) refl refl is
+kind_words word kind is = by (bytes_eq (codes "user") word) (bytes_eq (codes "group") word) (bytes_eq (codes "project") word) refl refl refl is
   where
-    by : (user group : Bool) → bytes_eq (codes "user") word ≡ user → bytes_eq (codes "group") word ≡ group
-        → option_map (λ (entry : List ℕ × Kind). entry.1) (if user then Some (codes "user", User) else if group then Some (codes "group", Group) else None) ≡ Some kind → kind_word kind ≡ word
-    by true group there other same = let kinds : User ≡ kind = cc in subst (λ (k : Kind). kind_word k ≡ word) kinds (bytes_eq-true _ _ there)
-    by false true here there same = let kinds : Group ≡ kind = cc in subst (λ (k : Kind). kind_word k ≡ word) kinds (bytes_eq-true _ _ there)
-    by false false here other same = absurd (cc)
+    by : (user group project : Bool) → bytes_eq (codes "user") word ≡ user → bytes_eq (codes "group") word ≡ group → bytes_eq (codes "project") word ≡ project
+        → option_map (λ (entry : List ℕ × Kind). entry.1) (if user then Some (codes "user", User) else if group then Some (codes "group", Group)
+        else if project then Some (codes "project", Project) else None) ≡ Some kind → kind_word kind ≡ word
+    by true group project there other third same = let kinds : User ≡ kind = cc in subst (λ (k : Kind). kind_word k ≡ word) kinds (bytes_eq-true _ _ there)
+    by false true project here there third same = let kinds : Group ≡ kind = cc in subst (λ (k : Kind). kind_word k ≡ word) kinds (bytes_eq-true _ _ there)
+    by false false true here other there same = let kinds : Project ≡ kind = cc in subst (λ (k : Kind). kind_word k ≡ word) kinds (bytes_eq-true _ _ there)
+    by false false false here other third same = absurd (cc)
 
 word_kind : (kind : Kind) → kind_of (kind_word kind) ≡ Some kind
 word_kind User = refl
 word_kind Group = refl
+word_kind Project = refl
 
 -- two kinds have one word where they are one
 one_kind : (one kind : Kind) → kind_word one ≡ kind_word kind → one ≡ kind

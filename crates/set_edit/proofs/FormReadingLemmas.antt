@@ -3,7 +3,7 @@ use Rattle.std.proofs.Common.{◌≡◌, ℕ, ◌+◌, ◌-◌, ◌≤◌, Bool,
 use Rattle.std.specs.Prelude.{◌&&◌, is_some, IfOk, IfErr, OnOk}
 use Rattle.std.specs.Str.{bytes_eq}
 use Rattle.quota_types.specs.declared.file_kind.Kind.{Kind}
-use Rattle.quota_types.specs.declared.file_kind.Kind.TheVariants.{User, Group}
+use Rattle.quota_types.specs.declared.file_kind.Kind.TheVariants.{User, Group, Project}
 use Rattle.input_text.specs.LineReading.{line_then, IsLineFault, LinesSeen, NamesLine, line_given}
 use Rattle.input_text.specs.Lines.{next_line_of}
 use Rattle.input_text.specs.Numeral.{number_of}
@@ -103,6 +103,8 @@ title_words User name id =
     ap words_of (simp append_assoc) ∙ middle_words (codes "Disk quotas for user") name (codes "(uid " ++ decimal id ++ codes "):")
 title_words Group name id =
     ap words_of (simp append_assoc) ∙ middle_words (codes "Disk quotas for group") name (codes "(gid " ++ decimal id ++ codes "):")
+title_words Project name id =
+    ap words_of (simp append_assoc) ∙ middle_words (codes "Disk quotas for project") name (codes "(pid " ++ decimal id ++ codes "):")
 
 -- The lines of a form.
 

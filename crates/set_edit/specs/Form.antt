@@ -2,7 +2,7 @@
 -- project's own.
 use Rattle.std.specs.Prelude.{ℕ, List, ◌++◌, codes, decimal}
 use Rattle.quota_types.specs.declared.file_kind.Kind.{Kind}
-use Rattle.quota_types.specs.declared.file_kind.Kind.TheVariants.{User, Group}
+use Rattle.quota_types.specs.declared.file_kind.Kind.TheVariants.{User, Group, Project}
 use Rattle.quota_types.specs.declared.record.Rec.{Rec}
 use Rattle.quota_types.specs.Rec.{kib_of}
 
@@ -10,13 +10,15 @@ use Rattle.quota_types.specs.Rec.{kib_of}
 unfoldable pub name_front : Kind → List ℕ
 name_front User = codes "Disk quotas for user "
 name_front Group = codes "Disk quotas for group "
+name_front Project = codes "Disk quotas for project "
 
 -- what stands between the name and the number
 unfoldable pub id_front : Kind → List ℕ
 id_front User = codes " (uid "
 id_front Group = codes " (gid "
+id_front Project = codes " (pid "
 
--- `Disk quotas for user NAME (uid ID):`, or `group` and `gid`
+-- `Disk quotas for user NAME (uid ID):`, or `group` and `gid`, or `project` and `pid`
 abbrev pub form_title : Kind → (name : List ℕ) → (id : ℕ) → List ℕ
 form_title kind name id = name_front kind ++ name ++ id_front kind ++ decimal id ++ codes "):"
 

@@ -70,6 +70,7 @@ pub(crate) fn name_front(kind: Kind) -> &'static [u8]
     match kind {
         Kind::User => b"Disk quotas for user ",
         Kind::Group => b"Disk quotas for group ",
+        Kind::Project => b"Disk quotas for project ",
     }
 }
 
@@ -82,6 +83,7 @@ fn id_front(kind: Kind) -> &'static [u8]
     match kind {
         Kind::User => b" (uid ",
         Kind::Group => b" (gid ",
+        Kind::Project => b" (pid ",
     }
 }
 

@@ -8,6 +8,7 @@ pub mod ended_batches;
 pub mod failing_together;
 pub mod forms;
 pub mod limits;
+pub mod projects;
 pub mod refused_bounds;
 pub mod refused_forms;
 pub mod refused_lines;

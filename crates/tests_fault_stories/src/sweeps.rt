@@ -136,6 +136,57 @@ hex 00000001 00000001 00000000 00000000 00000000 00000000 00000001
 hex 00000400 00000001 000000c8 00000064 00000004 00000014 0000000a 00000001 00000000 00000000
 sent
 
+= a file of projects, from its listing to its conversion, and a call for one of them
+text 1000 7 2049 12 8
+file l
+text 1000 7 2049 12 10
+file m
+stays q
+sweep each quotacheck -c -P -F vfsv1 --input l q
+at q 6144 end
+sweep each setquota -P 7 2 8 0 0 q
+changes q
+sweep each repquota -P q
+head project q 7days 7days
+> #7           +-          4          2          8  7days        1        0        0      -
+sweep each setquota -P -p 7 8 q
+changes q
+sweep each setquota -P -t 86400 3600 q
+changes q
+sweep each setquota -P -T 7 3600 unset q
+! quota: inode time not set, soft limit not exceeded
+changes q
+text 7 3 9 0 0
+input
+sweep each setquota -P -b q
+changes q
+sweep each edquota -P --print 7 q
+> Disk quotas for project #7 (pid 7):
+>   Filesystem blocks soft hard inodes soft hard
+>   q 4 3 9 1 0 0
+text Disk quotas for project #8 (pid 8):
+text   Filesystem blocks soft hard inodes soft hard
+text   q 0 5 6 0 7 8
+input
+sweep each edquota -P --apply 8 q
+changes q
+stays q
+sweep each quotacheck -P --input m q
+changes q
+stays q r
+sweep each convertquota -P -f vfsv1,vfsv0 q r
+same q
+changes r
+hex 00000001 00000000 00000002 000186ab 00000002 00000001
+hex 00000001 00000018 00000000 00000001 68000000 00000000 00000000 00000000
+hex 00000000 00000000 00000005 2f686f6d 65000000 00000002 00000007
+datagram 1700000000
+stays q
+sweep each rquotad --calls 1 --port 0 --export /home project q
+hex 00000001 00000001 00000000 00000000 00000000 00000000 00000001
+hex 00000400 00000001 00000009 00000003 00000005 00000000 00000000 00000001 00000e10 00000000
+sent
+
 = a script that ends at its third line
 use empty
 fill 0 2016

@@ -9,6 +9,7 @@ pub mod ended_checks;
 pub mod generated;
 pub mod names;
 pub mod new_files;
+pub mod projects;
 pub mod refused_conversions;
 pub mod refused_listings;
 pub mod reports;

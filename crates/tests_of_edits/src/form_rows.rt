@@ -24,12 +24,15 @@ const LIMITS: Limits = Limits {
     ihard: 20,
 };
 
-/// The first two lines of the form of user alice, and of group 7.
+/// The first two lines of the form of user alice, of group 7, and of the project build.
 const HEAD: &str =
     "Disk quotas for user alice (uid 1000):\n  Filesystem blocks soft hard inodes soft hard\n";
 
 const HEAD_OF_GROUP: &str =
     "Disk quotas for group #7 (gid 7):\n  Filesystem blocks soft hard inodes soft hard\n";
+
+const HEAD_OF_PROJECT: &str =
+    "Disk quotas for project build (pid 7):\n  Filesystem blocks soft hard inodes soft hard\n";
 
 /// A form that is printed: for whom and of which record, and its text in two parts.
 struct PrintRow {
@@ -101,6 +104,13 @@ const PRINTED: &[PrintRow] = &[
             HEAD_OF_GROUP,
             "  q 18014398509481984 18446744073709551615 18446744073709551615 18446744073709551615 18446744073709551615 18446744073709551615\n",
         ],
+    },
+    PrintRow {
+        kind: Kind::Project,
+        name: "build",
+        id: 7,
+        rec: REC,
+        text: [HEAD_OF_PROJECT, "  q 4 100 200 1 10 20\n"],
     },
 ];
 
@@ -178,6 +188,11 @@ const WHOLE: &[WholeRow] = &[
     ("Disk quotas for user bob (uid 1000):\n", Err(BadForm(1))),
     ("Disk quotas for user alice (uid 100):\n", Err(BadForm(1))),
     ("Disk quotas for group alice (gid 1000):\n", Err(BadForm(1))),
+    (
+        "Disk quotas for project alice (pid 1000):\n",
+        Err(BadForm(1)),
+    ),
+    ("Disk quotas for user alice (pid 1000):\n", Err(BadForm(1))),
     (
         "Disk quotas for user alice (uid 1000):\r\n",
         Err(BadForm(1)),

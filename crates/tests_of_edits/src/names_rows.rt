@@ -138,6 +138,38 @@ fn the_first_bad_line_of_groups_is_named(rt: HostRuntime) {
     expect_bad_lines(&rt, rt.alloc(), Kind::Group, LINES_OF_GROUPS);
 }
 
+/// Files of projects.
+const LINES_OF_PROJECTS: &[NamesRow] = &[
+    (b"", None),
+    (b"a:7", None),
+    (b"a:7\n", None),
+    (b"\n#a:x\n+a:7\n-a\n\nbuild:007\n", None),
+    (b"a:x:7", Some(1)),
+    (b"a:7:", Some(1)),
+    (b"a:7:7:", Some(1)),
+    (b"a:x:7:7:::", Some(1)),
+    (b"a:", Some(1)),
+    (b":7", Some(1)),
+    (b":", Some(1)),
+    (b"a", Some(1)),
+    (b"7:a", Some(1)),
+    (b"a:0\n#\nb:8\na:+7\n", Some(4)),
+    (b"a:4294967295", None),
+    (b"a:4294967296", Some(1)),
+    (b"a:00000000000000000000000000000007", None),
+    (b"a: 7", Some(1)),
+    (b"a:7 ", Some(1)),
+    (b"a:7\r\n", Some(1)),
+    (b"a b:7", Some(1)),
+    (b"a\x7f:7", Some(1)),
+    (b"!~\xff:7", None),
+];
+
+#[test]
+fn the_first_bad_line_of_projects_is_named(rt: HostRuntime) {
+    expect_bad_lines(&rt, rt.alloc(), Kind::Project, LINES_OF_PROJECTS);
+}
+
 /// A line whose name has this many bytes: what is behind the name, and how many bytes the name of identifier 7 has then,
 /// or why the line is refused.
 type LongRow = (usize, &'static [u8], Kind, Result<usize, NamesFault>);
@@ -145,8 +177,10 @@ type LongRow = (usize, &'static [u8], Kind, Result<usize, NamesFault>);
 const LONG_NAMES: &[LongRow] = &[
     (255, b":x:7:7:::", Kind::User, Ok(255)),
     (255, b":x:7:", Kind::Group, Ok(255)),
+    (255, b":7", Kind::Project, Ok(255)),
     (256, b":x:7:7:::", Kind::User, Err(NamesFault::BadLine(1))),
     (256, b":x:7:", Kind::Group, Err(NamesFault::BadLine(1))),
+    (256, b":7", Kind::Project, Err(NamesFault::BadLine(1))),
 ];
 
 /// Expects each line to be read or refused as its row says.

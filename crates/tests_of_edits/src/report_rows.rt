@@ -243,30 +243,40 @@ fn the_first_name_of_an_identifier_is_shown_else_its_number(rt: HostRuntime) {
     expect_names(&rt, rt.alloc(), NAMED);
 }
 
-/// The longest name, and the record whose columns are the widest with `-p`: 421 bytes in all.
-const WIDEST: Report = Report {
-    kind: Kind::Group,
-    names: b":x:7:",
-    longer: 255,
-    entry: Entry {
-        id: 7,
-        rec: Rec {
-            ihard: u64::MAX,
-            isoft: u64::MAX - 1,
-            inodes: u64::MAX,
-            bhard: u64::MAX,
-            bsoft: 18_014_398_509_481_983,
-            space: u64::MAX,
-            btime: u64::MAX,
-            itime: u64::MAX,
-        },
-    },
-    now: 1_700_000_000,
-    options: RAW,
-    line: " ++ 18014398509481984 18014398509481983 18446744073709551615 18446744073709551615 18446744073709551615 18446744073709551614 18446744073709551615 18446744073709551615\n",
+/// The record whose columns are the widest with `-p`.
+const WIDEST: Rec = Rec {
+    ihard: u64::MAX,
+    isoft: u64::MAX - 1,
+    inodes: u64::MAX,
+    bhard: u64::MAX,
+    bsoft: 18_014_398_509_481_983,
+    space: u64::MAX,
+    btime: u64::MAX,
+    itime: u64::MAX,
 };
+
+/// A kind, and the line of names whose name is the longest, behind that name.
+type LongestRow = (Kind, &'static [u8]);
+
+/// Expects each report to have a line of 421 bytes.
+fn expect_longest(rt: &impl Abort, alloc: Global, rows: &[LongestRow]) {
+    for (kind, names) in rows {
+        let wanted = Report {
+            kind: *kind,
+            names,
+            longer: 255,
+            entry: Entry { id: 7, rec: WIDEST },
+            now: 1_700_000_000,
+            options: RAW,
+            line: " ++ 18014398509481984 18014398509481983 18446744073709551615 18446744073709551615 18446744073709551615 18446744073709551614 18446744073709551615 18446744073709551615\n",
+        };
+        expect_report(rt, alloc, &wanted);
+    }
+}
+
+const LONGEST: &[LongestRow] = &[(Kind::Group, b":x:7:"), (Kind::Project, b":7")];
 
 #[test]
 fn the_longest_line_is_made_whole(rt: HostRuntime) {
-    expect_report(&rt, rt.alloc(), &WIDEST);
+    expect_longest(&rt, rt.alloc(), LONGEST);
 }

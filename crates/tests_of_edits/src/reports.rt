@@ -36,6 +36,7 @@ fn is_report(text: &[u8], wanted: &Report) -> bool {
     let head = match wanted.kind {
         Kind::User => HEAD_OF_USERS,
         Kind::Group => HEAD_OF_GROUPS,
+        Kind::Project => HEAD_OF_PROJECTS,
     };
     let behind = text.get(head.len()..).unwrap_or(b"");
     let line = behind.get(wanted.longer..).unwrap_or(b"");
@@ -96,6 +97,12 @@ User                  used       soft       hard  grace    files     soft     ha
 const HEAD_OF_GROUPS: &str = "*** Report for group quotas on f
 Block grace time: 49710days; Inode grace time: 00:01
 Group                 used       soft       hard  grace    files     soft     hard  grace
+-----------------------------------------------------------------------------------------
+";
+
+const HEAD_OF_PROJECTS: &str = "*** Report for project quotas on f
+Block grace time: 49710days; Inode grace time: 00:01
+Project               used       soft       hard  grace    files     soft     hard  grace
 -----------------------------------------------------------------------------------------
 ";
 

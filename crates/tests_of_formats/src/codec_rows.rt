@@ -31,11 +31,13 @@ type HeaderRow = (usize, u8, Kind, Result<Header, HeaderFault>);
 const HEADERS: &[HeaderRow] = &[
     (4, 1, Kind::User, Ok(EMPTY_HEADER)),
     (4, 1, Kind::Group, Err(HeaderFault::WrongKind)),
+    (4, 1, Kind::Project, Err(HeaderFault::WrongKind)),
     (4, 0, Kind::User, Ok(Header { format: Format::V2R0, ..EMPTY_HEADER })),
     (4, 2, Kind::User, Err(HeaderFault::UnknownVersion)),
     (7, 1, Kind::User, Err(HeaderFault::UnknownVersion)),
     (4, 2, Kind::Group, Err(HeaderFault::WrongKind)),
     (3, 0, Kind::User, Err(HeaderFault::NotQuota)),
+    (0, 0x14, Kind::Project, Err(HeaderFault::NotQuota)),
     (20, 1, Kind::User, Err(HeaderFault::BadBlockCount)),
 ];
 
@@ -90,6 +92,56 @@ fn expect_written_header(rt: &impl Abort, header: &Header, want: &[u8; 1024]) {
 #[test]
 fn writes_a_header_and_leaves_the_other_bytes(rt: HostRuntime) {
     expect_written_header(&rt, &EMPTY_HEADER, &block_of(4, 1, 0xff));
+}
+
+/// The kinds, each with the first bytes of its files.
+const MAGICS: &[(Kind, [u8; 4])] = &[
+    (Kind::User, [0x11, 0x1f, 0xc0, 0xd9]),
+    (Kind::Group, [0x27, 0x19, 0xc0, 0xd9]),
+    (Kind::Project, [0x14, 0x3f, 0xc0, 0xd9]),
+];
+
+/// An empty file of a kind with these first bytes, in a block of 255s.
+fn block_from(magic: [u8; 4]) -> [u8; 1024] {
+    let mut block = block_of(4, 1, 0xff);
+    block[..4].copy_from_slice(&magic);
+    block
+}
+
+/// The header of an empty file of a kind.
+fn header_of(kind: Kind) -> Header {
+    Header {
+        kind,
+        ..EMPTY_HEADER
+    }
+}
+
+/// Whether a file of a kind is read as one of this kind, and refused as one of another kind.
+fn is_read_as(block: &[u8; 1024], kind: Kind, wanted: Kind) -> bool {
+    let want = if kind == wanted {
+        Ok(header_of(kind))
+    } else {
+        Err(HeaderFault::WrongKind)
+    };
+    read_header(block, wanted) == want
+}
+
+fn expect_magics(rt: &impl Abort, rows: &[(Kind, [u8; 4])]) {
+    for (kind, magic) in rows {
+        let block = block_from(*magic);
+        expect_written_header(rt, &header_of(*kind), &block);
+        for (wanted, _) in rows {
+            assert!(rt;
+                is_read_as(&block, *kind, *wanted),
+                "{kind:?} as {wanted:?}"
+            );
+        }
+    }
+}
+
+#[test]
+fn a_file_begins_with_the_magic_number_of_its_kind_alone(rt: HostRuntime) {
+    expect_magics(&rt, MAGICS);
 }
 
 const ZEROS: Rec = Rec {

@@ -65,6 +65,8 @@ pub(crate) enum Made {
     Narrow,
     /// `LIST` and flags 5 in vfsv1, of users.
     Wide,
+    /// `LIST` and flags 5 in vfsv1, of projects.
+    OfProjects,
     /// `LIST` and flags 5 in vfsv1, of users, with at most 6 blocks.
     WideInSix,
     /// `NULLS` in vfsv0, of groups.
@@ -107,6 +109,20 @@ pub(crate) fn make(alloc: Global, store: &mut MemStore, made: Made) -> Result<()
         Made::Flat => replace_file(alloc, store, "q", Format::V1, user, PERIODS, 5, &LIST, 0),
         Made::Narrow => replace_file(alloc, store, "q", Format::V2R0, user, PERIODS, 5, &LIST, 7),
         Made::Wide => replace_file(alloc, store, "q", Format::V2R1, user, PERIODS, 5, &LIST, 7),
+        Made::OfProjects => {
+            let project = Kind::Project;
+            replace_file(
+                alloc,
+                store,
+                "q",
+                Format::V2R1,
+                project,
+                PERIODS,
+                5,
+                &LIST,
+                7,
+            )
+        }
         Made::WideInSix => {
             replace_file(alloc, store, "q", Format::V2R1, user, PERIODS, 5, &LIST, 6)
         }

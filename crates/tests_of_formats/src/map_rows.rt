@@ -40,6 +40,8 @@ const STORIES: &[Story] = &[
         limit: None, openings: &[NARROW, WRITTEN, CHANGES, CHANGED, NARROW] },
     Story { title: "vfsv1", made: Made::Wide, failing: &[], kind: Kind::User, format: Some(Format::V2R1), limit: None,
         openings: &[WIDE, WRITTEN, CHANGES, CHANGED, WIDE] },
+    Story { title: "vfsv1 of projects", made: Made::OfProjects, failing: &[], kind: Kind::Project, format: None,
+        limit: None, openings: &[WIDE, WRITTEN, CHANGES, CHANGED, WIDE] },
     Story { title: "null records of a tree file are read", made: Made::Nulls, failing: &[], kind: Kind::Group,
         format: None, limit: None, openings: &[&[Step::All(&NULLS)]] },
 ];
@@ -104,6 +106,13 @@ const OTHER_FORMAT: OpenFault = OpenFault::FormatMismatch {
 const OPENED: &[OpenRow] = &[
     (Made::Wide, "q", Kind::Group, None, Err(OpenFault::WrongKind)),
     (Made::Wide, "q", Kind::Group, Some(Format::V2R0), Err(OpenFault::WrongKind)),
+    (Made::Wide, "q", Kind::Project, None, Err(OpenFault::WrongKind)),
+    (Made::OfProjects, "q", Kind::Project, None, Ok(Format::V2R1)),
+    (Made::OfProjects, "q", Kind::Project, Some(Format::V2R1), Ok(Format::V2R1)),
+    (Made::OfProjects, "q", Kind::Project, Some(Format::V2R0), Err(OTHER_FORMAT)),
+    (Made::OfProjects, "q", Kind::Group, None, Err(OpenFault::WrongKind)),
+    (Made::OfProjects, "q", Kind::User, Some(Format::V2R1), Err(OpenFault::WrongKind)),
+    (Made::Nulls, "q", Kind::Project, None, Err(OpenFault::WrongKind)),
     (Made::Wide, "q", Kind::User, Some(Format::V2R0), Err(OTHER_FORMAT)),
     (Made::Wide, "q", Kind::User, Some(Format::V1), Err(PARTIAL)),
     (Made::Wide, "q", Kind::User, None, Ok(Format::V2R1)),
@@ -112,6 +121,8 @@ const OPENED: &[OpenRow] = &[
     (Made::Wide, "r", Kind::User, Some(Format::V2R0), Err(OpenFault::NoFile)),
     (Made::Flat, "q", Kind::User, None, Err(OpenFault::NotQuota)),
     (Made::Flat, "q", Kind::Group, Some(Format::V1), Ok(Format::V1)),
+    (Made::Flat, "q", Kind::Project, Some(Format::V1), Ok(Format::V1)),
+    (Made::Flat, "q", Kind::Project, None, Err(OpenFault::NotQuota)),
 ];
 
 fn is_opened(alloc: Global, row: &OpenRow) -> bool {

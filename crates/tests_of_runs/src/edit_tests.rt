@@ -1,7 +1,7 @@
 use crate::playing::play;
 use tests_edit_stories::{
-    applied, batches, edits, ended_batches, failing_together, forms, limits, refused_bounds,
-    refused_forms, refused_lines, stops, together, together_bounds,
+    applied, batches, edits, ended_batches, failing_together, forms, limits, projects,
+    refused_bounds, refused_forms, refused_lines, stops, together, together_bounds,
 };
 use tests_story_player::FILES;
 
@@ -38,6 +38,16 @@ fn times_are_set(rt: HostRuntime) {
 #[test]
 fn an_edit_is_refused_by_its_first_fault(rt: HostRuntime) {
     play(&rt, rt.alloc(), &[FILES, edits::REFUSED]);
+}
+
+#[test]
+fn files_of_projects_are_edited(rt: HostRuntime) {
+    play(&rt, rt.alloc(), &[FILES, projects::EDITED]);
+}
+
+#[test]
+fn edits_of_projects_are_refused(rt: HostRuntime) {
+    play(&rt, rt.alloc(), &[FILES, projects::REFUSED]);
 }
 
 #[test]

@@ -1,7 +1,7 @@
 use crate::playing::play;
 use tests_file_stories::{
-    calls, checked, conversions, ended_checks, generated, names, new_files, refused_conversions,
-    refused_listings, reports, served, summed, trees, turned,
+    calls, checked, conversions, ended_checks, generated, names, new_files, projects,
+    refused_conversions, refused_listings, reports, served, summed, trees, turned,
 };
 use tests_story_player::FILES;
 
@@ -113,6 +113,26 @@ fn the_first_value_without_room_is_told(rt: HostRuntime) {
 #[test]
 fn conversions_are_refused_and_calls_fail(rt: HostRuntime) {
     play(&rt, rt.alloc(), &[FILES, refused_conversions::REFUSED]);
+}
+
+#[test]
+fn listings_tell_of_projects(rt: HostRuntime) {
+    play(&rt, rt.alloc(), &[FILES, projects::LISTED]);
+}
+
+#[test]
+fn projects_have_names(rt: HostRuntime) {
+    play(&rt, rt.alloc(), &[FILES, projects::NAMED]);
+}
+
+#[test]
+fn files_of_each_kind_are_none_of_another_one(rt: HostRuntime) {
+    play(&rt, rt.alloc(), &[FILES, projects::OPENED]);
+}
+
+#[test]
+fn calls_for_projects_are_answered(rt: HostRuntime) {
+    play(&rt, rt.alloc(), &[FILES, projects::SERVED]);
 }
 
 #[test]

@@ -12,11 +12,19 @@ const NOW: u64 = 1_700_000_000;
 
 const FORMATS: [Format; 3] = [Format::V1, Format::V2R0, Format::V2R1];
 
-/// What is exported where a row says `users`, and where it says `both`.
+/// What is exported where a row says `users`, where it says `both`, `projects` or `all`.
 const USERS: &[Told] = &[("/home", Kind::User, "q")];
 
 const BOTH: &[Told] = &[
     ("/srv", Kind::User, "q"),
+    ("/home", Kind::Group, "g"),
+    ("/home", Kind::User, "q"),
+];
+
+const PROJECTS: &[Told] = &[("/home", Kind::Project, "p")];
+
+const ALL: &[Told] = &[
+    ("/home", Kind::Project, "p"),
     ("/home", Kind::Group, "g"),
     ("/home", Kind::User, "q"),
 ];
@@ -81,6 +89,8 @@ fn does(alloc: Global, stage: &mut Stage, line: &str) -> Result<bool, AllocError
     match verb {
         "users" => stage.told = USERS,
         "both" => stage.told = BOTH,
+        "projects" => stage.told = PROJECTS,
+        "all" => stage.told = ALL,
         "call" => stage.datagram = bytes_of(alloc, rest)?,
         "silent" => return Ok(is_answered_in_all(alloc, stage.told, &stage.datagram, None)),
         "reply" => {
@@ -176,11 +186,11 @@ reply 1 1 0 0 0 0 3
 call 1 0 2 100011 2 1 1 24 0 'h 1000 1000 0 0 0 '/home 1 5
 reply 1 1 0 0 0 0 3
 both
-= a type beyond 1 is not exported
-call 1 0 2 100011 2 1 1 24 0 'h 1000 1000 0 0 0 '/home 2 1000
+= a type above 2 is not exported
+call 1 0 2 100011 2 1 1 24 0 'h 1000 1000 0 0 0 '/home 3 1000
 reply 1 1 0 0 0 0 2
-= a type beyond 1 is not exported, whoever asks
-call 1 0 2 100011 2 1 1 24 0 'h 1000 1000 0 0 0 '/home 2 5
+= a type above 2 is not exported, whoever asks
+call 1 0 2 100011 2 1 1 24 0 'h 1000 1000 0 0 0 '/home 3 5
 reply 1 1 0 0 0 0 2
 = a path and kind among several
 call 1 0 2 100011 2 1 1 24 0 'h 1000 1000 0 0 0 '/home 0 1000
@@ -199,6 +209,81 @@ call 1 0 2 100011 2 1 1 24 0 'h 100 200 0 0 0 '/home 1 100
 reply 1 1 0 0 0 0 3
 = a group is no user
 call 1 0 2 100011 2 1 1 28 0 'h 7 1000 1 1000 0 0 '/home 0 1000
+reply 1 1 0 0 0 0 3
+";
+
+const OF_PROJECTS: &str = "
+all
+= the superuser is told of a project
+call 1 0 2 100011 2 1 1 24 0 'h 0 0 0 0 0 '/home 2 7
+reply 1 1 0 0 0 0 1 1024 1 80 40 9 6 5 3 0 0
+= the active quota of a project is told alike
+call 1 0 2 100011 2 2 1 24 0 'h 0 0 0 0 0 '/home 2 7
+reply 1 1 0 0 0 0 1 1024 1 80 40 9 6 5 3 0 0
+= the superuser is told of an absent project, though a user has its number
+call 1 0 2 100011 2 1 1 24 0 'h 0 0 0 0 0 '/home 2 1000
+reply 1 1 0 0 0 0 1 1024 1 0 0 0 0 0 0 0 0
+= a uid is no project
+call 1 0 2 100011 2 1 1 24 0 'h 7 1000 0 0 0 '/home 2 7
+reply 1 1 0 0 0 0 3
+= a first group is no project
+call 1 0 2 100011 2 1 1 24 0 'h 1000 7 0 0 0 '/home 2 7
+reply 1 1 0 0 0 0 3
+= a further group is no project
+call 1 0 2 100011 2 1 1 32 0 'h 1000 1000 2 8 7 0 0 '/home 2 7
+reply 1 1 0 0 0 0 3
+= who has none of its numbers is denied
+call 1 0 2 100011 2 1 1 24 0 'h 1000 1000 0 0 0 '/home 2 7
+reply 1 1 0 0 0 0 3
+= a member of group 0 is no superuser
+call 1 0 2 100011 2 1 1 28 0 'h 1000 0 1 0 0 0 '/home 2 7
+reply 1 1 0 0 0 0 3
+= the group of that number is another one
+call 1 0 2 100011 2 1 1 24 0 'h 7 7 0 0 0 '/home 1 7
+reply 1 1 0 0 0 0 1 1024 1 0 0 0 0 0 0 0 0
+= and so is the user
+call 1 0 2 100011 2 1 1 24 0 'h 7 7 0 0 0 '/home 0 7
+reply 1 1 0 0 0 0 1 1024 1 0 0 0 0 0 0 0 0
+= the user beside the project is told
+call 1 0 2 100011 2 1 1 24 0 'h 1000 1000 0 0 0 '/home 0 1000
+reply 1 1 0 0 0 0 1 1024 1 200 100 4 20 10 1 0 0
+= version 1 asks for users alone
+call 1 0 2 100011 1 1 1 24 0 'h 0 0 0 0 0 '/home 7
+reply 1 1 0 0 0 0 1 1024 1 0 0 0 0 0 0 0 0
+= type 3 is not exported
+call 1 0 2 100011 2 1 1 24 0 'h 0 0 0 0 0 '/home 3 7
+reply 1 1 0 0 0 0 2
+= the greatest type is not exported
+call 1 0 2 100011 2 1 1 24 0 'h 0 0 0 0 0 '/home 4294967295 7
+reply 1 1 0 0 0 0 2
+= limits of a project are set by no call
+call 1 0 2 100011 2 3 1 24 0 'h 0 0 0 0 0 2 '/home 7 0 0 0 0 0 0 0 0 0
+reply 1 1 0 0 0 0 3
+both
+= projects that are not exported are none
+call 1 0 2 100011 2 1 1 24 0 'h 0 0 0 0 0 '/home 2 7
+reply 1 1 0 0 0 0 2
+= who may not ask does not learn that no projects are exported
+call 1 0 2 100011 2 1 1 24 0 'h 7 7 0 0 0 '/home 2 7
+reply 1 1 0 0 0 0 3
+projects
+= a path of projects is told of
+call 1 0 2 100011 2 1 1 24 0 'h 0 0 0 0 0 '/home 2 7
+reply 1 1 0 0 0 0 1 1024 1 80 40 9 6 5 3 0 0
+= a path of projects is none of users
+call 1 0 2 100011 2 1 1 24 0 'h 0 0 0 0 0 '/home 0 7
+reply 1 1 0 0 0 0 2
+= a path of projects is none of groups
+call 1 0 2 100011 2 1 1 24 0 'h 0 0 0 0 0 '/home 1 7
+reply 1 1 0 0 0 0 2
+= and none to version 1
+call 1 0 2 100011 1 1 1 24 0 'h 0 0 0 0 0 '/home 7
+reply 1 1 0 0 0 0 2
+= another path is not exported
+call 1 0 2 100011 2 1 1 24 0 'h 0 0 0 0 0 '/homf 2 7
+reply 1 1 0 0 0 0 2
+= who may not ask does not learn that a path is not exported for projects
+call 1 0 2 100011 2 1 1 24 0 'h 7 7 0 0 0 '/homf 2 7
 reply 1 1 0 0 0 0 3
 ";
 
@@ -241,6 +326,11 @@ fn calls_get_their_replies(rt: HostRuntime) {
 #[test]
 fn owners_are_told_and_others_denied(rt: HostRuntime) {
     play(&rt, rt.alloc(), OWNERS);
+}
+
+#[test]
+fn the_superuser_alone_is_told_of_projects(rt: HostRuntime) {
+    play(&rt, rt.alloc(), OF_PROJECTS);
 }
 
 #[test]

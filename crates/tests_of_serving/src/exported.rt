@@ -36,21 +36,37 @@ pub(crate) const GROUP: Rec = Rec {
     itime: 1_700_000_000,
 };
 
+/// The record of project 7 in the file `p`.
+pub(crate) const PROJECT: Rec = Rec {
+    ihard: 6,
+    isoft: 5,
+    inodes: 3,
+    bhard: 80,
+    bsoft: 40,
+    space: 9216,
+    btime: 0,
+    itime: 0,
+};
+
 /// The bytes of a file of a kind with one entry, or None where it can't be made.
 fn file_of(alloc: Global, kind: Kind, format: Format, id: u32, rec: Rec) -> Option<Vec<u8>> {
     let store = listed(alloc, kind, format, GRACE, &[Entry { id, rec }])?;
     Vec::from_slice(alloc, store.file("q")?).ok()
 }
 
-/// A store with the files `q` of users and `g` of groups, of one format, whose calls fail that `failing` names.
+/// A store with the files `q` of users, `g` of groups and `p` of projects, of one format, whose calls fail that `failing`
+/// names.
 pub(crate) fn store_with(alloc: Global, format: Format, failing: &[u64]) -> Option<MemStore> {
     let users = file_of(alloc, Kind::User, format, 1000, USER)?;
     let groups = file_of(alloc, Kind::Group, format, 100, GROUP)?;
+    let projects = file_of(alloc, Kind::Project, format, 7, PROJECT)?;
     let mut files = Vec::new(alloc);
     let name = String::from_str(alloc, "q").ok()?;
     files.push((name, users)).ok()?;
     let name = String::from_str(alloc, "g").ok()?;
     files.push((name, groups)).ok()?;
+    let name = String::from_str(alloc, "p").ok()?;
+    files.push((name, projects)).ok()?;
     Some(MemStore::new(files, Vec::from_slice(alloc, failing).ok()?))
 }
 

@@ -63,7 +63,7 @@ fn said_by(file: &TreeFile) -> Said {
     (format, grace, file.flags())
 }
 
-/// Openings. In each of the first six refused ones another refusal would hold too, if the one didn't come first.
+/// Openings. In each of the first eight refused ones another refusal would hold too, if the one didn't come first.
 const OPENED: &[OpenRow] = &[
     OpenRow {
         title: "six blocks",
@@ -93,6 +93,40 @@ const OPENED: &[OpenRow] = &[
     OpenRow {
         title: "a file of another kind",
         file: (6144, &[&[(VERSION, 7)]]),
+        name: "q",
+        kind: Kind::Group,
+        format: None,
+        limit: 6,
+        answer: Err(OpenFault::WrongKind),
+    },
+    OpenRow {
+        title: "a file of users is none of projects",
+        file: (6144, &[&[(VERSION, 7)]]),
+        name: "q",
+        kind: Kind::Project,
+        format: None,
+        limit: 6,
+        answer: Err(OpenFault::WrongKind),
+    },
+    OpenRow {
+        title: "a file of projects",
+        file: (6144, &[&[(MAGIC, 0xd9c0_3f14)]]),
+        name: "q",
+        kind: Kind::Project,
+        format: None,
+        limit: 6,
+        answer: Ok((
+            Format::V2R1,
+            Grace {
+                block: 604_800,
+                inode: 604_800,
+            },
+            0,
+        )),
+    },
+    OpenRow {
+        title: "a file of projects is none of groups",
+        file: (6144, &[&[(MAGIC, 0xd9c0_3f14), (VERSION, 7)]]),
         name: "q",
         kind: Kind::Group,
         format: None,

@@ -25,7 +25,21 @@ const COMMANDS: &[Row] = &[
     ("quotacheck -u -c --device 7 --input l -F vfsv0 q", "check User Some(V2R0) - c Some(7) l q"),
     ("convertquota -f vfsold,vfsv1 a b", "convert User V1 V2R1 a b"),
     ("convertquota -g -f vfsv0,vfsold a b", "convert Group V2R0 V1 a b"),
+    ("repquota -P -v -n -p -F vfsv1 --names n q", "report Project Some(V2R1) n vnp q"),
+    ("setquota -P --names n a 1 2 3 4 q", "limits Project None n a 1 2 3 4 q"),
+    ("setquota -P -p b a q", "copy Project None - b a q"),
+    ("setquota -P -b q", "batch Project None - - q"),
+    ("setquota -P -t 1 2 q", "grace Project None - 1 2 q"),
+    ("setquota -P -T a 1 unset q", "times Project None - a 1 unset q"),
+    ("edquota -P --print a q", "print Project None - a q"),
+    ("edquota -P --apply --input l a q", "apply Project None - l a q"),
+    ("quotacheck -P -c --device 7 --input l -F vfsv0 q", "check Project Some(V2R0) - c Some(7) l q"),
+    ("convertquota -P -f vfsv0,vfsv1 a b", "convert Project V2R0 V2R1 a b"),
     ("rquotad --calls 1 --port 0 --export /home user q", "serve None 1 0 /home User q"),
+    (
+        "rquotad --format vfsv1 --calls 1 --port 0 --export /home project p --export /home group g --export /home user q",
+        "serve Some(V2R1) 1 0 /home Project p /home Group g /home User q",
+    ),
     (
         "rquotad --format vfsv0 --export /a user q --export /a group r --port 65535 --calls 4294967295",
         "serve Some(V2R0) 4294967295 65535 /a User q /a Group r",
@@ -39,6 +53,9 @@ const COMMANDS: &[Row] = &[
 #[rattlefmt::skip]
 const SPLIT: &[Row] = &[
     ("repquota -uvnp q", "report User None - vnp q"),
+    ("repquota -nPv q", "report Project None - vn- q"),
+    ("repquota -P -P q", "report Project None - --- q"),
+    ("repquota q -PFvfsv0", "report Project Some(V2R0) - --- q"),
     ("repquota -vFvfsv0 q", "report User Some(V2R0) - v-- q"),
     ("repquota -Fvfsv0 q", "report User Some(V2R0) - --- q"),
     ("repquota -vF vfsv0 q", "report User Some(V2R0) - v-- q"),
@@ -53,6 +70,9 @@ const SPLIT: &[Row] = &[
     ("setquota -p -g a q", "copy User None - -g a q"),
     ("setquota -p-g a q", "copy User None - -g a q"),
     ("setquota -bg --input=l q", "batch Group None - l q"),
+    ("setquota -Pb --input=l q", "batch Project None - l q"),
+    ("setquota -p-P a q", "copy User None - -P a q"),
+    ("setquota -PpP a q", "copy Project None - P a q"),
     ("setquota -- -1 2 3 4 5 q", "limits User None - -1 2 3 4 5 q"),
     ("setquota 1 - 3 4 5 q", "limits User None - 1 - 3 4 5 q"),
     ("rquotad --calls=1 --port=9 --export -a user q", "serve None 1 9 -a User q"),
@@ -72,6 +92,14 @@ const IN_SCRIPT: &[Row] = &[
     ("setquota -b --input l q", "batch User None - l q"),
     ("edquota --print a q", "print User None - a q"),
     ("repquota q", "report User None - --- q"),
+    ("repquota -P q", "report Project None - --- q"),
+    ("repquota -gP q", "Excludes at 3"),
+    ("repquota -P -F vfsold q", "Excludes at 5"),
+    ("setquota -P -F vfsold -b q", "Excludes at 6"),
+    ("setquota -P -b q", "MissingOption at 4"),
+    ("edquota -P --apply a q", "MissingOption at 5"),
+    ("quotacheck -Pc q", "MissingOption at 3"),
+    ("rquotad --format vfsold --export /a project q", "Excludes at 7"),
     ("generate 0 1 q", "generate 0 1 q"),
 ];
 
@@ -134,6 +162,11 @@ const OPTIONS: &[Row] = &[
     ("setquota --apply a q", "UnknownOption at 1"),
     ("rquotad --export=/a user q", "UnknownOption at 1"),
     ("script -v", "UnknownOption at 1"),
+    ("repquota --project q", "UnknownOption at 1"),
+    ("repquota -P=1 q", "UnknownOption at 1"),
+    ("rquotad -P", "UnknownOption at 1"),
+    ("generate -P 0 1 q", "UnknownOption at 1"),
+    ("repquota -gP -x q", "UnknownOption at 2"),
     ("repquota --names", "MissingValue at 1"),
     ("repquota -vF", "MissingValue at 1"),
     ("repquota -F vfsv0 -F", "MissingValue at 3"),
@@ -153,7 +186,12 @@ const VALUES: &[Row] = &[
     ("rquotad --calls 0 --port 1", "BadValue at 1"),
     ("rquotad --calls 4294967296", "BadValue at 1"),
     ("rquotad --calls 1 --port 65536", "BadValue at 3"),
+    ("rquotad --export /a project q --export /a project r.new", "Repeated at 5"),
+    ("rquotad --export /a project q --export /a group r --export /a project r", "Repeated at 9"),
     ("rquotad --export /a users q.new", "BadValue at 1"),
+    ("rquotad --export /a projects q", "BadValue at 1"),
+    ("rquotad --export /a Project q", "BadValue at 1"),
+    ("repquota -FPvfsv0 q", "BadValue at 1"),
     ("rquotad --export  user q", "BadValue at 1"),
     ("quotacheck --device 18446744073709551616 q", "BadValue at 1"),
     ("quotacheck --device 000000000000000000001 q", "BadValue at 1"),
@@ -170,19 +208,73 @@ const VALUES: &[Row] = &[
 const TOGETHER: &[Row] = &[
     ("repquota -u -g q", "Excludes at 4"),
     ("repquota -u -g", "Excludes at 3"),
+    ("repquota -uP q", "Excludes at 3"),
+    ("repquota -gP q", "Excludes at 3"),
+    ("repquota -ugP q", "Excludes at 3"),
+    ("repquota -P q -g", "Excludes at 4"),
+    ("setquota -u -P a 1 2 3 4 q", "Excludes at 9"),
+    ("setquota -P -g a 1 2 3 4 q", "Excludes at 9"),
+    ("edquota -uP --print a q", "Excludes at 5"),
+    ("edquota -Pg --print a q", "Excludes at 5"),
+    ("quotacheck -P -u -c q", "Excludes at 5"),
+    ("quotacheck -gP q", "Excludes at 3"),
+    ("convertquota -uP -f vfsv0,vfsv1 a b", "Excludes at 6"),
+    ("convertquota -g -P -f vfsv0,vfsv1 a b", "Excludes at 7"),
+    ("convertquota -uP a b", "Excludes at 4"),
     ("setquota -b -t q", "Excludes at 4"),
     ("setquota -p x -T a q", "Excludes at 6"),
     ("setquota --input l a 1 2 3 4 q", "Excludes at 9"),
     ("setquota --input l -t 1 2 q", "Excludes at 7"),
     ("edquota --print --apply a q", "Excludes at 5"),
     ("edquota --print --input l a q", "Excludes at 6"),
+    ("setquota -P -b -t q", "Excludes at 5"),
+    ("edquota -P --print --apply a q", "Excludes at 6"),
+    ("setquota -P --input l a 1 2 3 4 q", "Excludes at 10"),
     ("edquota --input l a q", "MissingOption at 5"),
     ("edquota a q", "MissingOption at 3"),
+    ("edquota -P a q", "MissingOption at 4"),
     ("convertquota a b", "MissingOption at 3"),
+    ("convertquota -P a b", "MissingOption at 4"),
     ("rquotad", "MissingOption at 1"),
     ("rquotad --calls 1 --port 1", "MissingOption at 5"),
     ("rquotad --calls 1 --export /a user q", "MissingOption at 7"),
     ("rquotad --port 1 --export /a user q x", "MissingOption at 8"),
+];
+
+/// Flat files are none of projects.
+#[rattlefmt::skip]
+const FLAT_PROJECTS: &[Row] = &[
+    ("repquota -P -F vfsold q", "Excludes at 5"),
+    ("repquota -F vfsold -P q", "Excludes at 5"),
+    ("repquota -PFvfsold q", "Excludes at 3"),
+    ("repquota -P -F vfsold", "Excludes at 4"),
+    ("setquota -P -F vfsold a 1 2 3 4 q", "Excludes at 10"),
+    ("setquota -P -F vfsold -p b a q", "Excludes at 8"),
+    ("setquota -P -F vfsold -b q", "Excludes at 6"),
+    ("setquota -P -F vfsold -t 1 2 q", "Excludes at 8"),
+    ("setquota -P -F vfsold -T a 1 2 q", "Excludes at 9"),
+    ("edquota -P -F vfsold --print a q", "Excludes at 7"),
+    ("edquota -P -F vfsold --apply a q", "Excludes at 7"),
+    ("edquota -P -F vfsold a q", "Excludes at 6"),
+    ("quotacheck -P -c -F vfsold q", "Excludes at 6"),
+    ("quotacheck -P -F vfsold q", "Excludes at 5"),
+    ("convertquota -P -f vfsold,vfsv1 a b", "Excludes at 6"),
+    ("convertquota -P -f vfsv0,vfsold a b", "Excludes at 6"),
+    ("convertquota -f vfsold,vfsold -P a b", "Excludes at 6"),
+    ("convertquota -P -f vfsv0,vfsv0 a b", "convert Project V2R0 V2R0 a b"),
+    ("rquotad --format vfsold --calls 1 --port 0 --export /h project q", "Excludes at 11"),
+    ("rquotad --calls 1 --port 0 --export /h project q --format vfsold", "Excludes at 11"),
+    ("rquotad --format vfsold --calls 1 --port 0 --export /h user q --export /h project p", "Excludes at 15"),
+    ("rquotad --format vfsold --calls 1 --port 0 --export /h project p --export /h group g", "Excludes at 15"),
+    ("rquotad --format vfsold --export /h project q", "Excludes at 7"),
+    (
+        "rquotad --format vfsold --calls 1 --port 0 --export project user q",
+        "serve Some(V1) 1 0 project User q",
+    ),
+    (
+        "rquotad --format vfsv0 --calls 1 --port 0 --export /h project q",
+        "serve Some(V2R0) 1 0 /h Project q",
+    ),
 ];
 
 /// Operands are checked last.
@@ -264,6 +356,7 @@ fn the_first_fault_of_words_is_named(rt: HostRuntime) {
     expect(&rt, rt.alloc(), OPTIONS, false);
     expect(&rt, rt.alloc(), VALUES, false);
     expect(&rt, rt.alloc(), TOGETHER, false);
+    expect(&rt, rt.alloc(), FLAT_PROJECTS, false);
     expect(&rt, rt.alloc(), OPERANDS, false);
 }
 

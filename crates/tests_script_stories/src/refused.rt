@@ -77,6 +77,33 @@ run script
 status 2
 ! quota: line 1: usage: BadValue at word 2
 absent r
+text
+text repquota -P -F vfsold q
+input
+run script
+status 2
+! quota: line 2: usage: Excludes at word 5
+text convertquota -P -f vfsold,vfsv0 q r
+input
+run script
+status 2
+! quota: line 1: usage: Excludes at word 6
+absent r
+text rquotad --format vfsold --calls 1 --port 0 --export /home project q
+input
+run script
+status 2
+! quota: line 1: usage: Excludes at word 11
+text setquota -gP 9 1 2 0 0 q
+input
+run script
+status 2
+! quota: line 1: usage: Excludes at word 8
+text setquota -P -b q
+input
+run script
+status 2
+! quota: line 1: usage: MissingOption at word 4
 run repquota -v q
 head user q 7days 7days
 > #7           --          0          1          2      -        0        0        0      -
@@ -89,6 +116,14 @@ input
 run script
 status 3
 ! quota: line 1: q: wrong kind
+text repquota q
+text repquota -P q
+input
+run script
+status 3
+head user q 7days 7days
+> #1000        --          4          0          0      -        1        0        0      -
+! quota: line 2: q: wrong kind
 text repquota -F vfsv0 q
 input
 run script

@@ -74,6 +74,45 @@ head user q 24:00 01:00
 changes q
 same l form
 
+= each command of edits and files runs for projects in a script
+text build:7
+file names
+text 1000 7 2049 12 8
+file l
+text build 1 2 3 4
+text 9 5 6 7 8
+file m
+text Disk quotas for project #10 (pid 10):
+text   Filesystem blocks soft hard inodes soft hard
+text   q 0 5 6 0 7 8
+file form
+text quotacheck -P -c --input l q
+text setquota -P 7 2 8 0 0 q
+text repquota -P --names names q
+text setquota -P --names names -b --input m q
+text setquota -P -p 7 8 q
+text edquota -P --apply --input form 10 q
+text setquota -P -t 86400 3600 q
+text setquota -P -T 7 3600 unset q
+text edquota -P --print --names names build q
+text convertquota -P -f vfsv1,vfsv0 q r
+text repquota -Pvp -F vfsv0 r
+input
+run script
+! quota: line 8: inode time not set, soft limit not exceeded
+head project q 7days 7days
+> build        +-          4          2          8  7days        1        0        0      -
+> Disk quotas for project build (pid 7):
+>   Filesystem blocks soft hard inodes soft hard
+>   q 4 1 2 1 3 4
+head project r 24:00 01:00
+> #7           +-          4          1          2 1700003600        1        3        4      0
+> #8           --          0          1          2      0        0        3        4      0
+> #9           --          0          5          6      0        0        7        8      0
+> #10          --          0          5          6      0        0        7        8      0
+changes q r
+same names l m form
+
 = files that a line makes are those that the next ones read
 text 1000 100 2049 12 8
 file l

@@ -40,6 +40,31 @@ use told_later
 sent
 changes q
 
+= a line exports projects, and each datagram is answered out of the file as the lines before left it
+text 1000 7 2049 12 8
+file l
+hex 00000001 00000000 00000002 000186ab 00000002 00000001
+hex 00000001 00000018 00000000 00000001 68000000 00000000 00000000 00000000
+hex 00000000 00000000 00000005 2f686f6d 65000000 00000002 00000007
+keep root
+use root
+datagram 1700000000
+use root
+datagram 1700000001
+text quotacheck -P -c --input l q
+text rquotad --calls 1 --port 0 --export /home project q
+text setquota -P 7 100 200 10 20 q
+text rquotad --calls 1 --port 0 --export /home project q
+input
+run script
+hex 00000001 00000001 00000000 00000000 00000000 00000000 00000001
+hex 00000400 00000001 00000000 00000000 00000004 00000000 00000000 00000001 00000000 00000000
+sent
+use told
+sent
+changes q
+same l
+
 = a datagram that no line takes is not answered
 file q limited
 use call

@@ -8,14 +8,15 @@ pub(crate) fn head_of(alloc: Global, rest: &str) -> Result<String, Wrong> {
         return unmet(alloc, "a kind, a file and two periods are wanted");
     };
     let column = match *kind {
-        "user" => "User ",
-        "group" => "Group",
+        "user" => "User   ",
+        "group" => "Group  ",
+        "project" => "Project",
         _ => return unmet(alloc, "the kind is misspelt"),
     };
     Ok(format!(in alloc;
         "*** Report for {kind} quotas on {file}
 Block grace time: {block}; Inode grace time: {inode}
-{column}                 used       soft       hard  grace    files     soft     hard  grace
+{column}               used       soft       hard  grace    files     soft     hard  grace
 -----------------------------------------------------------------------------------------
 "
     )?)

@@ -9,17 +9,20 @@ use Rattle.entry_codec.specs.Header.{header_of, magic_of}
 use Rattle.entry_codec.specs.Spelling.{AreOf}
 use Rattle.quota_types.specs.declared.file_kind.Format.{Format}
 use Rattle.quota_types.specs.declared.file_kind.Kind.{Kind}
-use Rattle.quota_types.specs.declared.file_kind.Kind.TheVariants.{User, Group}
+use Rattle.quota_types.specs.declared.file_kind.Kind.TheVariants.{User, Group, Project}
 use Rattle.tree_meaning.specs.TreeFile.{TreeStandsFor, tree_record}
 
 -- the kind of a magic number
 kind_of_magic : ℕ → Option Kind
-kind_of_magic magic = if magic == magic_of User then Some User else if magic == magic_of Group then Some Group else None
+kind_of_magic magic =
+    if magic == magic_of User then Some User else if magic == magic_of Group then Some Group
+    else if magic == magic_of Project then Some Project else None
 
 kind_of_magic-magic : (kind : Kind) → kind_of_magic (magic_of kind) ≡ Some kind
 unfolding kind_of_magic
 kind_of_magic-magic User = refl
 kind_of_magic-magic Group = refl
+kind_of_magic-magic Project = refl
 
 -- a magic number is that of one kind
 pub same_kind : (kind other : Kind) → magic_of kind ≡ magic_of other → kind ≡ other

@@ -1,6 +1,6 @@
 use Rattle.std.proofs.Common.{arith}
 use Rattle.id_names.proofs.LineLemmas.{length-fields_of}
-use Rattle.id_names.proofs.line.name_and_id.Goals as goal
+use Rattle.id_names.proofs.line.account_fields.Goals as goal
 
 pub returns-then-count-fields_in-clause-as_many : goal.returns-then-count-fields_in-clause-as_many
 returns-then-count-fields_in-clause-as_many c =
