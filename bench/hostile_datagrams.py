@@ -15,14 +15,22 @@ import time
 
 from bulk import try_all
 from draws import Draws
-from hostile_files import SOUND_CASES, Sound
+from hostile_files import SOUND_CASES, Sound, kinds_of
 from plain_reader import Record, Tree, flat_value
 from runner import STACK, Runner, Wrong, beyond, want
 from serve_client import PROGRAM, call, connected, credential, opaque, units
 
 FORMATS = ("vfsold", "vfsv0", "vfsv1")
-# What is exported, and under which paths.
-EXPORTS = (("/home", "user"), ("/home", "group"), ("/srv/data", "group"))
+# What is exported, and under which paths. Flat files are none of projects.
+EXPORTS = (
+    ("/home", "user"),
+    ("/home", "group"),
+    ("/srv/data", "group"),
+    ("/home", "project"),
+    ("/srv/data", "project"),
+)
+# The kinds by the numbers of their types.
+KINDS = ("user", "group", "project")
 # One call of so many is a sound one.
 EACH = 25
 # How many datagrams one server takes, and how many bytes may wait for it.
@@ -58,7 +66,8 @@ class Asked:
         self.uid, self.gids, self.path, self.kind, self.id = ids[0], ids[1:], path, kind, id
 
     def may(self):
-        return self.uid == 0 or (self.id in self.gids if self.kind == "group" else self.id == self.uid)
+        own = {"user": [self.uid], "group": self.gids, "project": []}
+        return self.uid == 0 or self.id in own[self.kind]
 
 
 def asked_of(data):
@@ -100,9 +109,9 @@ def asked_of(data):
         return (*accepted, 0, 3)
     path, rest = data[at + 4 : at + 4 + unit(data, at)], behind(data, at)
     type = unit(data, rest) if version == 2 else 0
-    if type > 1:
+    if type >= len(KINDS):
         return (*accepted, 0, 2)
-    return Asked(ids, path, ("user", "group")[type], unit(data, rest + 4 * (version - 1)))
+    return Asked(ids, path, KINDS[type], unit(data, rest + 4 * (version - 1)))
 
 
 def caller_of(data, end):
@@ -166,7 +175,7 @@ def sound_call(draws, xid, known):
         body = units(draws.below(2**32)) + opaque(draws.bytes(draws.below(60))) + units(uid, 7, len(gids), *gids)
         caller = units(1) + opaque(body) + units(draws.below(9)) + opaque(draws.bytes(draws.below(40)))
     version, procedure = 1 + draws.below(2), draws.of((1, 1, 1, 1, 1, 2, 2, 0, 3, 4))
-    type = units(draws.of((0, 0, 1, 1, 2)))
+    type = units(draws.of((0, 0, 1, 1, 2, 2, 3)))
     if procedure > 2:
         numbers = units(*(draws.below(2**32) for _ in range(8)))
         arguments = units(0) + opaque(path) + units(id) + (type if version == 2 else b"") + numbers
@@ -222,6 +231,8 @@ class Served:
     def __init__(self, seed, form, runner):
         self.form, self.values, self.words, self.known = form, {}, [], []
         for at, (path, kind) in enumerate(EXPORTS):
+            if kind not in kinds_of(form):
+                continue
             sound = Sound(Draws(seed, SOUND_CASES + 2**20 + at + 8 * FORMATS.index(form)), form, kind)
             runner.write("q%d" % at, sound.data)
             value = flat_value(sound.data, kind) if form == "vfsold" else Tree(sound.data, kind, form).value()

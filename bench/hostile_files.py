@@ -28,16 +28,23 @@ PAGE = 4
 # How many ranges an undo file saves at most.
 SPANS = 12
 CASES_AT_ONCE = 200
+# The kinds of files, each with its option. Flat files are none of projects.
+LETTERS = {"user": "-u", "group": "-g", "project": "-P"}
 
 
 # ---- Sound files
+
+
+def kinds_of(form):
+    """The kinds of which there are files of a format."""
+    return [kind for kind in MAGIC if form != "vfsold" or kind != "project"]
 
 
 class Sound:
     """A sound file, and where in it the things stand that a damage changes: the places of the words of some kinds."""
 
     def __init__(self, draws, form, kind=None):
-        self.kind, self.form = kind or draws.of(("user", "group")), form
+        self.kind, self.form = kind or draws.of(kinds_of(form)), form
         self.places = collections.defaultdict(list)
         if form == "vfsold":
             self.ids = sorted({draws.below(600) for _ in range(draws.below(50))})
@@ -192,6 +199,15 @@ def change_length(draws, data):
         data += bytes(draws.below(3 * BLOCK)) if draws.once_in(2) else draws.bytes(draws.below(3 * BLOCK))
 
 
+def change_header(draws, data):
+    """Another word of the header; the magic number becomes that of another kind, too."""
+    place = draws.of((0, 1, 2, 3, 4, 5, 5, 6, 6, 7, 7))
+    if place == 0 and len(data) >= 4 and draws.once_in(2):
+        struct.pack_into("<I", data, 0, draws.of(list(MAGIC.values())))
+    else:
+        change_word(draws, data, 4 * place)
+
+
 def exchange(draws, data, places):
     """Two words change places."""
     one, other = draws.of(places), draws.of(places)
@@ -208,7 +224,7 @@ def change(draws, sound, data):
     if kind == "length":
         change_length(draws, data)
     elif kind == "header":
-        change_word(draws, data, 4 * draws.of((0, 1, 2, 3, 4, 5, 5, 6, 6, 7, 7)))
+        change_header(draws, data)
     elif kind == "word":
         change_word(draws, data, 4 * draws.below(len(data) // 4 + 1))
     elif kind == "tree":
@@ -293,7 +309,7 @@ class Case:
 
     def words(self):
         """The words of the three runs."""
-        common = ["-u" if self.kind == "user" else "-g"] + (["-F", self.asked] if self.asked else [])
+        common = [LETTERS[self.kind]] + (["-F", self.asked] if self.asked else [])
         report = ["repquota", "-v", "-n", "-p", *common, "q"]
         return [report, ["setquota", *common, *map(str, (self.id, *self.limits)), "q"], report]
 

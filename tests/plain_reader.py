@@ -6,8 +6,7 @@ BLOCK = 1024
 MOST_BLOCKS = 1_048_576
 MOST_FLAT_BYTES = 41_943_040
 WEEK = 604_800
-MAGIC = {"user": 0xD9C01F11, "group": 0xD9C01927}
-PROJECTS = 0xD9C03F14
+MAGIC = {"user": 0xD9C01F11, "group": 0xD9C01927, "project": 0xD9C03F14}
 # Of each version of a tree file: its format, an entry, and how many a data block has.
 VERSIONS = [("vfsv0", struct.Struct("<6I3Q"), 21), ("vfsv1", struct.Struct("<2I8Q"), 14)]
 FLAT = struct.Struct("<6I2Q")
@@ -75,7 +74,7 @@ class Tree:
     def __init__(self, data, kind, asked):
         head = bytes(data[:BLOCK]).ljust(BLOCK, b"\0")
         magic, version, bgrace, igrace, _, self.count, self.free, self.first = struct.unpack_from("<8I", head)
-        if magic not in (*MAGIC.values(), PROJECTS):
+        if magic not in MAGIC.values():
             raise Refused("not a quota file")
         if magic != MAGIC[kind]:
             raise Refused("wrong kind")

@@ -65,6 +65,9 @@ CASES = {
     "weak": call(12, opaque(b"/home") + units(1000), caller=units(0, 0, 0, 0)),
     "garbage": call(13, opaque(b"/home")),
     "old": units(14, 0, 1, PROGRAM, 1, 1) + credential(1000, 1000) + opaque(b"/home") + units(1000),
+    "project": call(15, opaque(b"/home") + units(2, 7), version=2, caller=credential(0, 0)),
+    "member": call(16, opaque(b"/home") + units(2, 7), version=2, caller=credential(7, 7, (7,))),
+    "beyond": call(17, opaque(b"/home") + units(3, 7), version=2, caller=credential(0, 0)),
     "short": b"abc",
 }
 

@@ -20,6 +20,16 @@ expect 'the same from the standard input' 0 '' '' quotacheck -c -u made <listing
 same 'both listings make the same file' "$(cmp made want && echo same)" same
 expect 'a listing of groups from find itself' 0 '' '' quotacheck -c -g grouped < <(find walked -printf '%U %G %D %i %b\n')
 same 'its line' "$("$run" repquota -g grouped | sed 1,4d)" "$(printf '%-13s--' "#$(id -g)") $counted"
+expect 'a listing of projects' 0 '' '' quotacheck -c -P projects < <(find walked -printf '%U 7 %D %i %b\n')
+same 'the line of project 7' "$("$run" repquota -P projects | sed 1,4d)" "$(printf '%-13s--' '#7') $counted"
+expect 'the projects in vfsv0' 0 '' '' convertquota -P -f vfsv1,vfsv0 projects narrow
+expect 'limits of project 7' 0 '' '' setquota -P 7 0 0 0 70000 projects
+"$run" edquota -P --print 7 projects >form
+same 'the title of its form' "$(head -n 1 form)" 'Disk quotas for project #7 (pid 7):'
+expect 'its form in vfsv0' 0 '' '' edquota -P --apply 7 narrow < <(sed 's/^  projects /  narrow /' form)
+same 'the report in vfsv0' "$("$run" repquota -P narrow | tail -n +2)" "$("$run" repquota -P projects | tail -n +2)"
+expect 'a form of groups for a project' 1 '' 'quota: bad form at line 1' edquota -P --apply 7 projects \
+    < <("$run" edquota -g --print 7 grouped)
 expect 'limits in that file' 0 '' '' setquota -u 70000 1 2 3 4 made
 chmod 644 made
 expect 'a listing of no line' 0 '' '' quotacheck -u made </dev/null

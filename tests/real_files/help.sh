@@ -28,44 +28,47 @@ helped() {
     same "the last line $of" "$(tail -n 1 help.txt)" "The manual page is the reference: man ${6-quota_cli-$1}."
 }
 any='FORMAT is vfsold, vfsv0 or vfsv1. Without -F the file says which of the last
-two it has; a flat file needs -F vfsold.'
-helped repquota 'Usage: quota_cli repquota [-u|-g] [-v] [-n] [-p] [-F FORMAT] [--names FILE]
-                          FILE' '-u, -g;-v;-n;-p;-F FORMAT;--names FILE' "$any" \
+two it has; a flat file needs -F vfsold, and projects have none.'
+helped repquota 'Usage: quota_cli repquota [-u|-g|-P] [-v] [-n] [-p] [-F FORMAT] [--names FILE]
+                          FILE' '-u, -g, -P;-v;-n;-p;-F FORMAT;--names FILE' "$any" \
     'quota_cli repquota -u --names /etc/passwd /home/aquota.user
 quota_cli repquota -g --names /etc/group /home/aquota.group'
-helped setquota 'Usage: quota_cli setquota [-u|-g] [-F FORMAT] [--names FILE]
+helped setquota 'Usage: quota_cli setquota [-u|-g|-P] [-F FORMAT] [--names FILE]
                           NAME BSOFT BHARD ISOFT IHARD FILE
-   or: quota_cli setquota [-u|-g] [-F FORMAT] [--names FILE] -p PROTO NAME FILE
-   or: quota_cli setquota [-u|-g] [-F FORMAT] [--names FILE]
+   or: quota_cli setquota [-u|-g|-P] [-F FORMAT] [--names FILE]
+                          -p PROTO NAME FILE
+   or: quota_cli setquota [-u|-g|-P] [-F FORMAT] [--names FILE]
                           -t BGRACE IGRACE FILE
-   or: quota_cli setquota [-u|-g] [-F FORMAT] [--names FILE]
+   or: quota_cli setquota [-u|-g|-P] [-F FORMAT] [--names FILE]
                           -T NAME BTIME ITIME FILE
-   or: quota_cli setquota [-u|-g] [-F FORMAT] [--names FILE]
+   or: quota_cli setquota [-u|-g|-P] [-F FORMAT] [--names FILE]
                           -b [--input FILE] FILE' \
-    '-u, -g;-F FORMAT;--names FILE;-p PROTO;-t;-T;-b;--input FILE' "$any" \
+    '-u, -g, -P;-F FORMAT;--names FILE;-p PROTO;-t;-T;-b;--input FILE' "$any" \
     'quota_cli setquota -u --names /etc/passwd alice 100M 200M 1k 2k \
     /home/aquota.user
 quota_cli setquota -u --names /etc/passwd -b --input lines \
     /home/aquota.user'
-helped edquota 'Usage: quota_cli edquota [-u|-g] [-F FORMAT] [--names FILE] --print NAME FILE
-   or: quota_cli edquota [-u|-g] [-F FORMAT] [--names FILE]
+helped edquota 'Usage: quota_cli edquota [-u|-g|-P] [-F FORMAT] [--names FILE]
+                         --print NAME FILE
+   or: quota_cli edquota [-u|-g|-P] [-F FORMAT] [--names FILE]
                          --apply [--input FILE] NAME FILE' \
-    '-u, -g;-F FORMAT;--names FILE;--print;--apply;--input FILE' "$any" \
+    '-u, -g, -P;-F FORMAT;--names FILE;--print;--apply;--input FILE' "$any" \
     'quota_cli edquota --print -u --names /etc/passwd alice \
     /home/aquota.user >form
 quota_cli edquota --apply -u --names /etc/passwd --input form alice \
     /home/aquota.user'
-helped quotacheck 'Usage: quota_cli quotacheck [-u|-g] [-c] [-F FORMAT] [--device NUMBER]
-                            [--input FILE] FILE' '-u, -g;-c;-F FORMAT;--device NUMBER;--input FILE' \
+helped quotacheck 'Usage: quota_cli quotacheck [-u|-g|-P] [-c] [-F FORMAT] [--device NUMBER]
+                            [--input FILE] FILE' '-u, -g, -P;-c;-F FORMAT;--device NUMBER;--input FILE' \
     'FORMAT is vfsold, vfsv0 or vfsv1. Without -F the file says which of the last
-two it has, and a new one is vfsv1; a flat file needs -F vfsold.' \
+two it has, and a new one is vfsv1; a flat file needs -F vfsold, and projects
+have none.' \
     "find /home -xdev ! -path /home/aquota.user ! -path /home/aquota.group \\
     -printf '%U %G %D %i %b\\n' >/root/listing &&
     quota_cli quotacheck -u --device \"\$(stat -c %d /home)\" \\
         --input /root/listing /home/aquota.user
 quota_cli quotacheck -c -g --input /root/listing /home/aquota.group"
-helped convertquota 'Usage: quota_cli convertquota [-u|-g] -f OLD,NEW SOURCE TARGET' '-u, -g;-f OLD,NEW' \
-    'OLD and NEW are vfsold, vfsv0 or vfsv1.' 'quota_cli convertquota -u -f vfsv0,vfsv1 /home/aquota.user \
+helped convertquota 'Usage: quota_cli convertquota [-u|-g|-P] -f OLD,NEW SOURCE TARGET' '-u, -g, -P;-f OLD,NEW' \
+    'OLD and NEW are vfsold, vfsv0 or vfsv1; projects have no vfsold.' 'quota_cli convertquota -u -f vfsv0,vfsv1 /home/aquota.user \
     /home/aquota.user.vfsv1
 quota_cli convertquota -u -f vfsold,vfsv1 /home/quota.user \
     /home/aquota.user'
@@ -73,7 +76,7 @@ helped rquotad 'Usage: quota_cli rquotad [--format FORMAT] --calls NUMBER --port
                          (--export PATH KIND FILE)...' \
     '--format FORMAT;--calls NUMBER;--port NUMBER;--export PATH KIND FILE' \
     'FORMAT is vfsold, vfsv0 or vfsv1. Without --format each file says which of the
-last two it has; flat files need --format vfsold.' 'quota_cli rquotad --calls 1000 --port 8750 \
+last two it has; flat files need --format vfsold, and projects have none.' 'quota_cli rquotad --calls 1000 --port 8750 \
     --export /home user /home/aquota.user
 quota_cli rquotad --calls 1000 --port 8750 \
     --export /home user /home/aquota.user \

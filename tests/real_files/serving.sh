@@ -36,6 +36,25 @@ short sent
 14 rejected 0 2 2'
     done
 
+    # Projects are told of to the superuser alone, beside the users of the same path, and never out of a flat file.
+    "$run" quotacheck -c -P projects <<<'1000 7 1 1 8'
+    "$run" setquota -P 7 100 200 10 20 projects
+    expect 'flat files of projects' 2 '' 'quota: usage: Excludes at word 11' \
+        rquotad --format vfsold --calls 1 --port 0 --export /home project projects
+    expect 'projects exported as groups' 3 '' 'quota: projects: wrong kind' \
+        rquotad --calls 1 --port 0 --export /home group projects
+    port=$("$top/tests/serve_client.py" free)
+    timeout 20 "$run" rquotad --calls 4 --port "$port" --export /home user users --export /home project projects \
+        >out.txt 2>err.txt &
+    "$top/tests/serve_client.py" ask "$port" project member own beyond >asked.txt 2>asked_err.txt || true
+    got=0
+    wait $! || got=$?
+    same 'the status of rquotad over projects' "$got $(cat out.txt err.txt)" '0 '
+    same 'what callers are told of projects' "$(cat asked.txt)" '15 quota 1024 1 200 100 4 20 10 1 0 0
+16 denied
+1 quota 1024 1 200 100 4 20 10 1 0 0
+17 no quota'
+
     # Two lines of a script serve at one port, and the second tells what the line between them set.
     "$run" quotacheck -c --input listing users
     port=$("$top/tests/serve_client.py" free)

@@ -54,7 +54,8 @@ rm q
 week='\x80\x3a\x09\x00\x80\x3a\x09\x00'
 tail='\x00\x00\x00\x00\x02\x00\x00\x00\x00\x00\x00\x00\x00\x00\x00\x00'
 for row in 'user -u vfsv1 \x11\x1f \x01 User' 'user -u vfsv0 \x11\x1f \x00 User' \
-    'group -g vfsv1 \x27\x19 \x01 Group' 'group -g vfsv0 \x27\x19 \x00 Group' 'group -g vfsold - - Group'; do
+    'group -g vfsv1 \x27\x19 \x01 Group' 'group -g vfsv0 \x27\x19 \x00 Group' \
+    'project -P vfsv1 \x14\x3f \x01 Project' 'project -P vfsv0 \x14\x3f \x00 Project' 'group -g vfsold - - Group'; do
     read -r kind letter format magic version title <<<"$row"
     if [ "$format" = vfsold ]; then : >t; else printf "$magic\\xc0\\xd9$version\\x00\\x00\\x00$week$tail" >t; fi
     expect "new limits in $format of a $kind" 0 '' '' setquota "$letter" -F "$format" 1000 100 200 10 20 t
