@@ -5,12 +5,14 @@
 # and line, so that nothing is shown that nobody tries. Ends with status 1 where something differs.
 #
 # What cannot be run as it stands is run with these changes:
-# - /home, /root, /etc/passwd and /etc/group are folders and files of this test. In /home are a quota file of users and one of
-#   groups, in which alice has limits. A display of COMMANDS is run for groups, and with flat files, too, as that page says.
-# - quotaoff, quotaon, mount, systemctl and `editor` are stand-ins, which look at their words, and mail is one that keeps them.
+# - /home, /root, /etc/passwd, /etc/group and /etc/projid are folders and files of this test. In /home are quota files of users, of
+#   groups and of projects, in each of which alice has limits. A display of COMMANDS is run for groups, for projects, and with flat
+#   files, too, as that page says.
+# - quotaoff, quotaon, mount, systemctl, lsattr and `editor` are stand-ins, which look at their words, and mail is one that keeps
+#   them.
 # - A recipe, which begins with quotaoff, is run once more with each of its commands failing.
-# - /usr/local/bin/quota_client is the built program. The script that mails is given no variables but such as cron sets, and
-#   of the stand-ins it finds mail alone.
+# - /usr/local/sbin/project_listing is the script that COMMANDS shows, and /usr/local/bin/quota_client the built program. The
+#   script that mails is given no variables but such as cron sets, and of the stand-ins it finds mail alone.
 # - 8750 is a port that is free, and --calls says 2, or 1 in a loop, which ends once its file is taken away.
 # - `...` behind find stands for the words of the find of COMMANDS, and words in capitals for a file, a user, a number or `true`.
 # - A file `commands` for a script has one command, and a listing that is read is there.
@@ -136,7 +138,26 @@ done <<<"$list"
 built/quota_cli --help >help
 cat >tools/quotaoff <<'TOOL'
 #!/usr/bin/env bash
-[ $# = 2 ] && [[ $1 == -[ug] ]] && [ -d "$2" ]
+[ $# = 2 ] && [[ $1 == -[ugP] ]] && [ -d "$2" ]
+TOOL
+cat >tools/lsattr <<'TOOL'
+#!/usr/bin/env bash
+# What lsattr of e2fsprogs prints. A folder with a sticky bit has project 7 and hands it down, and so has a file that may be run;
+# one without any permission, and what is neither a file nor a folder, cannot be opened.
+[ "$1" = -pd ] || exit 2
+status=0
+for it in "${@:2}"; do
+    case $(stat -c '%F %A' -- "$it") in
+        directory\ *[tT]) printf '%5d %s %s\n' 7 --------------e----P-- "$it" ;;
+        'regular '*---------- | [!rd]*)
+            echo "lsattr: Operation not supported While reading flags on $it" >&2
+            status=1
+            ;;
+        'regular '*x*) printf '%5d %s %s\n' 7 --------------e------- "$it" ;;
+        *) printf '%5d %s %s\n' 0 --------------e------- "$it" ;;
+    esac
+done
+exit "$status"
 TOOL
 cat >tools/mount <<'TOOL'
 #!/usr/bin/env bash
@@ -174,31 +195,32 @@ case $HOW in
     *) printf "$HOW" ;;
 esac
 TOOL
-for it in cp diff find grep mv quota_cli quotaoff quotaon stat; do cp failing/step "failing/$it"; done
+for it in cp diff find grep mv project_listing quota_cli quotaoff quotaon stat; do cp failing/step "failing/$it"; done
 chmod +x tools/* failing/*
 export FOLDER=$folder PATH=$folder/tools:$PATH
 
 # Alice, number 1000, has some limits; those that the documents set are the ones of 1001, and of her in the lines of an input.
 echo 'alice:x:1000:1000::/home/alice:/bin/sh' >ready/passwd
 echo 'alice:x:1000:' >ready/group
+echo 'alice:1000' >ready/projid
 echo '1000 100M 200M 1k 2k' >ready/lines
-for kind in user group; do
-    echo '1000 1000 1 1 8' | quota_cli quotacheck -c "-${kind:0:1}" "ready/home/aquota.$kind"
-    quota_cli setquota "-${kind:0:1}" 1000 1M 2M 3 4 "ready/home/aquota.$kind"
-    quota_cli setquota "-${kind:0:1}" 1001 100M 200M 1k 2k "ready/home/aquota.$kind"
+declare -A letter_of=([user]=-u [group]=-g [project]=-P) names_of=([user]=passwd [group]=group [project]=projid)
+for kind in user group project; do
+    echo '1000 1000 1 1 8' | quota_cli quotacheck -c "${letter_of[$kind]}" "ready/home/aquota.$kind"
+    quota_cli setquota "${letter_of[$kind]}" 1000 1M 2M 3 4 "ready/home/aquota.$kind"
+    quota_cli setquota "${letter_of[$kind]}" 1001 100M 200M 1k 2k "ready/home/aquota.$kind"
 done
 own='quota 1024 1 2048 1024 4 4 3 1 0 0'
 
-# prepare KIND: makes the place anew for the text at hand: for users or for groups, with the file in the format from which it
-# converts, or flat.
+# prepare KIND: makes the place anew for the text at hand: for users, groups or projects, with the file in the format from which
+# it converts, or flat.
 prepare() {
     local kind=${1/flat/user} file
     rm -rf "$place"
     cp -rp ready "$place"
     mkdir "$place/root"
     file=$place/home/aquota.$kind
-    options=("-${kind:0:1}" --names "$place/passwd")
-    if [ "$1" = group ]; then options[2]=$place/group; fi
+    options=("${letter_of[$kind]}" --names "$place/${names_of[$kind]}")
     if [[ $text == *'--input /root/listing'* ]]; then echo '1000 1000 1 1 8' >"$place/root/listing"; fi
     if [[ $text == *'<commands'* ]]; then echo "repquota -u $file" >"$place/commands"; fi
     case "$1 $text" in
@@ -211,24 +233,24 @@ prepare() {
         editor "$place/form"
     fi
 }
-# as FORMAT FILE: converts a file of users or groups into a format.
+# as FORMAT FILE: converts a file of the kind at hand into a format.
 as() {
     quota_cli convertquota "${options[0]}" -f "vfsv1,$1" "$2" "$2.other"
     mv "$2.other" "$2"
     rm "$2.undo"
 }
 
-# placed KIND: the text at hand as it is run in the place, for users or for groups, or with flat files.
+# placed KIND: the text at hand as it is run in the place, for users, groups or projects, or with flat files.
 placed() {
     sed -E -e "s|find (/home -xdev )?\.\.\.|find $listing|" -e 's|\<FILE\>|/home/aquota.user|g' -e 's/\<COMMAND\>/true/' \
         -e 's/\<NAME\>/1000/; s/\<PROTO\>/1001/; s/\<[BI](GRACE|TIME)\>/604800/g' <<<"$text" |
         case $1 in
-            group) sed -E 's/ -u / -g /g; s/passwd/group/g; s/\<(a?quota)\.user/\1.group/g' ;;
+            group | project) sed -E "s/ -u / ${letter_of[$1]} /g; s/passwd/${names_of[$1]}/g; s/\<(a?quota)\.user/\1.$1/g" ;;
             flat) sed '/quotao/!s/ -u / -u -F vfsold /g' ;;
             *) cat ;;
         esac |
         sed -E -e 's|--export /home |--export @ |g' -e "s#/(home|root)\>#$place/\1#g" -e 's|--export @ |--export /home |g' \
-            -e "s#/etc/(passwd|group)\>#$place/\1#g" -e "s/\<8750\>/$port/g"
+            -e "s#/etc/(passwd|group|projid)\>#$place/\1#g" -e "s#/usr/local/sbin/(project_listing)#\1#g" -e "s/\<8750\>/$port/g"
 }
 
 # ---- Rules for displays, and for commands in the text: each looks at the text at hand
@@ -237,8 +259,10 @@ placed() {
 # writes numbers alone, where it is none of the program.
 carried_out() {
     local kinds=user kind flags=-uo status limits='1024 2048 3 4'
-    if [[ $document == docs/COMMANDS.md && $text == *quota_cli* ]]; then kinds='user group flat'; fi
+    if [[ $document == docs/COMMANDS.md && $text == *quota_cli* ]]; then kinds='user group project flat'; fi
     if [[ $text == *convertquota* ]]; then kinds=${kinds% flat}; fi
+    if [[ $text == *vfsold* ]]; then kinds=${kinds/ project/}; fi
+    if [[ $text == *' -P '* ]]; then kinds=project; fi
     if [ "$unit_kind" = display ] && [[ $text != 'while read '* ]]; then flags=-euo; fi
     if grep -qE '100M 200M|--apply|setquota .*-[bp] |[$]name' <<<"$text"; then limits='102400 204800 1000 2000'; fi
     echo "$text" >>shown
@@ -271,52 +295,127 @@ carried_out() {
             grep -qF " ${BASH_REMATCH[1]} " said || wrong "$line" "it says $(cat said)"
         fi
     done
-    if [ "$unit_kind" = display ] && [[ $text == 'quotaoff '* ]]; then fails_safely; fi
+    if [ "$unit_kind" = display ] && [[ $text == 'quotaoff '* ]]; then fails_safely "${kinds%% *}"; fi
 }
 
-# limits_now: the limits of all users in the quota file, which is the flat one for as long as that is there; or why there are none.
+# limits_now KIND: all limits in the quota file, which is the flat one for as long as that is there; or why there are none.
 limits_now() {
-    local file=("$place/home/aquota.user")
+    local file=("$place/home/aquota.$1")
     if [ -e "$place/home/quota.user" ]; then file=(-F vfsold "$place/home/quota.user"); fi
-    quota_cli repquota -u -v "${file[@]}" 2>&1 | awk 'NR > 4 || /^quota: / { print $1, $4, $5, $8, $9 }' || true
+    quota_cli repquota "${letter_of[$1]}" -v "${file[@]}" 2>&1 | awk 'NR > 4 || /^quota: / { print $1, $4, $5, $8, $9 }' || true
 }
 
-# step_fails STEP HOW: the recipe at hand with one of its commands failing.
+# step_fails KIND STEP HOW: the recipe at hand with one of its commands failing.
 step_fails() {
-    prepare user
-    placed user >"$place/words"
+    prepare "$1"
+    placed "$1" >"$place/words"
     cp -rp "$place/home" before
     : >steps
-    (cd "$place" && STEP=$1 HOW=$2 PATH=$folder/failing:$PATH timeout 60 bash -u words) </dev/null >said 2>&1 || true
+    (cd "$place" && STEP=$2 HOW=$3 PATH=$folder/failing:$PATH timeout 60 bash -u words) </dev/null >said 2>&1 || true
 }
 
-# fails_safely: whichever command of the recipe at hand fails, there is a quota file, with the limits of before or of afterwards.
-# Where quotas could not be turned off, and where the listing is empty or of another file system, its bytes are those of before.
+# fails_safely KIND: whichever command of the recipe at hand fails, there is a quota file, with the limits of before or of
+# afterwards. Where quotas could not be turned off, and where the listing is empty or of another file system, its bytes are those
+# of before.
 fails_safely() {
-    local step how all file old new
-    prepare user
-    old=$(limits_now)
+    local kind=$1 step how all file old new
+    prepare "$kind"
+    old=$(limits_now "$kind")
     rm -rf before
-    step_fails 0 before
-    new=$(limits_now)
+    step_fails "$kind" 0 before
+    new=$(limits_now "$kind")
     all=$(grep -c '' steps)
     for step in $(seq "$all"); do
         for how in before behind '' '0 0 1 2 8\n'; do
-            if [[ $how != be* && $(sed -n "${step}p" steps) != find ]]; then continue; fi
+            if [[ $how != be* && $(sed -n "${step}p" steps) != @(find|project_listing) ]]; then continue; fi
             rm -rf before
-            step_fails "$step" "$how"
-            limits_now >got
+            step_fails "$kind" "$step" "$how"
+            limits_now "$kind" >got
             echo "$old" >wanted
             if [ "$(cat got)" = "$new" ]; then echo "$new" >wanted; fi
             same "$line" "with step $step, $(sed -n "${step}p" steps), failing ($how), the quota file is another one"
             if [ "$step" = 1 ] || [[ $how != be* ]]; then
-                for file in before/*quota.user; do
+                for file in before/*quota."$kind"; do
                     cmp -s "$file" "$place/home/${file#*/}" || wrong "$line" "with step $step failing ($how) $file has changed"
                 done
             fi
         done
     done
     rm -rf before
+}
+
+# projects_listed: the script of the page, which is put in place for the recipe behind it, lists each name of an inode with its
+# project, whichever blanks it has. What lsattr cannot open has that of its folder, where it hands it down. Where a file is not
+# told of, and where a name has a newline, it says so, and ends with status 1.
+projects_listed() {
+    local tree=$folder/tree it
+    echo "$text" >tools/project_listing
+    chmod +x tools/project_listing
+    rm -rf "$tree"
+    mkdir -p "$tree/  a b/c" "$tree/d"
+    chmod +t "$tree/  a b" "$tree/  a b/c"
+    echo 1 | tee "$tree/  a b/c/  e  f" "$tree/d/aquota.user" >"$tree/aquota.project"
+    chmod +x "$tree/  a b/c/  e  f"
+    ln "$tree/  a b/c/  e  f" "$tree/-g"
+    ln -s d "$tree/  a b/h i"
+    mkfifo "$tree/d/j"
+    tools/project_listing "$tree" >listed 2>got || echo "status $?" >>got
+    LC_ALL=C sort listed >>got
+    (
+        cd "$tree"
+        for it in '7:  a b' '7:  a b/c' '7:  a b/c/  e  f' '7:-g' '7:  a b/h i' 0:d 0:d/j 0:d/aquota.user 0:.; do
+            stat -c "%u ${it%%:*} %d %i %b" -- "./${it#*:}"
+        done
+    ) | LC_ALL=C sort >wanted
+    same "$line" 'it lists something else'
+    touch "$tree/  a b/not told"
+    chmod 0 "$tree/  a b/not told"
+    tools/project_listing "$tree" >listed 2>got || echo "status $?" >>got
+    printf '%s\n' 'project_listing: no project is told of ./  a b/not told' 'status 1' >wanted
+    same "$line" 'where a file is not told of, it says something else'
+    rm -f "$tree/  a b/not told"
+    mkdir "$tree/  a b/"$'k\n    8 -------'
+    tools/project_listing "$tree" >listed 2>got || echo "status $?" >>got
+    printf '%s\n' 'project_listing: a name has a newline: ./  a b/k' '    8 -------' 'status 1' >wanted
+    cat listed >>got
+    same "$line" 'where a name has a newline, it does something else'
+}
+
+# counted: what the projects of the sample use is the sum of the listing in the text.
+counted() {
+    in_repository "$text"
+    cp "$top/samples/aquota.project" q
+    quota_cli repquota -P -v -n -p q >wanted
+    quota_cli quotacheck -P --input "$top/$text" q >got 2>&1 || true
+    quota_cli repquota -P -v -n -p q >>got
+    same "$line" 'the sample has another use'
+    quota_cli quotacheck -c -P --input "$top/$text" q >got 2>&1 || true
+    quota_cli repquota -P -n q | awk 'NR > 4 { print $1, $3, $7 }' >>got
+    quota_cli repquota -P -n "$top/samples/aquota.project" | awk 'NR > 4 { print $1, $3, $7 }' >wanted
+    same "$line" 'a new file has another use'
+    rm -f q q.undo
+}
+
+# from_image: with an image of ext4 in which a file of alice's project is, which it counts. It is looked at where e2fsprogs is.
+from_image() {
+    local PATH=$PATH:/usr/sbin:/sbin it
+    for it in mke2fs debugfs dumpe2fs e2fsck; do
+        if ! command -v "$it" >/dev/null; then
+            echo "examples: $it is not there: what is read from an image is not looked at" >&2
+            return
+        fi
+    done
+    prepare project
+    truncate -s 16M "$place/image"
+    echo 1 >"$place/file"
+    mke2fs -q -t ext4 -O quota,project "$place/image"
+    for it in "write $place/file file" 'sif file projid 1000'; do debugfs -w -R "$it" "$place/image" >said 2>&1; done
+    # (which counts anew)
+    e2fsck -fy "$place/image" >said 2>&1 || true
+    placed project >"$place/words"
+    (cd "$place" && timeout 60 bash -eu words) </dev/null 2>&1 | awk '/^alice/ { print $1, $3, $7 }' >got || true
+    echo 'alice 1 1' >wanted
+    same "$line" 'it reads something else'
 }
 
 # compared: what is written is the text behind the display.
@@ -591,6 +690,8 @@ display() {
             served
             ;;
         '#!/bin/sh'*quota_client*) mailed ;;
+        '#!/bin/bash'*'lsattr -pd '*) projects_listed ;;
+        'number=$(dumpe2fs '*) from_image ;;
         '0 18 * * * '*) scheduled ;;
         'while quota_cli rquotad '*) looped ;;
         'quota_cli rquotad '*) served ;;
@@ -628,6 +729,7 @@ words() {
         'systemctl '* | 'sed '* | 'getent '* | 'head '* | 'set -'* | 'sort '* | 'stat '* | 'ulimit '*) carried_out ;;
         'man -l '*) formatted "${them[2]}" ;;
         'rt '*) known_to_rt "${them[@]:1}" ;;
+        samples/projects.listing) counted ;;
         bin/* | bench/* | docs/* | samples/* | tests/* | tools/* | .ci/*) in_repository "${them[@]}" ;;
         -*' '*) options_of "${heading#rpc.}" ;;
         -*)

@@ -52,7 +52,7 @@ installed() {
         share/doc/quota-cli/examples/{make_quota_files,serve_client}.py
     printf '644 ./lib/systemd/system/%s\n' quota_cli-recover.service quota_cli-rquotad@.service \
         {quotaon,systemd-quotacheck}@.service.d/quota_cli-recover.conf
-    printf '644 ./share/doc/quota-cli/%s\n' examples/{aquota,quota}.user \
+    printf '644 ./share/doc/quota-cli/%s\n' examples/{aquota.user,quota.user,aquota.project,projid,projects.listing} \
         {CHANGELOG,COMING_FROM_QUOTA_TOOLS,COMMANDS,FORMATS,PROMISES,README}.md.gz
     for name in "${names[@]}"; do
         echo "755 ./${folder_of[$name]}/$name"
@@ -336,7 +336,7 @@ formats=$("$top/bin/quota_cli" --version | sed 's/.*(//; s/).*//; s/,//g')
 same 'the formats for bash' "$(completed quota_cli repquota -F '' | tr '\n' ' ')" "$formats "
 same 'the formats for bash behind =' "$(completed quota_cli rquotad --format = vfsv | tr '\n' ' ')" 'vfsv0 vfsv1 '
 same 'pairs of formats for bash' "$(completed quota_cli convertquota -f vfsv0, | tr '\n' ' ')" 'vfsv0,vfsold vfsv0,vfsv0 vfsv0,vfsv1 '
-same 'the kinds for bash' "$(completed quota_cli rquotad --export /home '' | tr '\n' ' ')" 'group user '
+same 'the kinds for bash' "$(completed quota_cli rquotad --export /home '' | tr '\n' ' ')" 'group project user '
 mkdir files
 touch files/aquota.user files/aquota.group
 same 'names of files for bash' "$(completed quota_cli repquota -u files/aquota.u)" files/aquota.user

@@ -1,5 +1,6 @@
 # Completion of quota_cli for bash: commands, their options, formats and kinds; names of files that the program takes; and
-# names of users or groups out of the file of --names. Its words are those of the manual pages, which tests/install.sh compares.
+# names of users, groups or projects out of the file of --names. Its words are those of the manual pages, which tests/install.sh
+# compares.
 # shellcheck shell=bash
 
 # _quota_cli_files CURRENT: names of files, without those that the program keeps for itself, and without blanks and other
@@ -13,7 +14,7 @@ _quota_cli_files() {
     done < <(compgen -f -- "$1")
 }
 
-# _quota_cli_names CURRENT FILE: the names in a file of the form of passwd(5) or group(5), as they are typed.
+# _quota_cli_names CURRENT FILE: the names in a file of the form of passwd(5), group(5) or projid(5), as they are typed.
 _quota_cli_names() {
     local it
     while IFS= read -r it; do
@@ -63,14 +64,14 @@ _quota_cli() {
     elif [ "$previous" = -f ]; then
         for one in $formats; do for other in $formats; do words+=" $one,$other"; done; done
     elif [ "$COMP_CWORD" -gt 3 ] && [ "${COMP_WORDS[COMP_CWORD - 2]}" = --export ]; then
-        words='user group'
+        words='user group project'
     elif [[ $current == -* ]]; then
         case $command in
-            repquota) words='-u -g -v -n -p -F --names' ;;
-            setquota) words='-u -g -F --names -p -t -T -b --input' ;;
-            edquota) words='-u -g -F --names --print --apply --input' ;;
-            quotacheck) words='-u -g -c -F --device --input' ;;
-            convertquota) words='-u -g -f' ;;
+            repquota) words='-u -g -P -v -n -p -F --names' ;;
+            setquota) words='-u -g -P -F --names -p -t -T -b --input' ;;
+            edquota) words='-u -g -P -F --names --print --apply --input' ;;
+            quotacheck) words='-u -g -P -c -F --device --input' ;;
+            convertquota) words='-u -g -P -f' ;;
             rquotad) words='--format --calls --port --export' ;;
         esac
         # (which is the only word behind a command)

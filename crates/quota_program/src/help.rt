@@ -21,28 +21,29 @@ Examples:
     quota_cli setquota --help
 
 Commands:
-  repquota [-u|-g] [-v] [-n] [-p] [-F FORMAT] [--names FILE] FILE
+  repquota [-u|-g|-P] [-v] [-n] [-p] [-F FORMAT] [--names FILE] FILE
                         the report of a quota file
-  setquota [-u|-g] [-F FORMAT] [--names FILE]
+  setquota [-u|-g|-P] [-F FORMAT] [--names FILE]
            NAME BSOFT BHARD ISOFT IHARD FILE
                         new limits of one identifier
-  setquota [-u|-g] [-F FORMAT] [--names FILE] -p PROTO NAME FILE
+  setquota [-u|-g|-P] [-F FORMAT] [--names FILE] -p PROTO NAME FILE
                         the limits of another identifier
-  setquota [-u|-g] [-F FORMAT] [--names FILE] -t BGRACE IGRACE FILE
+  setquota [-u|-g|-P] [-F FORMAT] [--names FILE] -t BGRACE IGRACE FILE
                         new grace periods, in seconds
-  setquota [-u|-g] [-F FORMAT] [--names FILE] -T NAME BTIME ITIME FILE
+  setquota [-u|-g|-P] [-F FORMAT] [--names FILE] -T NAME BTIME ITIME FILE
                         what is left of the grace periods of one identifier
-  setquota [-u|-g] [-F FORMAT] [--names FILE] -b [--input FILE] FILE
+  setquota [-u|-g|-P] [-F FORMAT] [--names FILE] -b [--input FILE] FILE
                         new limits of many identifiers, a line of input each
-  edquota  [-u|-g] [-F FORMAT] [--names FILE] --print NAME FILE
+  edquota  [-u|-g|-P] [-F FORMAT] [--names FILE] --print NAME FILE
                         the limits of one identifier as a form
-  edquota  [-u|-g] [-F FORMAT] [--names FILE] --apply [--input FILE] NAME FILE
+  edquota  [-u|-g|-P] [-F FORMAT] [--names FILE]
+           --apply [--input FILE] NAME FILE
                         the limits that such a form asks for
-  quotacheck [-u|-g] [-c] [-F FORMAT] [--device NUMBER] [--input FILE] FILE
+  quotacheck [-u|-g|-P] [-c] [-F FORMAT] [--device NUMBER] [--input FILE] FILE
                         the usage that a listing of inodes tells, as
                         find -printf '%U %G %D %i %b\\n' prints it; with -c in
                         a new file, without limits, whatever was there
-  convertquota [-u|-g] -f OLD,NEW SOURCE TARGET
+  convertquota [-u|-g|-P] -f OLD,NEW SOURCE TARGET
                         a new file in another format, from one that stays
   rquotad  [--format FORMAT] --calls NUMBER --port NUMBER
            (--export PATH KIND FILE)...
@@ -52,12 +53,15 @@ Commands:
   generate SEED COUNT FILE
                         a quota file out of a listing that is made, to try with
 
--u is for users, which is the default, and -g for groups. FORMAT is vfsold,
-vfsv0 or vfsv1; without it the file says which of the last two it has. Limits
+-u is for users, which is the default, -g for groups and -P for projects; with
+-P the second word of a listing's line is the project, in place of the group.
+FORMAT is vfsold, vfsv0 or vfsv1; without it the file says which of the last
+two it has, and projects have no vfsold. KIND is user, group or project. Limits
 of blocks are in KiB and may end in K, M, G or T, those of inodes in k, m, g
 or t. A time is a number of seconds, or unset. --names names a file in the form
-of passwd(5) or group(5); without it NAME is a number. --input names the file
-that is read in place of standard input. --device NUMBER counts one device.
+of passwd(5) or group(5), or one with lines NAME:NUMBER of projects; without it
+NAME is a number. --input names the file that is read in place of standard
+input. --device NUMBER counts one device.
 
 Exit status: 0 done, 1 refused, 2 wrong words, 3 not a quota file that is asked
 for, or a damaged one, 4 a fault of the system, 5 want of memory.

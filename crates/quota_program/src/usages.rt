@@ -7,22 +7,24 @@ ghost use Rattle.quota_program.specs.Help.{usage_of};
 use option_words::Tool;
 
 /// What `repquota --help` writes.
-const REPQUOTA: &str = "Usage: quota_cli repquota [-u|-g] [-v] [-n] [-p] [-F FORMAT] [--names FILE]
+const REPQUOTA: &str =
+    "Usage: quota_cli repquota [-u|-g|-P] [-v] [-n] [-p] [-F FORMAT] [--names FILE]
                           FILE
 
-Writes a report of FILE: the grace periods, and a line for each user or group
-that has a record.
+Writes a report of FILE: the grace periods, and a line for each user, group or
+project that has a record.
 
 Options:
-  -u, -g        users, which is the default, or groups
+  -u, -g, -P    users, which is the default, groups or projects
   -v            shows those that use nothing, too
   -n            shows # and the identifier in place of each name
   -p            shows when a period ends, in seconds since 1970
   -F FORMAT     the format of FILE
-  --names FILE  the file of names, in the form of passwd(5) or group(5)
+  --names FILE  the file of names, in the form of passwd(5) or group(5); that
+                of projects has lines NAME:NUMBER, as projid(5)
 
 FORMAT is vfsold, vfsv0 or vfsv1. Without -F the file says which of the last
-two it has; a flat file needs -F vfsold.
+two it has; a flat file needs -F vfsold, and projects have none.
 
 Examples:
     quota_cli repquota -u --names /etc/passwd /home/aquota.user
@@ -32,24 +34,26 @@ The manual page is the reference: man quota_cli-repquota.
 ";
 
 /// What `setquota --help` writes.
-const SETQUOTA: &str = "Usage: quota_cli setquota [-u|-g] [-F FORMAT] [--names FILE]
+const SETQUOTA: &str = "Usage: quota_cli setquota [-u|-g|-P] [-F FORMAT] [--names FILE]
                           NAME BSOFT BHARD ISOFT IHARD FILE
-   or: quota_cli setquota [-u|-g] [-F FORMAT] [--names FILE] -p PROTO NAME FILE
-   or: quota_cli setquota [-u|-g] [-F FORMAT] [--names FILE]
+   or: quota_cli setquota [-u|-g|-P] [-F FORMAT] [--names FILE]
+                          -p PROTO NAME FILE
+   or: quota_cli setquota [-u|-g|-P] [-F FORMAT] [--names FILE]
                           -t BGRACE IGRACE FILE
-   or: quota_cli setquota [-u|-g] [-F FORMAT] [--names FILE]
+   or: quota_cli setquota [-u|-g|-P] [-F FORMAT] [--names FILE]
                           -T NAME BTIME ITIME FILE
-   or: quota_cli setquota [-u|-g] [-F FORMAT] [--names FILE]
+   or: quota_cli setquota [-u|-g|-P] [-F FORMAT] [--names FILE]
                           -b [--input FILE] FILE
 
 Sets the limits of NAME in FILE: the soft and the hard limit of blocks, then
 those of inodes; or what one of the options -p, -t, -T and -b says.
 
 Options:
-  -u, -g        a user, which is the default, or a group
+  -u, -g, -P    a user, which is the default, a group or a project
   -F FORMAT     the format of FILE
-  --names FILE  the file of names, in the form of passwd(5) or group(5);
-                without it NAME and PROTO are numbers
+  --names FILE  the file of names, in the form of passwd(5) or group(5); that
+                of projects has lines NAME:NUMBER, as projid(5); without it
+                NAME and PROTO are numbers
   -p PROTO      NAME gets the limits of PROTO
   -t            sets the grace periods of FILE, in seconds
   -T            sets how long the grace periods of NAME last from now on: a
@@ -62,7 +66,7 @@ Limits of blocks are in KiB and may end in K, M, G or T, those of inodes in k,
 m, g or t; 0 is no limit.
 
 FORMAT is vfsold, vfsv0 or vfsv1. Without -F the file says which of the last
-two it has; a flat file needs -F vfsold.
+two it has; a flat file needs -F vfsold, and projects have none.
 
 Examples:
     quota_cli setquota -u --names /etc/passwd alice 100M 200M 1k 2k \\
@@ -74,24 +78,26 @@ The manual page is the reference: man quota_cli-setquota.
 ";
 
 /// What `edquota --help` writes.
-const EDQUOTA: &str = "Usage: quota_cli edquota [-u|-g] [-F FORMAT] [--names FILE] --print NAME FILE
-   or: quota_cli edquota [-u|-g] [-F FORMAT] [--names FILE]
+const EDQUOTA: &str = "Usage: quota_cli edquota [-u|-g|-P] [-F FORMAT] [--names FILE]
+                         --print NAME FILE
+   or: quota_cli edquota [-u|-g|-P] [-F FORMAT] [--names FILE]
                          --apply [--input FILE] NAME FILE
 
 Prints the limits of NAME in FILE as a form, or reads one that was changed, and
 sets its limits. No editor is started.
 
 Options:
-  -u, -g        a user, which is the default, or a group
+  -u, -g, -P    a user, which is the default, a group or a project
   -F FORMAT     the format of FILE
-  --names FILE  the file of names, in the form of passwd(5) or group(5);
-                without it NAME is a number
+  --names FILE  the file of names, in the form of passwd(5) or group(5); that
+                of projects has lines NAME:NUMBER, as projid(5); without it
+                NAME is a number
   --print       writes the form to standard output
   --apply       reads the form from standard input, and sets its limits
   --input FILE  the form of --apply is read from this file
 
 FORMAT is vfsold, vfsv0 or vfsv1. Without -F the file says which of the last
-two it has; a flat file needs -F vfsold.
+two it has; a flat file needs -F vfsold, and projects have none.
 
 Examples:
     quota_cli edquota --print -u --names /etc/passwd alice \\
@@ -103,22 +109,24 @@ The manual page is the reference: man quota_cli-edquota.
 ";
 
 /// What `quotacheck --help` writes.
-const QUOTACHECK: &str = "Usage: quota_cli quotacheck [-u|-g] [-c] [-F FORMAT] [--device NUMBER]
+const QUOTACHECK: &str = "Usage: quota_cli quotacheck [-u|-g|-P] [-c] [-F FORMAT] [--device NUMBER]
                             [--input FILE] FILE
 
-Sets the use of all users, or of all groups, in FILE to what a listing of
+Sets the use of all users, groups or projects in FILE to what a listing of
 inodes says, and keeps their limits. The listing has the lines of
-find -printf '%U %G %D %i %b\\n', and is read from standard input.
+find -printf '%U %G %D %i %b\\n', and is read from standard input. With -P the
+second word of a line is the project, which find cannot print.
 
 Options:
-  -u, -g           users, which is the default, or groups
+  -u, -g, -P       users, which is the default, groups or projects
   -c               makes a new file, without limits, whatever was there
   -F FORMAT        the format of FILE
   --device NUMBER  counts only the lines of this device
   --input FILE     the listing is read from this file
 
 FORMAT is vfsold, vfsv0 or vfsv1. Without -F the file says which of the last
-two it has, and a new one is vfsv1; a flat file needs -F vfsold.
+two it has, and a new one is vfsv1; a flat file needs -F vfsold, and projects
+have none.
 
 Examples:
     find /home -xdev ! -path /home/aquota.user ! -path /home/aquota.group \\
@@ -131,16 +139,17 @@ The manual page is the reference: man quota_cli-quotacheck.
 ";
 
 /// What `convertquota --help` writes.
-const CONVERTQUOTA: &str = "Usage: quota_cli convertquota [-u|-g] -f OLD,NEW SOURCE TARGET
+const CONVERTQUOTA: &str = "Usage: quota_cli convertquota [-u|-g|-P] -f OLD,NEW SOURCE TARGET
 
 Makes TARGET, a quota file of format NEW, from SOURCE, which has format OLD and
 stays as it is. TARGET may not be there.
 
 Options:
-  -u, -g      both files are those of users, which is the default, or of groups
+  -u, -g, -P  both files are those of users, which is the default, of groups or
+              of projects
   -f OLD,NEW  the two formats, which may be the same
 
-OLD and NEW are vfsold, vfsv0 or vfsv1.
+OLD and NEW are vfsold, vfsv0 or vfsv1; projects have no vfsold.
 
 Examples:
     quota_cli convertquota -u -f vfsv0,vfsv1 /home/aquota.user \\
@@ -161,11 +170,12 @@ Options:
   --format FORMAT          the format of all files
   --calls NUMBER           takes this number of datagrams, and then ends
   --port NUMBER            the UDP port; with 0 the system chooses one
-  --export PATH KIND FILE  clients ask for FILE by PATH; KIND is user or group,
-                           and there are 1 to 16 exports
+  --export PATH KIND FILE  clients ask for FILE by PATH; KIND is user, group or
+                           project, of which the superuser alone is told; there
+                           are 1 to 16 exports
 
 FORMAT is vfsold, vfsv0 or vfsv1. Without --format each file says which of the
-last two it has; flat files need --format vfsold.
+last two it has; flat files need --format vfsold, and projects have none.
 
 Examples:
     quota_cli rquotad --calls 1000 --port 8750 \\
