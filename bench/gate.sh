@@ -4,12 +4,21 @@
 # time and the processor time of all. Then, for each crate, its lines and its functions and the memory that the gate plans
 # before it starts it: where these plans do not fit beside each other, crates wait for each other. Provers that something
 # else started are not counted, but they slow the gate down.
-# usage: bench/gate.sh [LOG]   what the gate says goes to LOG (gate.log in the temporary folder)
+# usage: bench/gate.sh [LOG]           what the gate says goes to LOG (gate.log in the temporary folder)
+#        bench/gate.sh --write [LOG]   besides, what it took and what it plans is written into docs/GATE.md
+#        bench/gate.sh --plans         runs nothing, and writes what the gate plans into docs/GATE.md
 set -u
 top=$(cd "$(dirname "${BASH_SOURCE[0]}")/.." && pwd) || exit 1
 cd "$top" || exit 1
-exec python3 - "${1:-${TMPDIR:-/tmp}/gate.log}" <<'PY'
-import collections, glob, os, re, resource, subprocess, sys, time
+mode=print
+case "${1-}" in
+--write | --plans)
+    mode=${1#--}
+    shift
+    ;;
+esac
+exec python3 - "$mode" "${1:-${TMPDIR:-/tmp}/gate.log}" <<'PY'
+import collections, datetime, glob, os, re, resource, subprocess, sys, time
 
 TICK = os.sysconf("SC_CLK_TCK")
 PAGE = os.sysconf("SC_PAGE_SIZE")
@@ -83,12 +92,41 @@ def plans():
     for crate in below:
         proofs = sum(text.count("\n") for text in lines_of(crate, ".antt"))
         functions = sum(len(re.findall(r"^\s*(?:pub(?:\([a-z]+\))? )?(?:const )?fn \w", text, re.M)) for text in lines_of(crate, ".rt"))
-        bodies = len(glob.glob(f"crates/{crate}/must-fail/*.edit"))
+        bodies = [len(glob.glob(f"crates/{crate}/{folder}/*.edit")) for folder in ("must-fail", "wrong-bodies")]
         memory = 1e9 + 1e6 * source[crate] + 2e5 * proofs + 8e4 * sum(source[it] for it in under(crate))
         yield crate, source[crate], functions, proofs, bodies, memory
 
 
-log = sys.argv[1]
+def write_between(name, lines):
+    """Writes lines into docs/GATE.md, in place of those between the two comments of this name."""
+    path = "docs/GATE.md"
+    begin, end = f"<!-- {name}: written by bench/gate.sh -->\n", f"<!-- end of {name} -->\n"
+    text = text_of(path)
+    front, found, rest = text.partition(begin)
+    _, closed, back = rest.partition(end)
+    if not found or not closed:
+        sys.exit(f"gate.sh: {path} has no place for {name}")
+    with open(path, "w") as out:
+        out.write(front + begin + "".join(f"{line}\n" for line in lines) + end + back)
+
+
+def write_plans():
+    """Writes the table of what the gate plans, the crates with the greatest plans first."""
+    rows = ["| Crate | lines of source | of specifications and proofs | functions | wrong bodies of each gate, and further ones | GB planned |", "|---|---|---|---|---|---|"]
+    for crate, source, functions, proofs, (gated, further), memory in sorted(plans(), key=lambda row: (-round(row[5] / 1e9, 1), row[0])):
+        rows.append(f"| `{crate}` | {source} | {proofs} | {functions} | {gated}, {further} | {memory / 1e9:.1f} |")
+    write_between("plans", rows)
+
+
+def sources():
+    """The commit of the sources, where it is known."""
+    return subprocess.run(["git", "rev-parse", "--short=12", "HEAD"], capture_output=True, text=True).stdout.strip() or "unknown"
+
+
+mode, log = sys.argv[1:3]
+if mode == "plans":
+    write_plans()
+    sys.exit(0)
 knows = subprocess.run(["rt", "help"], capture_output=True, text=True)
 words = ["rt", "ci", "--anew"] if "--anew" in knows.stdout + knows.stderr else ["rt", "ci"]
 seen, start = {}, time.time()
@@ -112,7 +150,20 @@ for part in ("proof", "tests", "wrong bodies"):
     print(f" {sum(s for (_, p), s in spent.items() if p == part) / 60:.1f}", end="")
 print(f"\n{text_of(log).strip().splitlines()[-1] if text_of(log).strip() else 'the gate said nothing'} (the whole log: {log})")
 print(f"\n{'crate':18} {'lines':>6} {'functions':>9} {'proofs':>7} {'bodies':>6} {'GB planned':>10}")
-for crate, source, functions, proofs, bodies, memory in plans():
-    print(f"{crate:18} {source:6} {functions:9} {proofs:7} {bodies:6} {memory / 1e9:10.1f}")
+for crate, source, functions, proofs, (gated, further), memory in plans():
+    print(f"{crate:18} {source:6} {functions:9} {proofs:7} {gated:6} {memory / 1e9:10.1f}")
+if mode == "write":
+    parts = {part: sum(s for (_, p), s in spent.items() if p == part) / 60 for part in ("proof", "tests", "wrong bodies")}
+    names = {"proof": "proof of", "tests": "tests of", "wrong bodies": "wrong bodies of"}
+    most = [f"{names[part]} `{crate}` {seconds:.0f}" for (crate, part), seconds in spent.most_common(8)]
+    write_between("measured", [
+        f"- Day: {datetime.date.today()}, sources {sources()}",
+        f"- Wall time: {wall / 60:.0f} minutes, on {os.cpu_count()} processors",
+        f"- Processor time: {(used.ru_utime + used.ru_stime) / 60:.0f} minutes, of which {parts['proof']:.0f} for proofs, "
+        f"{parts['tests']:.0f} for tests and {parts['wrong bodies']:.0f} for wrong bodies",
+        f"- Most of it, in processor seconds: {', '.join(most)}",
+        f"- Most memory that a prover held: {max(held.values(), default=0) / 1e9:.1f} GB",
+    ])
+    write_plans()
 sys.exit(gate.returncode)
 PY
