@@ -1,0 +1,3 @@
+pub mod ConnectionLemmas
+pub mod HearingLemmas
+pub mod ServingLemmas
