@@ -1,2 +1,3 @@
+pub mod Marked
 pub mod Marker
 pub mod Records

@@ -7,6 +7,7 @@
 //! The one promise: the records that a marker gives are those of the stream, whatever its pieces.
 #![tactic(auto)]
 
+pub mod laws;
 mod marker;
 mod step;
 
