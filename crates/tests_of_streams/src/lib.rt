@@ -1,0 +1,10 @@
+//! Rows of streams: which records a marker gives of a stream, however that is cut into pieces.
+//!
+//! The crate has tests and nothing else, so that what it tests is proved once and not once more with its tests. A row is an
+//! element of a constant, and one small function plays all rows of a kind.
+#![tactic(auto)]
+
+#[cfg(test)]
+mod marker_rows;
+#[cfg(test)]
+mod parts;
