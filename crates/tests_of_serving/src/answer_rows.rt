@@ -257,7 +257,7 @@ reply 1 1 0 0 0 0 2
 call 1 0 2 100011 2 1 1 24 0 'h 0 0 0 0 0 '/home 4294967295 7
 reply 1 1 0 0 0 0 2
 = limits of a project are set by no call
-call 1 0 2 100011 2 3 1 24 0 'h 0 0 0 0 0 2 '/home 7 0 0 0 0 0 0 0 0 0
+call 1 0 2 100011 2 3 1 24 0 'h 0 0 0 0 0 0 '/home 7 2 0 0 0 0 0 0 0 0
 reply 1 1 0 0 0 0 3
 both
 = projects that are not exported are none
