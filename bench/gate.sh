@@ -97,17 +97,24 @@ def plans():
         yield crate, source[crate], functions, proofs, bodies, memory
 
 
-def write_between(name, lines):
-    """Writes lines into docs/GATE.md, in place of those between the two comments of this name."""
-    path = "docs/GATE.md"
+DOCUMENT = "docs/GATE.md"
+
+
+def around(name):
+    """The text of the document up to the lines between the two comments of this name, and from these lines on."""
     begin, end = f"<!-- {name}: written by bench/gate.sh -->\n", f"<!-- end of {name} -->\n"
-    text = text_of(path)
-    front, found, rest = text.partition(begin)
+    front, found, rest = text_of(DOCUMENT).partition(begin)
     _, closed, back = rest.partition(end)
     if not found or not closed:
-        sys.exit(f"gate.sh: {path} has no place for {name}")
-    with open(path, "w") as out:
-        out.write(front + begin + "".join(f"{line}\n" for line in lines) + end + back)
+        sys.exit(f"gate.sh: {DOCUMENT} has no place for {name}")
+    return front + begin, end + back
+
+
+def write_between(name, lines):
+    """Writes lines into the document, in place of those between the two comments of this name."""
+    front, back = around(name)
+    with open(DOCUMENT, "w") as out:
+        out.write(front + "".join(f"{line}\n" for line in lines) + back)
 
 
 def write_plans():
@@ -127,6 +134,10 @@ mode, log = sys.argv[1:3]
 if mode == "plans":
     write_plans()
     sys.exit(0)
+# (before anything runs, since the gate takes long)
+if mode == "write":
+    around("measured")
+    around("plans")
 knows = subprocess.run(["rt", "help"], capture_output=True, text=True)
 words = ["rt", "ci", "--anew"] if "--anew" in knows.stdout + knows.stderr else ["rt", "ci"]
 seen, start = {}, time.time()
