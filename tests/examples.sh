@@ -345,8 +345,8 @@ fails_safely() {
 }
 
 # projects_listed: the script of the page, which is put in place for the recipe behind it, lists each name of an inode with its
-# project, whichever blanks it has. What lsattr cannot open has that of its folder, where it hands it down. Where a file is not
-# told of, and where a name has a newline, it says so, and ends with status 1.
+# project, whichever blanks it has. What lsattr cannot open has that of its folder, where it hands it down. Where a file, or
+# nothing at all, is told of, and where a name has a newline, it says so, and ends with status 1.
 projects_listed() {
     local tree=$folder/tree it
     echo "$text" >tools/project_listing
@@ -374,6 +374,13 @@ projects_listed() {
     printf '%s\n' 'project_listing: no project is told of ./  a b/not told' 'status 1' >wanted
     same "$line" 'where a file is not told of, it says something else'
     rm -f "$tree/  a b/not told"
+    mkdir -p mute
+    printf '%s\n' '#!/bin/sh' 'exit 1' >mute/lsattr
+    chmod +x mute/lsattr
+    PATH=$folder/mute:$PATH tools/project_listing "$tree" >listed 2>got || echo "status $?" >>got
+    printf '%s\n' 'project_listing: no project is told of .' 'status 1' >wanted
+    cat listed >>got
+    same "$line" 'where nothing is told of, it says something else'
     mkdir "$tree/  a b/"$'k\n    8 -------'
     tools/project_listing "$tree" >listed 2>got || echo "status $?" >>got
     printf '%s\n' 'project_listing: a name has a newline: ./  a b/k' '    8 -------' 'status 1' >wanted
