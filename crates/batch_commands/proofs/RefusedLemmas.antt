@@ -5,6 +5,7 @@ use Rattle.std.proofs.lemmas.Bool.{false≢true}
 use Rattle.std.proofs.lemmas.Option.{none-some, same_Some}
 use Rattle.std.proofs.lemmas.Bool.Decides.{nat_tests}
 use Rattle.quota_types.specs.declared.field.Field.{Field}
+use Rattle.quota_types.specs.Format.{is_flat}
 use Rattle.quota_types.specs.declared.file_kind.Format.{Format}
 use Rattle.quota_types.specs.declared.file_kind.Format.TheVariants.{V1, V2R0, V2R1}
 use Rattle.quota_types.specs.declared.file_kind.Kind.{Kind}
@@ -104,7 +105,7 @@ full_long kind None line now file blocks limit full = (refl, tree_full kind None
 full_long kind (Some V2R0) line now file blocks limit full = (refl, tree_full kind (Some V2R0) file full.value full.new blocks limit refl full.seen full.needs full.allowed full.passes)
 full_long kind (Some V2R1) line now file blocks limit full = (refl, tree_full kind (Some V2R1) file full.value full.new blocks limit refl full.seen full.needs full.allowed full.passes)
 full_long kind (Some V1) line now file blocks limit full =
-    let flat : full.new.format ≡ V1 = set_format full.value full.new line.id line.limits now full.edited ∙ full.seen.0.1.format in
+    let flat : is_flat full.new.format ≡ true = ap is_flat (set_format full.value full.new line.id line.limits now full.edited ∙ full.seen.0.1.format) in
     let none = flat_blocks (Some file) full.new full.new.format refl flat in
     absurd (omega (arith, none, full.needs, full.passes))
 

@@ -264,13 +264,13 @@ module _ (kind : Kind) (before after : Format) (source target : List ℕ) (invoc
 
   open_refused : (fault : OpenFault) → IsNotOpened tells.store asked old.store store fault → OnlyLooks source target old.store store
       → Carried steps (Err (refusal_of (opening_cause fault) source))
-  open_refused OpenFailed is looks = looked_failed source target Says tells old store looks steps source (store_rose _ _ _ _ kind (Some before) is.cause) tt
+  open_refused OpenFailed is looks = looked_failed source target Says tells old store looks steps source (store_rose old.store.faults store.faults tells.store (old.store.files source) kind (Some before) is.cause) tt
   open_refused WantsMemory is looks = looked_wanting source target Says tells old store looks steps source tt
   open_refused fault is looks =
       carries_targeting kind before after source target invocation tells old (with_store old store) (Err (refusal_of (opening_cause fault) source)) is.apart is.absent
       (looked_carried source target Says tells old store looks next (refusal_of (opening_cause fault) source) (opening_no_output fault)
       (λ told. ended_steps source target Says tells old store looks next (refusal_of (opening_cause fault) source)
-      (λ new same. inr (fault, fault_seen _ _ _ _ kind (Some before) fault is.cause told.store (λ own. own), record { acts_none = refl; same = same; ends = refl })))
+      (λ new same. inr (fault, fault_seen old.store.faults store.faults tells.store (old.store.files source) kind (Some before) fault is.cause told.store (λ own. own), record { acts_none = refl; same = same; ends = refl })))
       (open_says fault is looks) (nowhere_placed (opening_cause fault) source))
 
   read_refused : (fault : FileFault) → IsReadingFault old.store.faults store.faults tells.store before fault → OnlyLooks source target old.store store

@@ -1,10 +1,9 @@
 -- What a change of an opened file that failed left of it, as the file is seen by whoever opens it.
 use Rattle.std.proofs.Common.{◌⊎◌, inl, inr, ◌≡◌, ◌≤◌, ℕ, Bool, List, length, Option, None, Some, Ok, refl, sym, subst, ap, ◌∙◌}
-use Rattle.std.specs.Prelude.{IsSomeAnd}
-use Rattle.std.proofs.lemmas.Bool.{false≢true}
-use Rattle.quota_types.specs.Format.{IsTreeFormat}
+use Rattle.std.specs.Prelude.{IsSomeAnd, MatchBool, true, false, if◌then◌else◌}
+use Rattle.std.proofs.lemmas.Bool.{cases_Bool, false≢true}
+use Rattle.quota_types.specs.Format.{IsTreeFormat, is_flat}
 use Rattle.quota_types.specs.declared.file_kind.Format.{Format}
-use Rattle.quota_types.specs.declared.file_kind.Format.TheVariants.{V1, V2R0, V2R1}
 use Rattle.quota_types.specs.declared.file_kind.Kind.{Kind}
 use Rattle.opened_file.specs.FileChange.{FileChange}
 use Rattle.opened_file.specs.ValueEdits.{IsLeft}
@@ -17,9 +16,11 @@ use Rattle.tree_meaning.proofs.HeaderLemmas.{header_in_block}
 use Rattle.tree_meaning.proofs.MeaningLemmas.{header_format}
 use Rattle.tree_file.proofs.FewMadeLemmas.{few_made}
 use Rattle.tree_file.specs.TreeChange.{TreeLeaves, TreeMakes}
-use Rattle.quota_v1.specs.Change.{FitsFlat, FlatChanged, FlatMakes}
+use Rattle.quota_v1.specs.Change.{FitsFlat, FlatChanged, FlatLeaves, FlatMakes}
 use Rattle.quota_v1.specs.FlatFile.{FlatStandsFor}
-use Rattle.quota_v1.specs.View.{flat_limit}
+use Rattle.quota_v1.specs.Place.{flat_limit}
+use Rattle.quota_v1.specs.View.{IsFlatView}
+use Rattle.tree_file.specs.View.{IsTreeView}
 use Rattle.quota_map.specs.AnyFile.{HoldsAny, any_seen}
 use Rattle.quota_map.specs.AnyChange.{AnyLeaves, AnyMakes}
 use Rattle.quota_map.specs.StandsFor.{StandsForAs}
@@ -42,17 +43,19 @@ both limit None value few stands = absurd few
 -- a tree file that a change made, and that stands for a value, is seen as that value
 made_seen : (format : Format) (change : FileChange) (name : List ℕ) (old new : World) (value : QuotaValue) → value.format ≡ format → IsTreeFormat format
     → TreeMakes most_blocks change name old new → IsSomeAnd (new name) (λ bytes. TreeStandsFor bytes value) → IsView (new name) value.kind (Some format) (Ok value)
-made_seen V1 change name old new value is other makes stands = absurd (cc (other))
-made_seen V2R0 change name old new value is other makes stands = (both most_blocks (new name) value (few_made most_blocks change name old new makes) stands, refl, sym is)
-made_seen V2R1 change name old new value is other makes stands = (both most_blocks (new name) value (few_made most_blocks change name old new makes) stands, refl, sym is)
+made_seen format change name old new value is other makes stands =
+    subst (λ (b : Bool). MatchBool b (IsFlatView format (new name) value.kind (Ok value)) (IsTreeView (new name) value.kind (Some format) most_blocks (Ok value))) (sym other)
+    (both most_blocks (new name) value (few_made most_blocks change name old new makes) stands, refl, sym is)
 
 -- and a flat file too
-flat_made_seen : (change : FileChange) (name : List ℕ) (old new : World) (value : QuotaValue) → FlatMakes change name old new → IsSomeAnd (new name) (λ bytes. FlatStandsFor bytes value)
-    → IsView (new name) value.kind (Some V1) (Ok value)
-flat_made_seen change name old new value makes stands = (few_and (old name) (new name) value makes.named stands, refl)
+flat_made_seen : (format : Format) (change : FileChange) (name : List ℕ) (old new : World) (value : QuotaValue) → is_flat format ≡ true → FlatMakes format change name old new
+    → IsSomeAnd (new name) (λ bytes. FlatStandsFor format bytes value) → IsView (new name) value.kind (Some format) (Ok value)
+flat_made_seen format change name old new value flat makes stands =
+    subst (λ (b : Bool). MatchBool b (IsFlatView format (new name) value.kind (Ok value)) (IsTreeView (new name) value.kind (Some format) most_blocks (Ok value))) (sym flat)
+    (few_and (old name) (new name) value makes.named stands, refl)
   where
-    few_and : (before after : Option (List ℕ)) (value : QuotaValue) → IsSomeAnd before (λ b. IsSomeAnd after (FitsFlat (FlatChanged change) b)) → IsSomeAnd after (λ bytes. FlatStandsFor bytes value)
-        → IsSomeAnd after (λ bytes. (length bytes ≤ flat_limit) × FlatStandsFor bytes value)
+    few_and : (before after : Option (List ℕ)) (value : QuotaValue) → IsSomeAnd before (λ b. IsSomeAnd after (FitsFlat format (FlatChanged format change) b)) → IsSomeAnd after (λ bytes. FlatStandsFor format bytes value)
+        → IsSomeAnd after (λ bytes. (length bytes ≤ flat_limit format) × FlatStandsFor format bytes value)
     few_and None after value made stands = absurd made
     few_and (Some before) None value made stands = absurd stands
     few_and (Some before) (Some after) value made stands = (made.1, stands)
@@ -62,26 +65,24 @@ pub left_seen : (format : Format) (change : FileChange) (name : List ℕ) (old n
     → IsLeft (AnyMakes (fresh_seen name format) change name) (λ bytes. StandsForAs format bytes value) (AnyLeaves format) name old new
     → (new name ≡ old name)
     ⊎ ((after : Option (List ℕ)) × IsView after value.kind (Some value.format) (Ok value) × AnyLeaves value.format (old name) after (new name))
-left_seen V1 change name old new value is left =
-    let view = flat_made_seen change name old left.after value (left.made.flat refl) left.stands in
-    inr (subst (λ (f : Format). (after : Option (List ℕ)) × IsView after value.kind (Some f) (Ok value) × AnyLeaves f (old name) after (new name)) (sym is)
-    (left.after name, view, left.left))
-left_seen V2R0 change name old new value is left =
-    let view = made_seen V2R0 change name old left.after value is refl (left.made.tree refl) left.stands in
-    inr (subst (λ (f : Format). (after : Option (List ℕ)) × IsView after value.kind (Some f) (Ok value) × AnyLeaves f (old name) after (new name)) (sym is)
-    (left.after name, view, left.left))
-left_seen V2R1 change name old new value is left =
-    let view = made_seen V2R1 change name old left.after value is refl (left.made.tree refl) left.stands in
+left_seen format change name old new value is left =
+    let P : Bool → (bytes : List ℕ) → Type 0 = λ b bytes. MatchBool b (FlatStandsFor format bytes value) (TreeStandsFor bytes value) in
+    let view : IsView (left.after name) value.kind (Some format) (Ok value) = elim (cases_Bool (is_flat format)) [
+      | inl flat ↦ flat_made_seen format change name old left.after value flat (left.made.flat flat) (subst (λ (b : Bool). IsSomeAnd (left.after name) (P b)) flat left.stands)
+      | inr tree ↦ made_seen format change name old left.after value is tree (subst (λ (b : Bool). TreeMakes (if b then 0 else most_blocks) change name old left.after) tree (left.made.tree tree)) (subst (λ (b : Bool). IsSomeAnd (left.after name) (P b)) tree left.stands)
+    ] in
     inr (subst (λ (f : Format). (after : Option (List ℕ)) × IsView after value.kind (Some f) (Ok value) × AnyLeaves f (old name) after (new name)) (sym is)
     (left.after name, view, left.left))
 
 -- What is left as it was, or between that and a changed file, is no larger than a file may be.
 
 -- a file of this format has no more bytes, or no more blocks, than it may have
+abbrev IsFewIf : (flat : Bool) → Format → Option (List ℕ) → Type 0
+IsFewIf true format file = IsSomeAnd file (λ bytes. length bytes ≤ flat_limit format)
+IsFewIf false format file = IsSomeAnd file (λ bytes. (header_of bytes).blocks ≤ most_blocks)
+
 abbrev IsFew : Format → Option (List ℕ) → Type 0
-IsFew V1 file = IsSomeAnd file (λ bytes. length bytes ≤ flat_limit)
-IsFew V2R0 file = IsSomeAnd file (λ bytes. (header_of bytes).blocks ≤ most_blocks)
-IsFew V2R1 file = IsSomeAnd file (λ bytes. (header_of bytes).blocks ≤ most_blocks)
+IsFew format file = IsFewIf (is_flat format) format file
 
 -- the first of two facts of a file
 former : (file : Option (List ℕ)) (P Q : List ℕ → Type 0) → IsSomeAnd file (λ bytes. P bytes × Q bytes) → IsSomeAnd file P
@@ -89,9 +90,12 @@ former (Some bytes) P Q two = two.0
 former None P Q two = two
 
 view_few : (format : Format) (named : Option (List ℕ)) (kind : Kind) (value : QuotaValue) → IsView named kind (Some format) (Ok value) → IsFew format named
-view_few V1 named kind value view = former named _ _ view.0
-view_few V2R0 named kind value view = former named _ _ view.0
-view_few V2R1 named kind value view = former named _ _ view.0
+view_few format named kind value view = few_if (is_flat format) format named kind value view
+  where
+    few_if : (flat : Bool) (format : Format) (named : Option (List ℕ)) (kind : Kind) (value : QuotaValue)
+        → MatchBool flat (IsFlatView format named kind (Ok value)) (IsTreeView named kind (Some format) most_blocks (Ok value)) → IsFewIf flat format named
+    few_if true format named kind value view = former named _ _ view.0
+    few_if false format named kind value view = former named _ _ view.0
 
 -- a file with the first block of another one has as many blocks
 first_few : (one other : List ℕ) → block_of other 0 ≡ block_of one 0 → (header_of one).blocks ≤ most_blocks → (header_of other).blocks ≤ most_blocks
@@ -112,18 +116,26 @@ tree_left_few (Some old) (Some after) (Some left) few made (inr torn) =
     ]
 
 left_few : (format : Format) (old after left : Option (List ℕ)) → IsFew format old → IsFew format after → AnyLeaves format old after left → IsFew format left
-left_few V1 old after left few made (inl same) = subst (λ (f : Option (List ℕ)). IsFew V1 f) (sym same) few
-left_few V1 old after left few made (inr same) = subst (λ (f : Option (List ℕ)). IsFew V1 f) (sym same) made
-left_few V2R0 old after left few made leaves = tree_left_few old after left few made leaves
-left_few V2R1 old after left few made leaves = tree_left_few old after left few made leaves
+left_few format old after left few made leaves = left_if (is_flat format) format old after left few made leaves
+  where
+    left_if : (flat : Bool) (format : Format) (old after left : Option (List ℕ)) → IsFewIf flat format old → IsFewIf flat format after
+        → MatchBool flat (FlatLeaves old after left) (TreeLeaves old after left) → IsFewIf flat format left
+    left_if true format old after left few made (inl same) = subst (λ (f : Option (List ℕ)). IsFewIf true format f) (sym same) few
+    left_if true format old after left few made (inr same) = subst (λ (f : Option (List ℕ)). IsFewIf true format f) (sym same) made
+    left_if false format old after left few made leaves = tree_left_few old after left few made leaves
 
 -- a file that is no larger than it may be, and that stands for a value, is seen as that
 few_seen : (format : Format) (named : Option (List ℕ)) (value : QuotaValue) → value.format ≡ format → IsFew format named → IsSomeAnd named (λ bytes. StandsForAs format bytes value)
     → IsView named value.kind (Some format) (Ok value)
-few_seen format None value is few stands = absurd stands
-few_seen V1 (Some bytes) value is few stands = ((few, stands), refl)
-few_seen V2R0 (Some bytes) value is few stands = ((few, stands), refl, sym is)
-few_seen V2R1 (Some bytes) value is few stands = ((few, stands), refl, sym is)
+few_seen format named value is few stands = seen_if (is_flat format) format named value is few stands
+  where
+    seen_if : (flat : Bool) (format : Format) (named : Option (List ℕ)) (value : QuotaValue) → value.format ≡ format → IsFewIf flat format named
+        → IsSomeAnd named (λ bytes. MatchBool flat (FlatStandsFor format bytes value) (TreeStandsFor bytes value))
+        → MatchBool flat (IsFlatView format named value.kind (Ok value)) (IsTreeView named value.kind (Some format) most_blocks (Ok value))
+    seen_if true format None value is few stands = absurd stands
+    seen_if false format None value is few stands = absurd stands
+    seen_if true format (Some bytes) value is few stands = ((few, stands), refl)
+    seen_if false format (Some bytes) value is few stands = ((few, stands), refl, sym is)
 
 -- What a change left that failed is seen as the changed value where it stands for that.
 pub left_stands : (format : Format) (old left : Option (List ℕ)) (held value : QuotaValue) → value.format ≡ format → IsView old held.kind (Some format) (Ok held)

@@ -1,8 +1,9 @@
 -- A file is seen in one way at most, unless it is damaged.
 use Rattle.std.proofs.Common.{◌≡◌, ◌≢◌, ℕ, ◌<◌, ◌≤◌, Bool, true, false, if◌then◌else◌, List, length, Option, None, Some, Ok, Err, Result, refl, sym, ap, ◌∙◌, arith}
-use Rattle.std.specs.Prelude.{nat_lt}
+use Rattle.std.specs.Prelude.{nat_lt, MatchBool}
 use Rattle.std.proofs.lemmas.Bool.Decides.{nat_tests}
 use Rattle.std.proofs.lemmas.Option.{none-some, same_Some}
+use Rattle.quota_types.specs.Format.{is_flat}
 use Rattle.quota_types.specs.declared.file_kind.Format.{Format}
 use Rattle.quota_types.specs.declared.file_kind.Format.TheVariants.{V1, V2R0, V2R1}
 use Rattle.quota_types.specs.declared.file_kind.Kind.{Kind}
@@ -13,7 +14,8 @@ use Rattle.entry_codec.specs.Header.{HeaderNumbers, format_of, header_fault, hea
 use Rattle.entry_codec.specs.declared.header.HeaderFault.{HeaderFault}
 use Rattle.entry_codec.specs.declared.header.HeaderFault.TheVariants.{NotQuota as NoMagic, WrongKind as OtherKind, UnknownVersion as OtherVersion, BadBlockCount as FewBlocks}
 use Rattle.tree_file.specs.View.{HasHeader, IsAsAsked, IsTreeView}
-use Rattle.quota_v1.specs.View.{IsFlatView, flat_limit}
+use Rattle.quota_v1.specs.Place.{flat_limit}
+use Rattle.quota_v1.specs.View.{IsFlatView}
 use Rattle.quota_map.specs.View.{IsView, most_blocks, IsNoDamage}
 use Rattle.quota_map.proofs.SeenLemmas.{view_or_refused}
 use Rattle.quota_map.proofs.SeenOnceLemmas.{seen_once}
@@ -126,33 +128,37 @@ tree_refused_once (Some file) kind asked fault other undamaged seen also = one_t
 
 -- Flat files.
 
-flat_absent : (kind : Kind) (fault : OpenFault) → IsFlatView None kind (Err fault) → fault ≡ NoFile
-flat_absent kind NoFile seen = refl
-flat_absent kind (TooLarge number limit) seen = absurd seen.0
-flat_absent kind _ seen = absurd seen
+flat_absent : (format : Format) (kind : Kind) (fault : OpenFault) → IsFlatView format None kind (Err fault) → fault ≡ NoFile
+flat_absent format kind NoFile seen = refl
+flat_absent format kind (TooLarge number limit) seen = absurd seen.0
+flat_absent format kind _ seen = absurd seen
 
 -- a flat file that is there is refused for its length alone, unless it is damaged
-flat_refused : (kind : Kind) (file : List ℕ) (fault : OpenFault) → IsNoDamage (Err fault) → IsFlatView (Some file) kind (Err fault) → (fault ≡ TooLarge (length file) flat_limit) × (flat_limit < length file)
-flat_refused kind file NoFile undamaged seen = absurd (none-some file (sym seen))
-flat_refused kind file (TooLarge number limit) undamaged seen = (ap (λ (n : ℕ). TooLarge n limit) seen.0.1 ∙ ap (λ (n : ℕ). TooLarge (length file) n) seen.1, seen.0.0)
-flat_refused kind file (Damaged damage) undamaged seen = absurd undamaged
-flat_refused kind file _ undamaged seen = absurd seen
+flat_refused : (format : Format) (kind : Kind) (file : List ℕ) (fault : OpenFault) → IsNoDamage (Err fault) → IsFlatView format (Some file) kind (Err fault) → (fault ≡ TooLarge (length file) (flat_limit format)) × (flat_limit format < length file)
+flat_refused format kind file NoFile undamaged seen = absurd (none-some file (sym seen))
+flat_refused format kind file (TooLarge number limit) undamaged seen = (ap (λ (n : ℕ). TooLarge n limit) seen.0.1 ∙ ap (λ (n : ℕ). TooLarge (length file) n) seen.1, seen.0.0)
+flat_refused format kind file (Damaged damage) undamaged seen = absurd undamaged
+flat_refused format kind file _ undamaged seen = absurd seen
 
-one_flat_refusal : (kind : Kind) (file : List ℕ) (fault other : OpenFault) → IsNoDamage (Err fault) → IsFlatView (Some file) kind (Err fault) → IsFlatView (Some file) kind (Err other) → fault ≡ other
-one_flat_refusal kind file fault (Damaged damage) undamaged seen also = absurd (omega (arith, (flat_refused kind file fault undamaged seen).1, also.0))
-one_flat_refusal kind file fault other undamaged seen also = (flat_refused kind file fault undamaged seen).0 ∙ sym (flat_refused kind file other tt also).0
+one_flat_refusal : (format : Format) (kind : Kind) (file : List ℕ) (fault other : OpenFault) → IsNoDamage (Err fault) → IsFlatView format (Some file) kind (Err fault) → IsFlatView format (Some file) kind (Err other) → fault ≡ other
+one_flat_refusal format kind file fault (Damaged damage) undamaged seen also = absurd (omega (arith, (flat_refused format kind file fault undamaged seen).1, also.0))
+one_flat_refusal format kind file fault other undamaged seen also = (flat_refused format kind file fault undamaged seen).0 ∙ sym (flat_refused format kind file other tt also).0
 
-flat_refused_once : (named : Option (List ℕ)) (kind : Kind) (fault other : OpenFault) → IsNoDamage (Err fault) → IsFlatView named kind (Err fault) → IsFlatView named kind (Err other) → fault ≡ other
-flat_refused_once None kind fault other undamaged seen also = flat_absent kind fault seen ∙ sym (flat_absent kind other also)
-flat_refused_once (Some file) kind fault other undamaged seen also = one_flat_refusal kind file fault other undamaged seen also
+flat_refused_once : (format : Format) (named : Option (List ℕ)) (kind : Kind) (fault other : OpenFault) → IsNoDamage (Err fault) → IsFlatView format named kind (Err fault) → IsFlatView format named kind (Err other) → fault ≡ other
+flat_refused_once format None kind fault other undamaged seen also = flat_absent format kind fault seen ∙ sym (flat_absent format kind other also)
+flat_refused_once format (Some file) kind fault other undamaged seen also = one_flat_refusal format kind file fault other undamaged seen also
 
 -- Files of all formats.
 
 refused_once : (named : Option (List ℕ)) (kind : Kind) (asked : Option Format) (fault other : OpenFault) → IsNoDamage (Err fault) → IsView named kind asked (Err fault) → IsView named kind asked (Err other) → fault ≡ other
 refused_once named kind None fault other undamaged seen also = tree_refused_once named kind None fault other undamaged seen also
-refused_once named kind (Some V1) fault other undamaged seen also = flat_refused_once named kind fault other undamaged seen also
-refused_once named kind (Some V2R0) fault other undamaged seen also = tree_refused_once named kind (Some V2R0) fault other undamaged seen also
-refused_once named kind (Some V2R1) fault other undamaged seen also = tree_refused_once named kind (Some V2R1) fault other undamaged seen also
+refused_once named kind (Some format) fault other undamaged seen also = refused_if (is_flat format) format named kind fault other undamaged seen also
+  where
+    refused_if : (flat : Bool) (format : Format) (named : Option (List ℕ)) (kind : Kind) (fault other : OpenFault) → IsNoDamage (Err fault)
+        → MatchBool flat (IsFlatView format named kind (Err fault)) (IsTreeView named kind (Some format) most_blocks (Err fault))
+        → MatchBool flat (IsFlatView format named kind (Err other)) (IsTreeView named kind (Some format) most_blocks (Err other)) → fault ≡ other
+    refused_if true format named kind fault other undamaged seen also = flat_refused_once format named kind fault other undamaged seen also
+    refused_if false format named kind fault other undamaged seen also = tree_refused_once named kind (Some format) fault other undamaged seen also
 
 -- a file that is seen undamaged is seen in no other way
 pub one_view : (named : Option (List ℕ)) (kind : Kind) (asked : Option Format) (view other : Result QuotaValue OpenFault) → IsNoDamage view → IsView named kind asked view → IsView named kind asked other → view ≡ other

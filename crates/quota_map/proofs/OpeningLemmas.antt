@@ -1,11 +1,13 @@
 -- Why a file of any format is not opened.
-use Rattle.std.proofs.Common.{ℕ, ◌≤◌, Bool, IsTrue, List, Option, None, Some, refl}
-use Rattle.std.specs.Prelude.{IsSome, ⊤}
+use Rattle.std.proofs.Common.{◌≡◌, ℕ, ◌≤◌, Bool, true, false, IsTrue, List, Option, None, Some, refl, sym, ap, subst, inl, inr}
+use Rattle.std.specs.Prelude.{IsSome, ⊤, MatchBool, not}
+use Rattle.std.proofs.lemmas.Bool.{cases_Bool}
 use Rattle.std.specs.Option.{IsSomeAnd}
 use Rattle.quota_types.specs.Damage.{NamesItsId}
 use Rattle.quota_types.specs.declared.damage.Damage.{Damage as Damaged}
+use Rattle.quota_types.specs.declared.damage.DamageKind.TheVariants.{PartialRecord}
+use Rattle.quota_types.specs.Format.{is_flat}
 use Rattle.quota_types.specs.declared.file_kind.Format.{Format}
-use Rattle.quota_types.specs.declared.file_kind.Format.TheVariants.{V1, V2R0, V2R1}
 use Rattle.quota_types.specs.declared.file_kind.Kind.{Kind}
 use Rattle.opened_file.specs.declared.quota_file.OpenFault.{OpenFault}
 use Rattle.opened_file.specs.declared.quota_file.OpenFault.TheVariants.{Store, NoFile, TooLarge, Memory, NotQuota, WrongKind, UnknownVersion, BadBlockCount, FormatMismatch, Damage}
@@ -27,23 +29,27 @@ tree_since before between now tells named kind asked limit BadBlockCount later c
 tree_since before between now tells named kind asked limit (FormatMismatch found) later cause = cause
 tree_since before between now tells named kind asked limit (Damage damage) later cause = cause
 
-flat_since : (before between now : ℕ) (tells : Bool) (named : Option (List ℕ)) (fault : OpenFault) → before ≤ between → IsFlatFault between now tells named fault → IsFlatFault before now tells named fault
-flat_since before between now tells named Store later cause = Rose-since before between now later cause
-flat_since before between now tells named NoFile later cause = cause
-flat_since before between now tells named (TooLarge number most) later cause = cause
-flat_since before between now tells named Memory later cause = cause
-flat_since before between now tells named NotQuota later cause = cause
-flat_since before between now tells named WrongKind later cause = cause
-flat_since before between now tells named UnknownVersion later cause = cause
-flat_since before between now tells named BadBlockCount later cause = cause
-flat_since before between now tells named (FormatMismatch found) later cause = cause
-flat_since before between now tells named (Damage damage) later cause = cause
+flat_since : (format : Format) (before between now : ℕ) (tells : Bool) (named : Option (List ℕ)) (fault : OpenFault) → before ≤ between → IsFlatFault format between now tells named fault → IsFlatFault format before now tells named fault
+flat_since format before between now tells named Store later cause = Rose-since before between now later cause
+flat_since format before between now tells named NoFile later cause = cause
+flat_since format before between now tells named (TooLarge number most) later cause = cause
+flat_since format before between now tells named Memory later cause = cause
+flat_since format before between now tells named NotQuota later cause = cause
+flat_since format before between now tells named WrongKind later cause = cause
+flat_since format before between now tells named UnknownVersion later cause = cause
+flat_since format before between now tells named BadBlockCount later cause = cause
+flat_since format before between now tells named (FormatMismatch found) later cause = cause
+flat_since format before between now tells named (Damage damage) later cause = cause
 
 pub open_since : (before between now : ℕ) (tells : Bool) (named : Option (List ℕ)) (kind : Kind) (format : Format) (fault : OpenFault) → before ≤ between
     → IsOpenFault between now tells named kind (Some format) fault → IsOpenFault before now tells named kind (Some format) fault
-open_since before between now tells named kind V1 fault later cause = flat_since before between now tells named fault later cause
-open_since before between now tells named kind V2R0 fault later cause = tree_since before between now tells named kind (Some V2R0) most_blocks fault later cause
-open_since before between now tells named kind V2R1 fault later cause = tree_since before between now tells named kind (Some V2R1) most_blocks fault later cause
+open_since before between now tells named kind format fault later cause = since_if (is_flat format) format before between now tells named kind fault later cause
+  where
+    since_if : (flat : Bool) (format : Format) (before between now : ℕ) (tells : Bool) (named : Option (List ℕ)) (kind : Kind) (fault : OpenFault) → before ≤ between
+        → MatchBool flat (IsFlatFault format between now tells named fault) (IsTreeFault between now tells named kind (Some format) most_blocks fault)
+        → MatchBool flat (IsFlatFault format before now tells named fault) (IsTreeFault before now tells named kind (Some format) most_blocks fault)
+    since_if true format before between now tells named kind fault later cause = flat_since format before between now tells named fault later cause
+    since_if false format before between now tells named kind fault later cause = tree_since before between now tells named kind (Some format) most_blocks fault later cause
 
 -- Which formats may be refused so.
 
@@ -65,13 +71,14 @@ asked_some : (asked : Option Format) (other : Format → Type 0) → IsSomeAnd a
 asked_some None other some = absurd some
 asked_some (Some wanted) other some = refl
 
-flat_as : (before now : ℕ) (tells : Bool) (named : Option (List ℕ)) (fault : OpenFault) → IsFlatFault before now tells named fault → IsFaultAs (Some V1) fault
-flat_as before now tells named Store cause = tt
-flat_as before now tells named NoFile cause = tt
-flat_as before now tells named (TooLarge number limit) cause = tt
-flat_as before now tells named Memory cause = tt
-flat_as before now tells named (Damage damage) cause = cause.0
-flat_as before now tells named _ cause = absurd cause
+flat_as : (format : Format) (before now : ℕ) (tells : Bool) (named : Option (List ℕ)) (fault : OpenFault)
+    → ((damage : Damaged) → (damage.kind ≡ PartialRecord) × (damage.id ≡ 0) → IsDamageAs (Some format) damage) → IsFlatFault format before now tells named fault → IsFaultAs (Some format) fault
+flat_as format before now tells named Store damaged cause = tt
+flat_as format before now tells named NoFile damaged cause = tt
+flat_as format before now tells named (TooLarge number limit) damaged cause = tt
+flat_as format before now tells named Memory damaged cause = tt
+flat_as format before now tells named (Damage damage) damaged cause = damaged damage cause.0
+flat_as format before now tells named _ damaged cause = absurd cause
 
 tree_as : (asked : Option Format) (before now : ℕ) (tells : Bool) (named : Option (List ℕ)) (kind : Kind) (fault : OpenFault) → IsTrue (asks_tree asked)
     → ((damage : Damaged) → NamesItsId damage.kind damage.id → IsDamageAs asked damage)
@@ -87,6 +94,13 @@ tree_as asked before now tells named kind _ tree damaged cause = tree
 pub open_as : (before now : ℕ) (tells : Bool) (named : Option (List ℕ)) (kind : Kind) (asked : Option Format) (fault : OpenFault) → IsOpenFault before now tells named kind asked fault
     → IsFaultAs asked fault
 open_as before now tells named kind None fault cause = tree_as None before now tells named kind fault refl (λ damage names. names) cause
-open_as before now tells named kind (Some V1) fault cause = flat_as before now tells named fault cause
-open_as before now tells named kind (Some V2R0) fault cause = tree_as (Some V2R0) before now tells named kind fault refl (λ damage names. names) cause
-open_as before now tells named kind (Some V2R1) fault cause = tree_as (Some V2R1) before now tells named kind fault refl (λ damage names. names) cause
+open_as before now tells named kind (Some format) fault cause = elim (cases_Bool (is_flat format)) [
+  | inl flat ↦ flat_as format before now tells named fault (λ damage is. as_if true format damage flat is)
+      (subst (λ (b : Bool). MatchBool b (IsFlatFault format before now tells named fault) (IsTreeFault before now tells named kind (Some format) most_blocks fault)) flat cause)
+  | inr tree ↦ tree_as (Some format) before now tells named kind fault (ap not tree) (λ damage names. as_if false format damage tree names)
+      (subst (λ (b : Bool). MatchBool b (IsFlatFault format before now tells named fault) (IsTreeFault before now tells named kind (Some format) most_blocks fault)) tree cause)
+]
+  where
+    as_if : (flat : Bool) (format : Format) (damage : Damaged) → is_flat format ≡ flat → MatchBool flat ((damage.kind ≡ PartialRecord) × (damage.id ≡ 0)) (NamesItsId damage.kind damage.id)
+        → IsDamageAs (Some format) damage
+    as_if flat format damage is names = subst (λ (b : Bool). MatchBool b ((damage.kind ≡ PartialRecord) × (damage.id ≡ 0)) (NamesItsId damage.kind damage.id)) (sym is) names

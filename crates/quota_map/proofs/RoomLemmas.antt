@@ -5,9 +5,10 @@ use Rattle.std.specs.Prelude.{◌==◌, ◌-◌, find, nat_lt}
 use Rattle.quota_value.specs.QuotaValue.{QuotaValue}
 use Rattle.quota_map.specs.View.{IsView, asks_tree, most_blocks, fresh_seen}
 use Rattle.quota_map.specs.Size.{blocks_after}
+use Rattle.quota_types.specs.Format.{is_flat}
 use Rattle.quota_types.specs.declared.file_kind.Format.{Format}
 use Rattle.quota_types.specs.declared.file_kind.Kind.{Kind}
-use Rattle.quota_types.specs.declared.file_kind.Format.TheVariants.{V1, V2R0, V2R1}
+use Rattle.quota_types.specs.declared.file_kind.Format.TheVariants.{V2R0, V2R1}
 use Rattle.opened_file.specs.FileSeen.{FileSeen}
 use Rattle.outside.specs.World.{World}
 use Rattle.tree_file.specs.Opened.{LacksRoom}
@@ -33,14 +34,19 @@ abbrev pub HasNoRoom : AnyFile → Option (List ℕ) → QuotaValue → ℕ → 
 HasNoRoom file bytes value blocks limit = LacksRoom (any_seen file) bytes value blocks limit
 
 -- a flat file needs no blocks
-pub flat_blocks : (bytes : Option (List ℕ)) (new : QuotaValue) (format : Format) → new.format ≡ format → format ≡ V1 → blocks_after bytes new ≡ 0
-flat_blocks bytes new format is flat = ap (λ (f : Format). blocks_wanted f bytes (ids_in new.records)) (is ∙ flat)
+pub flat_blocks : (bytes : Option (List ℕ)) (new : QuotaValue) (format : Format) → new.format ≡ format → is_flat format ≡ true → blocks_after bytes new ≡ 0
+flat_blocks bytes new format is flat = no_blocks new.format bytes (ids_in new.records) (ap is_flat is ∙ flat)
+  where
+    no_blocks : (format : Format) (bytes : Option (List ℕ)) (ids : List ℕ) → is_flat format ≡ true → blocks_wanted format bytes ids ≡ 0
+    no_blocks V2R0 bytes ids flat = absurd (false≢true flat)
+    no_blocks V2R1 bytes ids flat = absurd (false≢true flat)
+    no_blocks _ bytes ids flat = refl
 
 -- what an opened file that has no room tells of the value, whatever bytes are in its place
 pub lacking : (tells : Bool) (files : World) (file : AnyFile) (bytes : Option (List ℕ)) (value new : QuotaValue) (name : List ℕ) (format : Format) (blocks limit : ℕ) → any_seen file ≡ fresh_seen name format
     → HoldsAny tells files file value → new.format ≡ value.format → HasNoRoom file bytes new blocks limit → IsLacking bytes new blocks limit
 lacking tells files (FlatFile file) bytes value new name format blocks limit seen held same lacks =
-    absurd (omega (arith, lacks.passes, lacks.needs, flat_blocks bytes new value.format same held.stands.format))
+    absurd (omega (arith, lacks.passes, lacks.needs, flat_blocks bytes new value.format same (ap is_flat held.stands.format ∙ file.flat)))
 lacking tells files (TreeFile file) bytes value new name format blocks limit seen held same lacks =
     let most = lacks.may ∙ tree_limit tells _ _ _ file.limit value format (ap (λ (s : FileSeen). s.limit) seen) held in
     (lacks.needs, most, subst (λ (l : ℕ). l < blocks) most lacks.passes)
@@ -48,7 +54,7 @@ lacking tells files (TreeFile file) bytes value new name format blocks limit see
 -- an opened file has no room for a value with which it would have more than the most blocks
 pub lacks_most : (tells : Bool) (files : World) (file : AnyFile) (bytes : Option (List ℕ)) (value new : QuotaValue) (name : List ℕ) (format : Format) → any_seen file ≡ fresh_seen name format
     → HoldsAny tells files file value → new.format ≡ value.format → most_blocks < blocks_after bytes new → HasNoRoom file bytes new (blocks_after bytes new) most_blocks
-lacks_most tells files (FlatFile file) bytes value new name format seen held same more = absurd (omega (arith, more, flat_blocks bytes new value.format same held.stands.format))
+lacks_most tells files (FlatFile file) bytes value new name format seen held same more = absurd (omega (arith, more, flat_blocks bytes new value.format same (ap is_flat held.stands.format ∙ file.flat)))
 lacks_most tells files (TreeFile file) bytes value new name format seen held same more = record {
   needs = refl;
   may = sym (tree_limit tells _ _ _ file.limit value format (ap (λ (s : FileSeen). s.limit) seen) held);
@@ -81,9 +87,9 @@ unfolding tree_blocks_wanted
 tree_few format file ids = with_few file (heads_of (header_of file)) (find (has_no_leaf file (header_of file).blocks) ids)
 
 wanted_few : (format : Format) (file ids : List ℕ) → blocks_wanted format (Some file) ids ≤ (header_of file).blocks + 5
-wanted_few V1 file ids = omega arith
 wanted_few V2R0 file ids = tree_few V2R0 file ids
 wanted_few V2R1 file ids = tree_few V2R1 file ids
+wanted_few _ file ids = omega arith
 
 -- a tree file with so many blocks is long
 tree_long : (file : List ℕ) (value : QuotaValue) (blocks limit wanted : ℕ) → TreeStandsFor file value → wanted ≤ (header_of file).blocks + 5 → blocks ≡ wanted → limit ≡ most_blocks → limit < blocks
@@ -98,8 +104,8 @@ pub tree_full : (kind : Kind) (asked : Option Format) (file : List ℕ) (value n
     → blocks ≡ blocks_after (Some file) new → limit ≡ most_blocks → limit < blocks → 1024 * most_blocks ≤ length file + 4096
 tree_full kind None file value new blocks limit tree seen needs allowed passes =
     tree_long file value blocks limit _ seen.0.1 (wanted_few new.format file (ids_in new.records)) needs allowed passes
-tree_full kind (Some V1) file value new blocks limit tree seen needs allowed passes = absurd (false≢true tree)
 tree_full kind (Some V2R0) file value new blocks limit tree seen needs allowed passes =
     tree_long file value blocks limit _ seen.0.1 (wanted_few new.format file (ids_in new.records)) needs allowed passes
 tree_full kind (Some V2R1) file value new blocks limit tree seen needs allowed passes =
     tree_long file value blocks limit _ seen.0.1 (wanted_few new.format file (ids_in new.records)) needs allowed passes
+tree_full kind (Some _) file value new blocks limit tree seen needs allowed passes = absurd (false≢true tree)

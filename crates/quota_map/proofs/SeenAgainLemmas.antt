@@ -1,9 +1,10 @@
 -- Whoever sees a value of a file sees another one of the same kind and format too, once the file stands for that.
-use Rattle.std.proofs.Common.{◌≡◌, ℕ, Bool, true, false, List, Option, None, Some, Ok, if◌then◌else◌, sym, ap, subst, ◌∙◌, true≢false}
+use Rattle.std.proofs.Common.{◌≡◌, ℕ, Bool, true, false, List, Option, None, Some, Ok, if◌then◌else◌, sym, ap, subst, ◌∙◌}
+use Rattle.std.specs.Prelude.{MatchBool}
 use Rattle.std.proofs.lemmas.Option.{none-some, same_Some}
 use Rattle.quota_types.specs.Format.{IsTreeFormat, is_flat}
 use Rattle.quota_types.specs.declared.file_kind.Format.{Format}
-use Rattle.quota_types.specs.declared.file_kind.Format.TheVariants.{V1, V2R0, V2R1}
+use Rattle.quota_types.specs.declared.file_kind.Format.TheVariants.{V2R0, V2R1}
 use Rattle.quota_types.specs.declared.file_kind.Kind.{Kind}
 use Rattle.quota_value.specs.QuotaValue.{QuotaValue}
 use Rattle.quota_map.specs.View.{IsOpenedAs, IsView, most_blocks}
@@ -21,24 +22,27 @@ tree_as_asked : (named : Option (List ℕ)) (kind : Kind) (value : QuotaValue) �
 tree_as_asked None kind value view = absurd view.0
 tree_as_asked (Some file) kind value view = version_if _ _ value.format view.0.1.version
 
-flat_as_asked : (named : Option (List ℕ)) (kind : Kind) (value : QuotaValue) → IsFlatView named kind (Ok value) → value.format ≡ V1
-flat_as_asked None kind value view = absurd view.0
-flat_as_asked (Some file) kind value view = view.0.1.format
+flat_as_asked : (format : Format) (named : Option (List ℕ)) (kind : Kind) (value : QuotaValue) → IsFlatView format named kind (Ok value) → value.format ≡ format
+flat_as_asked format None kind value view = absurd view.0
+flat_as_asked format (Some file) kind value view = view.0.1.format
 
 as_asked : (kind : Kind) (asked : Option Format) (named : Option (List ℕ)) (value : QuotaValue) → IsView named kind asked (Ok value) → (value.kind ≡ kind) × IsOpenedAs asked value.format
 as_asked kind None named value view = (view.1, tree_as_asked named kind value view)
-as_asked kind (Some V1) named value view = (view.1, flat_as_asked named kind value view)
-as_asked kind (Some V2R0) named value view = (view.1, sym view.2)
-as_asked kind (Some V2R1) named value view = (view.1, sym view.2)
+as_asked kind (Some format) named value view = asked_if (is_flat format) format named kind value view
+  where
+    asked_if : (flat : Bool) (format : Format) (named : Option (List ℕ)) (kind : Kind) (value : QuotaValue)
+        → MatchBool flat (IsFlatView format named kind (Ok value)) (IsTreeView named kind (Some format) most_blocks (Ok value)) → (value.kind ≡ kind) × (value.format ≡ format)
+    asked_if true format named kind value view = (view.1, flat_as_asked format named kind value view)
+    asked_if false format named kind value view = (view.1, sym view.2)
 
 seen_as : (kind : Kind) (asked : Option Format) (named : Option (List ℕ)) (value : QuotaValue) (format : Format) → value.kind ≡ kind → IsOpenedAs asked format → IsView named value.kind (Some format) (Ok value)
     → IsView named kind asked (Ok value)
-seen_as kind None named value V1 same opened view = absurd (true≢false opened)
-seen_as kind None named value _ same opened view = (view.0, same, tt)
-seen_as kind (Some V1) named value V1 same opened view = (view.0, same)
-seen_as kind (Some V2R0) named value V2R0 same opened view = (view.0, same, view.2)
-seen_as kind (Some V2R1) named value V2R1 same opened view = (view.0, same, view.2)
-seen_as kind (Some asked) named value _ same opened view = absurd (cc)
+seen_as kind None named value format same opened view =
+    let tree = subst (λ (b : Bool). MatchBool b (IsFlatView format named value.kind (Ok value)) (IsTreeView named value.kind (Some format) most_blocks (Ok value))) opened view in
+    (tree.0, same, tt)
+seen_as kind (Some asked) named value format same opened view =
+    subst (λ (f : Format). IsView named kind (Some f) (Ok value)) opened
+    (subst (λ (k : Kind). IsView named k (Some format) (Ok value)) same view)
 
 -- whoever sees a value of a file sees another one of its kind and format too, once the file stands for that
 pub seen_again : (kind : Kind) (asked : Option Format) (named other : Option (List ℕ)) (value new : QuotaValue) → IsView named kind asked (Ok value) → new.kind ≡ value.kind → new.format ≡ value.format

@@ -1,11 +1,12 @@
 -- What is seen of a quota file of any format, and of one that is opened.
 use Rattle.std.proofs.Common.{◌≡◌, ℕ, ◌<◌, ◌≤◌, Bool, IsTrue, List, length, Option, Some, None, Ok, Err, refl, sym, subst, ap, ◌∙◌, arith}
-use Rattle.std.specs.Prelude.{⊤}
+use Rattle.std.specs.Prelude.{⊤, MatchBool, true, false, if◌then◌else◌}
 use Rattle.std.specs.Option.{IsSomeAnd}
-use Rattle.std.proofs.lemmas.Option.{none-some}
+use Rattle.std.proofs.lemmas.Option.{none-some, same_Some}
 use Rattle.std.proofs.lemmas.Bool.Decides.{nat_tests}
+use Rattle.quota_types.specs.Format.{IsTreeFormat, is_flat}
 use Rattle.quota_types.specs.declared.file_kind.Format.{Format}
-use Rattle.quota_types.specs.declared.file_kind.Format.TheVariants.{V1, V2R0, V2R1}
+use Rattle.quota_types.specs.declared.file_kind.Format.TheVariants.{V2R0, V2R1}
 use Rattle.quota_types.specs.declared.file_kind.Kind.{Kind}
 use Rattle.outside.specs.Count.{Rose}
 use Rattle.quota_value.specs.QuotaValue.{QuotaValue}
@@ -88,9 +89,13 @@ tree_seen_or_refused (Some file) kind asked limit value (Damaged damage) seen re
 pub view_or_refused : (named : Option (List ℕ)) (kind : Kind) (asked : Option Format) (value : QuotaValue) (fault : OpenFault)
     → IsView named kind asked (Ok value) → IsView named kind asked (Err fault) → ⊥
 view_or_refused named kind None value fault seen refused = tree_seen_or_refused named kind None most_blocks value fault seen refused
-view_or_refused named kind (Some V1) value fault seen refused = seen_or_refused named kind value fault seen refused
-view_or_refused named kind (Some V2R0) value fault seen refused = tree_seen_or_refused named kind (Some V2R0) most_blocks value fault seen refused
-view_or_refused named kind (Some V2R1) value fault seen refused = tree_seen_or_refused named kind (Some V2R1) most_blocks value fault seen refused
+view_or_refused named kind (Some format) value fault seen refused = refused_if (is_flat format) format named kind value fault seen refused
+  where
+    refused_if : (flat : Bool) (format : Format) (named : Option (List ℕ)) (kind : Kind) (value : QuotaValue) (fault : OpenFault)
+        → MatchBool flat (IsFlatView format named kind (Ok value)) (IsTreeView named kind (Some format) most_blocks (Ok value))
+        → MatchBool flat (IsFlatView format named kind (Err fault)) (IsTreeView named kind (Some format) most_blocks (Err fault)) → ⊥
+    refused_if true format named kind value fault seen refused = seen_or_refused format named kind value fault seen refused
+    refused_if false format named kind value fault seen refused = tree_seen_or_refused named kind (Some format) most_blocks value fault seen refused
 
 -- a fault of the store, or lack of memory
 abbrev pub IsOfCall : OpenFault → Type 0
@@ -111,51 +116,59 @@ tree_fault_seen before now tells named kind asked limit BadBlockCount cause told
 tree_fault_seen before now tells named kind asked limit (FormatMismatch found) cause told own = (cause.0, cause.1 told)
 tree_fault_seen before now tells named kind asked limit (Damaged damage) cause told own = (cause.0, cause.1 told)
 
-flat_fault_seen : (before now : ℕ) (tells : Bool) (named : Option (List ℕ)) (kind : Kind) (fault : OpenFault)
-    → IsFlatFault before now tells named fault → IsTrue tells → (IsOfCall fault → ⊥) → IsFlatView named kind (Err fault)
-flat_fault_seen before now tells named kind Store cause told own = absurd (own tt)
-flat_fault_seen before now tells named kind NoFile cause told own = cause told
-flat_fault_seen before now tells named kind Memory cause told own = absurd (own tt)
-flat_fault_seen before now tells named kind (TooLarge number most) cause told own = (cause.1 told, cause.0)
-flat_fault_seen before now tells named kind NotQuota cause told own = absurd cause
-flat_fault_seen before now tells named kind WrongKind cause told own = absurd cause
-flat_fault_seen before now tells named kind UnknownVersion cause told own = absurd cause
-flat_fault_seen before now tells named kind BadBlockCount cause told own = absurd cause
-flat_fault_seen before now tells named kind (FormatMismatch found) cause told own = absurd cause
-flat_fault_seen before now tells named kind (Damaged damage) cause told own = cause.1 told
+flat_fault_seen : (format : Format) (before now : ℕ) (tells : Bool) (named : Option (List ℕ)) (kind : Kind) (fault : OpenFault)
+    → IsFlatFault format before now tells named fault → IsTrue tells → (IsOfCall fault → ⊥) → IsFlatView format named kind (Err fault)
+flat_fault_seen format before now tells named kind Store cause told own = absurd (own tt)
+flat_fault_seen format before now tells named kind NoFile cause told own = cause told
+flat_fault_seen format before now tells named kind Memory cause told own = absurd (own tt)
+flat_fault_seen format before now tells named kind (TooLarge number most) cause told own = (cause.1 told, cause.0)
+flat_fault_seen format before now tells named kind NotQuota cause told own = absurd cause
+flat_fault_seen format before now tells named kind WrongKind cause told own = absurd cause
+flat_fault_seen format before now tells named kind UnknownVersion cause told own = absurd cause
+flat_fault_seen format before now tells named kind BadBlockCount cause told own = absurd cause
+flat_fault_seen format before now tells named kind (FormatMismatch found) cause told own = absurd cause
+flat_fault_seen format before now tells named kind (Damaged damage) cause told own = cause.1 told
 
 -- a refusal is seen of a file that is told, except for a fault of the store and lack of memory
 pub fault_seen : (before now : ℕ) (tells : Bool) (named : Option (List ℕ)) (kind : Kind) (asked : Option Format) (fault : OpenFault)
     → IsOpenFault before now tells named kind asked fault → IsTrue tells → (IsOfCall fault → ⊥) → IsView named kind asked (Err fault)
 fault_seen before now tells named kind None fault cause told own = tree_fault_seen before now tells named kind None most_blocks fault cause told own
-fault_seen before now tells named kind (Some V1) fault cause told own = flat_fault_seen before now tells named kind fault cause told own
-fault_seen before now tells named kind (Some V2R0) fault cause told own = tree_fault_seen before now tells named kind (Some V2R0) most_blocks fault cause told own
-fault_seen before now tells named kind (Some V2R1) fault cause told own = tree_fault_seen before now tells named kind (Some V2R1) most_blocks fault cause told own
+fault_seen before now tells named kind (Some format) fault cause told own = seen_if (is_flat format) format before now tells named kind fault cause told own
+  where
+    seen_if : (flat : Bool) (format : Format) (before now : ℕ) (tells : Bool) (named : Option (List ℕ)) (kind : Kind) (fault : OpenFault)
+        → MatchBool flat (IsFlatFault format before now tells named fault) (IsTreeFault before now tells named kind (Some format) most_blocks fault) → IsTrue tells → (IsOfCall fault → ⊥)
+        → MatchBool flat (IsFlatView format named kind (Err fault)) (IsTreeView named kind (Some format) most_blocks (Err fault))
+    seen_if true format before now tells named kind fault cause told own = flat_fault_seen format before now tells named kind fault cause told own
+    seen_if false format before now tells named kind fault cause told own = tree_fault_seen before now tells named kind (Some format) most_blocks fault cause told own
 
 -- a fault of the store comes where its count rose, whatever was asked for
 pub store_rose : (before now : ℕ) (tells : Bool) (named : Option (List ℕ)) (kind : Kind) (asked : Option Format) → IsOpenFault before now tells named kind asked Store → Rose before now
 store_rose before now tells named kind None cause = cause
-store_rose before now tells named kind (Some V1) cause = cause
-store_rose before now tells named kind (Some V2R0) cause = cause
-store_rose before now tells named kind (Some V2R1) cause = cause
+store_rose before now tells named kind (Some format) cause = either (is_flat format) (Rose before now) cause
+  where
+    either : (flat : Bool) (P : Type 0) → MatchBool flat P P → P
+    either true P is = is
+    either false P is = is
 
 -- a value that an opened flat file holds is seen of its file
-pub flat_held_seen : (tells : Bool) (named : Option (List ℕ)) (len : ℕ) (times : Grace) (window : Window) (value : QuotaValue) → HoldsFlat tells named len times window value
-    → IsView named value.kind (Some value.format) (Ok value)
-flat_held_seen tells named len times window value held =
-    subst (λ (format : Format). IsView named value.kind (Some format) (Ok value)) (sym held.stands.format)
-    (subst (λ (n : Option (List ℕ)). IsFlatView n value.kind (Ok value)) (sym held.there) ((held.few, held.stands), refl))
+pub flat_held_seen : (tells : Bool) (named : Option (List ℕ)) (format : Format) (len : ℕ) (times : Grace) (window : Window) (value : QuotaValue) → is_flat format ≡ true
+    → HoldsFlat tells named format len times window value → IsView named value.kind (Some value.format) (Ok value)
+flat_held_seen tells named format len times window value flat held =
+    subst (λ (f : Format). IsView named value.kind (Some f) (Ok value)) (sym held.stands.format)
+    (subst (λ (b : Bool). MatchBool b (IsFlatView format named value.kind (Ok value)) (IsTreeView named value.kind (Some format) most_blocks (Ok value))) (sym flat)
+    (subst (λ (n : Option (List ℕ)). IsFlatView format n value.kind (Ok value)) (sym held.there) ((held.few, held.stands), refl)))
 
 -- no version is that of a flat file
-no_flat_version : (version : ℕ) → format_of version ≡ Some V1 → ⊥
-no_flat_version version is = grind (arith, nat_tests)
+tree_version : (zero one : Bool) (format : Format) → (if zero then Some V2R0 else if one then Some V2R1 else None) ≡ Some format → IsTreeFormat format
+tree_version true one format is = ap is_flat (sym (same_Some V2R0 format is))
+tree_version false true format is = ap is_flat (sym (same_Some V2R1 format is))
+tree_version false false format is = absurd (none-some format is)
 
 tree_format_seen : (format : Format) (named : Option (List ℕ)) (file : List ℕ) (value : QuotaValue) → named ≡ Some file → (header_of file).blocks ≤ most_blocks → TreeStandsFor file value
     → value.format ≡ format → IsView named value.kind (Some format) (Ok value)
-tree_format_seen V1 named file value there few stands is = absurd (no_flat_version (header_of file).version (stands.version ∙ ap (λ (f : Format). Some f) is))
-tree_format_seen V2R0 named file value there few stands is =
-    (subst (λ (n : Option (List ℕ)). IsSomeAnd n (λ (f : List ℕ). ((header_of f).blocks ≤ most_blocks) × TreeStandsFor f value)) (sym there) (few, stands), refl, sym is)
-tree_format_seen V2R1 named file value there few stands is =
+tree_format_seen format named file value there few stands is =
+    let tree : IsTreeFormat format = tree_version _ _ format (stands.version ∙ ap (λ (f : Format). Some f) is) in
+    subst (λ (b : Bool). MatchBool b (IsFlatView format named value.kind (Ok value)) (IsTreeView named value.kind (Some format) most_blocks (Ok value))) (sym tree)
     (subst (λ (n : Option (List ℕ)). IsSomeAnd n (λ (f : List ℕ). ((header_of f).blocks ≤ most_blocks) × TreeStandsFor f value)) (sym there) (few, stands), refl, sym is)
 
 -- a value that an opened tree file holds is seen of its file, where it may have as many blocks as it may when it is opened
@@ -166,15 +179,20 @@ tree_held_seen tells named header coming limit value is held = tree_format_seen 
 -- a value that is seen is one of the kind that was asked for
 pub view_kind : (named : Option (List ℕ)) (kind : Kind) (asked : Option Format) (value : QuotaValue) → IsView named kind asked (Ok value) → value.kind ≡ kind
 view_kind named kind None value view = view.1
-view_kind named kind (Some V1) value view = view.1
-view_kind named kind (Some V2R0) value view = view.1
-view_kind named kind (Some V2R1) value view = view.1
+view_kind named kind (Some format) value view = kind_if (is_flat format) format named kind value view
+  where
+    kind_if : (flat : Bool) (format : Format) (named : Option (List ℕ)) (kind : Kind) (value : QuotaValue)
+        → MatchBool flat (IsFlatView format named kind (Ok value)) (IsTreeView named kind (Some format) most_blocks (Ok value)) → value.kind ≡ kind
+    kind_if true format named kind value view = view.1
+    kind_if false format named kind value view = view.1
 
 -- a file with some blocks may have the most
 pub most_allowed : (format : Format) (limit : ℕ) (blocks : ℕ) → limit ≡ blocks_allowed format → 2 ≤ blocks → blocks ≤ limit → limit ≡ most_blocks
-most_allowed V1 limit blocks is two few = absurd (omega (arith, is, two, few))
-most_allowed V2R0 limit blocks is two few = is
-most_allowed V2R1 limit blocks is two few = is
+most_allowed format limit blocks is two few = allowed_if (is_flat format) limit blocks is two few
+  where
+    allowed_if : (flat : Bool) (limit blocks : ℕ) → limit ≡ (if flat then 0 else most_blocks) → 2 ≤ blocks → blocks ≤ limit → limit ≡ most_blocks
+    allowed_if true limit blocks is two few = absurd (omega (arith, is, two, few))
+    allowed_if false limit blocks is two few = is
 
 -- an opened tree file may have the most blocks
 pub tree_limit : (tells : Bool) (named : Option (List ℕ)) (header : Header) (coming : Coming) (limit : ℕ) (value : QuotaValue) (format : Format) → limit ≡ blocks_allowed format → HoldsTree tells named header coming limit value
@@ -186,7 +204,7 @@ pub any_held_seen : (tells : Bool) (files : World) (file : AnyFile) (value : Quo
     → IsView (files name) value.kind (Some value.format) (Ok value)
 any_held_seen tells files (FlatFile file) value name format seen held =
     subst (λ (n : List ℕ). IsView (files n) value.kind (Some value.format) (Ok value)) (ap (λ (s : FileSeen). s.name) seen)
-    (flat_held_seen tells (files (string_bytes file.name)) file.len file.times file.window value held)
+    (flat_held_seen tells (files (string_bytes file.name)) file.format file.len file.times file.window value file.flat held)
 any_held_seen tells files (TreeFile file) value name format seen held =
     subst (λ (n : List ℕ). IsView (files n) value.kind (Some value.format) (Ok value)) (ap (λ (s : FileSeen). s.name) seen)
     (tree_held_seen tells (files (name_of file.pages)) file.header file.coming file.limit value

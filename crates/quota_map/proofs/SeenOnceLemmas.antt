@@ -1,10 +1,11 @@
 -- A file is seen as one value at most.
-use Rattle.std.proofs.Common.{◌≡◌, ℕ, List, Option, None, Some, Ok, sym, ◌∙◌}
+use Rattle.std.proofs.Common.{◌≡◌, ℕ, Bool, true, false, List, Option, None, Some, Ok, sym, ◌∙◌}
+use Rattle.std.specs.Prelude.{MatchBool}
 use Rattle.std.specs.Cmp.{nat_cmp_total}
 use Rattle.std.specs.FinMap.{nat_cmp-IsAntisymmetric, same_map}
 use Rattle.quota_types.specs.declared.file_kind.Kind.{Kind}
+use Rattle.quota_types.specs.Format.{is_flat}
 use Rattle.quota_types.specs.declared.file_kind.Format.{Format}
-use Rattle.quota_types.specs.declared.file_kind.Format.TheVariants.{V1, V2R0, V2R1}
 use Rattle.quota_value.specs.QuotaValue.{QuotaValue}
 use Rattle.quota_v1.specs.FlatFile.{FlatStandsFor}
 use Rattle.quota_v1.specs.View.{IsFlatView}
@@ -13,8 +14,8 @@ use Rattle.tree_meaning.proofs.MeaningLemmas.{one_meaning}
 use Rattle.tree_file.specs.View.{IsTreeView}
 
 -- a flat file stands for one value of a kind at most
-flat_meaning : (file : List ℕ) (value other : QuotaValue) → FlatStandsFor file value → FlatStandsFor file other → value.kind ≡ other.kind → value ≡ other
-flat_meaning file value other stands stands' kind =
+flat_meaning : (layout : Format) (file : List ℕ) (value other : QuotaValue) → FlatStandsFor layout file value → FlatStandsFor layout file other → value.kind ≡ other.kind → value ≡ other
+flat_meaning layout file value other stands stands' kind =
     let format : value.format ≡ other.format = stands.format ∙ sym stands'.format in
     let grace : value.grace ≡ other.grace = stands.grace ∙ sym stands'.grace in
     let flags : value.flags ≡ other.flags = stands.flags ∙ sym stands'.flags in
@@ -22,9 +23,9 @@ flat_meaning file value other stands stands' kind =
     (λ id. stands.records id ∙ sym (stands'.records id)) in
     λ i. record { kind = kind i; format = format i; grace = grace i; flags = flags i; records = records i }
 
-flat_once : (named : Option (List ℕ)) (kind : Kind) (value other : QuotaValue) → IsFlatView named kind (Ok value) → IsFlatView named kind (Ok other) → value ≡ other
-flat_once None kind value other seen also = absurd seen.0
-flat_once (Some file) kind value other seen also = flat_meaning file value other seen.0.1 also.0.1 (seen.1 ∙ sym also.1)
+flat_once : (format : Format) (named : Option (List ℕ)) (kind : Kind) (value other : QuotaValue) → IsFlatView format named kind (Ok value) → IsFlatView format named kind (Ok other) → value ≡ other
+flat_once format None kind value other seen also = absurd seen.0
+flat_once format (Some file) kind value other seen also = flat_meaning format file value other seen.0.1 also.0.1 (seen.1 ∙ sym also.1)
 
 tree_once : (named : Option (List ℕ)) (kind : Kind) (asked : Option Format) (value other : QuotaValue)
     → IsTreeView named kind asked most_blocks (Ok value) → IsTreeView named kind asked most_blocks (Ok other) → value ≡ other
@@ -33,6 +34,10 @@ tree_once (Some file) kind asked value other seen also = one_meaning file value 
 
 pub seen_once : (named : Option (List ℕ)) (kind : Kind) (asked : Option Format) (value other : QuotaValue) → IsView named kind asked (Ok value) → IsView named kind asked (Ok other) → value ≡ other
 seen_once named kind None value other seen also = tree_once named kind None value other seen also
-seen_once named kind (Some V1) value other seen also = flat_once named kind value other seen also
-seen_once named kind (Some V2R0) value other seen also = tree_once named kind (Some V2R0) value other seen also
-seen_once named kind (Some V2R1) value other seen also = tree_once named kind (Some V2R1) value other seen also
+seen_once named kind (Some format) value other seen also = once_if (is_flat format) format named kind value other seen also
+  where
+    once_if : (flat : Bool) (format : Format) (named : Option (List ℕ)) (kind : Kind) (value other : QuotaValue)
+        → MatchBool flat (IsFlatView format named kind (Ok value)) (IsTreeView named kind (Some format) most_blocks (Ok value))
+        → MatchBool flat (IsFlatView format named kind (Ok other)) (IsTreeView named kind (Some format) most_blocks (Ok other)) → value ≡ other
+    once_if true format named kind value other seen also = flat_once format named kind value other seen also
+    once_if false format named kind value other seen also = tree_once named kind (Some format) value other seen also

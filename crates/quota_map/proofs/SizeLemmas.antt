@@ -3,7 +3,7 @@ use Rattle.std.proofs.Common.{ℕ, ◌/◌, ◌^◌, ◌≤◌, Bool, List, [], 
 use Rattle.std.specs.Prelude.{◌==◌, not}
 use Rattle.std.proofs.lemmas.List.{length-map}
 use Rattle.std.proofs.lemmas.List.Filters.{length-filter_both}
-use Rattle.quota_types.specs.declared.file_kind.Format.TheVariants.{V2R1, V1, V2R0}
+use Rattle.quota_types.specs.declared.file_kind.Format.TheVariants.{V2R0, V2R1}
 use Rattle.quota_map.specs.View.{most_blocks}
 use Rattle.tree_build.specs.Size.{beginnings, blocks_needed, each_once}
 use Rattle.quota_types.specs.Format.{IsTreeFormat}
@@ -24,6 +24,6 @@ few_blocks ids few = omega (arith, few_beginnings 3 ids, few_beginnings 2 ids, f
 
 -- a flat file needs no blocks
 pub no_flat_blocks : (format : Format) (ids : List ℕ) (most : ℕ) → most < blocks_needed format ids → IsTreeFormat format
-no_flat_blocks V1 ids most passes = absurd (omega (arith, passes))
 no_flat_blocks V2R0 ids most passes = refl
 no_flat_blocks V2R1 ids most passes = refl
+no_flat_blocks _ ids most passes = absurd (omega (arith, passes))

@@ -1,7 +1,7 @@
 -- A whole file of any format that is built and put in the place of another one.
-use Rattle.std.specs.Prelude.{◌≡◌, ◌⊎◌, ℕ, ◌*◌, ◌<◌, ◌≤◌, Bool, IsTrue, List, [], ◌∷◌, length, ⊤}
+use Rattle.std.specs.Prelude.{◌≡◌, ◌⊎◌, ℕ, ◌*◌, ◌<◌, ◌≤◌, Bool, MatchBool, if◌then◌else◌, IsTrue, List, [], ◌∷◌, length, ⊤}
+use Rattle.quota_types.specs.Format.{is_flat}
 use Rattle.quota_types.specs.declared.file_kind.Format.{Format}
-use Rattle.quota_types.specs.declared.file_kind.Format.TheVariants.{V1, V2R0, V2R1}
 use Rattle.outside.specs.Count.{Rose}
 use Rattle.quota_value.specs.QuotaValue.{QuotaValue}
 use Rattle.outside.specs.ManyCalls.{replaced_files}
@@ -13,33 +13,29 @@ use Rattle.quota_types.specs.declared.record.Grace.{Grace}
 use Rattle.tree_build.specs.Build.{HasNoPadding, HasOneRoom}
 use Rattle.tree_build.specs.Size.{blocks_needed}
 use Rattle.quota_v1.specs.Build.{IsZeroElsewhere, records_needed}
-use Rattle.quota_v1.specs.Place.{block_time_start, inode_time_start, record_start}
+use Rattle.quota_v1.specs.Place.{block_time_start, inode_time_start, record_start, time_width}
 use Rattle.quota_map.specs.StandsFor.{StandsFor}
 
--- how many bytes a file of these identifiers is built of: a flat file of records of 40 bytes, a tree file of blocks of 1,024
+-- how many bytes a file of these identifiers is built of: a flat file of records, a tree file of blocks of 1,024
 abbrev pub built_size : Format → List ℕ → ℕ
-built_size V1 ids = record_start (records_needed ids)
-built_size V2R0 ids = 1024 * blocks_needed V2R0 ids
-built_size V2R1 ids = 1024 * blocks_needed V2R1 ids
+built_size format ids = if is_flat format then record_start format (records_needed ids) else 1024 * blocks_needed format ids
 
 -- the flags that a file of the format is given: a flat file has none, which are read as 0
 abbrev pub flags_in : Format → ℕ → ℕ
-flags_in V1 flags = 0
-flags_in V2R0 flags = flags
-flags_in V2R1 flags = flags
+flags_in format flags = if is_flat format then 0 else flags
 
 -- The two times of record 0 of a flat file are the grace periods as they were given.
-pub record HasTimes (grace : Grace) (file : List ℕ) : Type 0 where
-  pub block : number_at 8 file (block_time_start 0) ≡ grace.block
-  pub inode : number_at 8 file (inode_time_start 0) ≡ grace.inode
+pub record HasTimes (format : Format) (grace : Grace) (file : List ℕ) : Type 0 where
+  pub block : number_at (time_width format) file (block_time_start format 0) ≡ grace.block
+  pub inode : number_at (time_width format) file (inode_time_start format 0) ≡ grace.inode
 
 -- A file of these identifiers has nothing beside what it stands for. Of a flat file each byte of an identifier that is not
 -- one of these is 0, but for the grace periods. Of a tree file at most one data block has room, and each byte that no field
 -- names is 0.
 abbrev pub IsPlain : Format → Grace → List ℕ → List ℕ → Type 0
-IsPlain V1 grace ids file = HasTimes grace file × IsZeroElsewhere ids file
-IsPlain V2R0 grace ids file = HasOneRoom V2R0 file (blocks_needed V2R0 ids) × HasNoPadding V2R0 file (blocks_needed V2R0 ids)
-IsPlain V2R1 grace ids file = HasOneRoom V2R1 file (blocks_needed V2R1 ids) × HasNoPadding V2R1 file (blocks_needed V2R1 ids)
+IsPlain format grace ids file = MatchBool (is_flat format)
+    (HasTimes format grace file × IsZeroElsewhere format ids file)
+    (HasOneRoom format file (blocks_needed format ids) × HasNoPadding format file (blocks_needed format ids))
 
 -- The named file is a new one of this many bytes, which stands for the value of these entries and has nothing beside it.
 -- All other files are as before, but that none is left under the name that the new file was written under.

@@ -1,9 +1,8 @@
 -- What is seen of a quota file by whoever opens it: as a flat file exactly where that format is asked for, and otherwise as a
 -- tree file. Source: quotaon(8) and setquota(8) on formats, of which only vfsold has no magic number.
-use Rattle.std.specs.Prelude.{◌≡◌, ℕ, Bool, true, false, List, ◌+◌, ◌*◌, Option, Some, None, Result, Err, ⊤, not, MatchBool}
+use Rattle.std.specs.Prelude.{◌≡◌, ℕ, Bool, true, false, List, ◌+◌, ◌*◌, Option, Some, None, Result, Err, ⊤, not, MatchBool, if◌then◌else◌}
 use Rattle.quota_types.specs.Format.{IsTreeFormat, is_flat}
 use Rattle.quota_types.specs.declared.file_kind.Format.{Format}
-use Rattle.quota_types.specs.declared.file_kind.Format.TheVariants.{V1, V2R0, V2R1}
 use Rattle.quota_types.specs.declared.file_kind.Kind.{Kind}
 use Rattle.entry_codec.specs.Header.{header_of}
 use Rattle.opened_file.specs.FileSeen.{FileSeen}
@@ -30,22 +29,18 @@ asks_flat (Some format) = is_flat format
 -- the file stands for a value of the kind, in the format that was asked for, where one was; or it is refused
 abbrev pub IsView : Option (List ℕ) → Kind → Option Format → Result QuotaValue OpenFault → Type 0
 IsView named kind None result = IsTreeView named kind None most_blocks result
-IsView named kind (Some V1) result = IsFlatView named kind result
-IsView named kind (Some V2R0) result = IsTreeView named kind (Some V2R0) most_blocks result
-IsView named kind (Some V2R1) result = IsTreeView named kind (Some V2R1) most_blocks result
+IsView named kind (Some format) result =
+    MatchBool (is_flat format) (IsFlatView format named kind result) (IsTreeView named kind (Some format) most_blocks result)
 
 -- why opening is refused, as one of a flat file exactly where that format is asked for
 abbrev pub IsOpenFault : ℕ → ℕ → Bool → Option (List ℕ) → Kind → Option Format → OpenFault → Type 0
 IsOpenFault before now tells named kind None fault = IsTreeFault before now tells named kind None most_blocks fault
-IsOpenFault before now tells named kind (Some V1) fault = IsFlatFault before now tells named fault
-IsOpenFault before now tells named kind (Some V2R0) fault = IsTreeFault before now tells named kind (Some V2R0) most_blocks fault
-IsOpenFault before now tells named kind (Some V2R1) fault = IsTreeFault before now tells named kind (Some V2R1) most_blocks fault
+IsOpenFault before now tells named kind (Some format) fault =
+    MatchBool (is_flat format) (IsFlatFault format before now tells named fault) (IsTreeFault before now tells named kind (Some format) most_blocks fault)
 
 -- how many blocks an opened file of a format may have; a flat file has none
 abbrev pub blocks_allowed : Format → ℕ
-blocks_allowed V1 = 0
-blocks_allowed V2R0 = most_blocks
-blocks_allowed V2R1 = most_blocks
+blocks_allowed format = if is_flat format then 0 else most_blocks
 
 -- what is seen of one that was just opened
 abbrev pub fresh_seen : List ℕ → Format → FileSeen
@@ -60,9 +55,7 @@ IsOpenedAs (Some wanted) format = format ≡ wanted
 -- asked for: one of a flat file, and of a tree file one, and two for each block that its header states
 abbrev pub opening_reads : Option Format → List ℕ → ℕ
 opening_reads None bytes = 1 + 2 * (header_of bytes).blocks
-opening_reads (Some V1) bytes = 1
-opening_reads (Some V2R0) bytes = 1 + 2 * (header_of bytes).blocks
-opening_reads (Some V2R1) bytes = 1 + 2 * (header_of bytes).blocks
+opening_reads (Some format) bytes = if is_flat format then 1 else 1 + 2 * (header_of bytes).blocks
 
 -- what is seen of a file is no damage: it is a value, or another refusal
 abbrev pub IsNoDamage : Result QuotaValue OpenFault → Type 0

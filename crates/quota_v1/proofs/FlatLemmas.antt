@@ -1,12 +1,13 @@
 -- The records of a flat file and of the value that it stands for.
-use Rattle.std.proofs.Common.{◌≡◌, ℕ, zero, suc, ◌+◌, ◌*◌, ◌/◌, ◌%◌, ◌<◌, ◌≤◌, Bool, true, false, cond, List, length, Option, Some, None, nat_le, refl, sym, ap, subst, ◌∙◌, ◌⊎◌, inl, inr, arith}
+use Rattle.std.proofs.Common.{◌≡◌, ℕ, zero, suc, ◌+◌, ◌/◌, ◌%◌, ◌<◌, ◌≤◌, Bool, true, false, cond, List, length, Option, Some, None, nat_le, refl, sym, ap, subst, ◌∙◌, ◌⊎◌, inl, inr, arith}
 use Rattle.std.proofs.lemmas.Bool.{cases_lt, lt-leb}
 use Rattle.std.specs.Ordering.{nat_cmp, eq_by_cmp, is_eq}
 use Rattle.std.specs.declared.cmp.Ordering.TheVariants.{Less, Equal, Greater}
 use Rattle.std.specs.Cmp.{nat_cmp_total, nat_cmp_is}
 use Rattle.std.specs.FinMap.{get, insert, empty, get-empty, get-insert}
 use Rattle.quota_types.specs.declared.file_kind.Kind.{Kind}
-use Rattle.quota_types.specs.declared.file_kind.Format.TheVariants.{V1}
+use Rattle.quota_types.specs.Format.{record_size}
+use Rattle.quota_types.specs.declared.file_kind.Format.{Format}
 use Rattle.quota_types.specs.declared.record.Rec.{Rec}
 use Rattle.quota_types.specs.declared.record.Entry.{Entry}
 use Rattle.quota_value.specs.QuotaValue.{QuotaValue, Records}
@@ -14,7 +15,8 @@ use Rattle.quota_value.specs.NextRecord.{IsNextAfter}
 use Rattle.quota_types.specs.Ids.{IsAfter}
 use Rattle.quota_v1.specs.FlatFile.{flat_record, flat_grace, FlatStandsFor, timed_record, unless_zeros}
 use Rattle.quota_v1.specs.Slot.{IsFirstRecord}
-use Rattle.quota_v1.specs.Place.{block_time_start, inode_time_start, record_start}
+use Rattle.quota_v1.specs.Place.{record_start}
+use Rattle.quota_v1.proofs.PlaceLemmas.{past_all}
 
 -- a record put in where there is one
 with_record : Option Rec → ℕ → Records → Records
@@ -43,65 +45,64 @@ get-with_record-other (Some rec) id records q other =
     get-insert nat_cmp_total records id rec q ∙ ap (λ (b : Bool). cond b (Some rec) (get records q)) other
 
 -- the records of the first identifiers
-records_below : List ℕ → ℕ → Records
-records_below file zero = empty
-records_below file (suc n) = with_record (flat_record file n) n (records_below file n)
+records_below : Format → List ℕ → ℕ → Records
+records_below format file zero = empty
+records_below format file (suc n) = with_record (flat_record format file n) n (records_below format file n)
 
-get-records_below-past : (file : List ℕ) (n q : ℕ) → n ≤ q → get (records_below file n) q ≡ None
+get-records_below-past : (format : Format) (file : List ℕ) (n q : ℕ) → n ≤ q → get (records_below format file n) q ≡ None
 unfolding records_below
-get-records_below-past file zero q h = get-empty nat_cmp q
-get-records_below-past file (suc n) q h =
-    get-with_record-other (flat_record file n) n (records_below file n) q (higher_key q n (omega arith))
-    ∙ get-records_below-past file n q (omega arith)
+get-records_below-past format file zero q h = get-empty nat_cmp q
+get-records_below-past format file (suc n) q h =
+    get-with_record-other (flat_record format file n) n (records_below format file n) q (higher_key q n (omega arith))
+    ∙ get-records_below-past format file n q (omega arith)
 
 below_cases : (n q : ℕ) → q < suc n → (q < n) ⊎ (q ≡ n)
 below_cases n q h = elim (cases_lt q n) [ inl low ↦ inl low | inr high ↦ inr (omega arith) ]
 
-get-records_below : (file : List ℕ) (n q : ℕ) → q < n → get (records_below file n) q ≡ flat_record file q
+get-records_below : (format : Format) (file : List ℕ) (n q : ℕ) → q < n → get (records_below format file n) q ≡ flat_record format file q
 unfolding records_below
-get-records_below file zero q h = absurd (omega arith)
-get-records_below file (suc n) q h = elim (below_cases n q h) [
-  | inl low ↦ get-with_record-other (flat_record file n) n (records_below file n) q (lower_key q n low) ∙ get-records_below file n q low
-  | inr same ↦ subst (λ (k : ℕ). get (with_record (flat_record file n) n (records_below file n)) k ≡ flat_record file k) (sym same)
-      (get-with_record-same (flat_record file n) n (records_below file n) (get-records_below-past file n n (omega arith)))
+get-records_below format file zero q h = absurd (omega arith)
+get-records_below format file (suc n) q h = elim (below_cases n q h) [
+  | inl low ↦ get-with_record-other (flat_record format file n) n (records_below format file n) q (lower_key q n low) ∙ get-records_below format file n q low
+  | inr same ↦ subst (λ (k : ℕ). get (with_record (flat_record format file n) n (records_below format file n)) k ≡ flat_record format file k) (sym same)
+      (get-with_record-same (flat_record format file n) n (records_below format file n) (get-records_below-past format file n n (omega arith)))
 ]
 
 -- the value of a file of one kind
-pub flat_value : Kind → List ℕ → QuotaValue
-flat_value kind file = record { kind = kind; format = V1; grace = flat_grace file; flags = 0; records = records_below file (length file / 40) }
+pub flat_value : Kind → Format → List ℕ → QuotaValue
+flat_value kind format file = record { kind = kind; format = format; grace = flat_grace format file; flags = 0; records = records_below format file (length file / record_size format) }
 
-pub flat_value-kind : (kind : Kind) (file : List ℕ) → (flat_value kind file).kind ≡ kind
+pub flat_value-kind : (kind : Kind) (format : Format) (file : List ℕ) → (flat_value kind format file).kind ≡ kind
 unfolding flat_value
-flat_value-kind kind file = refl
+flat_value-kind kind format file = refl
 
-pub flat_record-past : (file : List ℕ) (id : ℕ) → length file / 40 ≤ id → flat_record file id ≡ None
-unfolding record_start block_time_start inode_time_start
-flat_record-past file id h =
-    let long : nat_le (40 * id + 40) (length file) ≡ false = lt-leb (40 * id + 40) (length file) (omega arith) in
-    ap (λ (b : Bool). cond b (unless_zeros (timed_record file id)) None) long
+pub flat_record-past : (format : Format) (file : List ℕ) (id : ℕ) → length file / record_size format ≤ id → flat_record format file id ≡ None
+flat_record-past format file id h =
+    let long : nat_le (record_start format id + record_size format) (length file) ≡ false = lt-leb (record_start format id + record_size format) (length file) (past_all format (length file) id h) in
+    ap (λ (b : Bool). cond b (unless_zeros (timed_record format file id)) None) long
 
 -- a file of whole records stands for its value
-pub stands_for_value : (kind : Kind) (file : List ℕ) → length file % 40 ≡ 0 → FlatStandsFor file (flat_value kind file)
+pub stands_for_value : (kind : Kind) (format : Format) (file : List ℕ) → length file % record_size format ≡ 0 → FlatStandsFor format file (flat_value kind format file)
 unfolding flat_value
-stands_for_value kind file whole = record {
+stands_for_value kind format file whole = record {
   whole = whole;
   format = refl;
   flags = refl;
   grace = refl;
-  records = λ id. elim (cases_lt id (length file / 40)) [
-    | inl low ↦ get-records_below file (length file / 40) id low
-    | inr high ↦ get-records_below-past file (length file / 40) id high ∙ sym (flat_record-past file id high)
+  records = λ id. elim (cases_lt id (length file / record_size format)) [
+    | inl low ↦ get-records_below format file (length file / record_size format) id low
+    | inr high ↦ get-records_below-past format file (length file / record_size format) id high ∙ sym (flat_record-past format file id high)
   ];
 }
 
 -- the first record from the identifier that comes after another one is the next one of the value
-pub next_of_first : (file : List ℕ) (after : Option ℕ) (from records : ℕ) (found : Option Entry) (value : QuotaValue) → FlatStandsFor file value → records ≡ length file / 40
-    → ((id : ℕ) → IsAfter after id → from ≤ id) → ((id : ℕ) → from ≤ id → id < records → IsAfter after id) → IsFirstRecord file from records found → IsNextAfter after value.records found
-next_of_first file after from records None value stands all first comes none = λ id is. elim (cases_lt id records) [
+pub next_of_first : (format : Format) (file : List ℕ) (after : Option ℕ) (from records : ℕ) (found : Option Entry) (value : QuotaValue) → FlatStandsFor format file value → records ≡ length file / record_size format
+    → ((id : ℕ) → IsAfter after id → from ≤ id) → ((id : ℕ) → from ≤ id → id < records → IsAfter after id) → IsFirstRecord format file from records found → IsNextAfter after value.records found
+next_of_first format file after from records None value stands all first comes none = λ id is. elim (cases_lt id records) [
   | inl low ↦ stands.records id ∙ none id (first id is) low
-  | inr high ↦ stands.records id ∙ flat_record-past file id (omega (arith, all, high))
+  | inr high ↦ stands.records id ∙ flat_record-past format file id (omega (arith, all, high))
 ]
-next_of_first file after from records (Some entry) value stands all first comes next = (
+next_of_first format file after from records (Some entry) value stands all first comes next = (
   comes entry.id next.0 next.1,
   stands.records entry.id ∙ next.2,
   λ id is less. stands.records id ∙ next.3 id (first id is) less,

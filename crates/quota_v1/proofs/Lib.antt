@@ -1,3 +1,4 @@
+pub mod PlaceLemmas
 pub mod FlatLemmas
 pub mod ViewLemmas
 pub mod RecordLemmas

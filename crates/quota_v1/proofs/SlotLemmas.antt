@@ -10,7 +10,10 @@ use Rattle.outside.proofs.OverwriteLemmas.{get_or-overwritten_before, get_or-ove
 use Rattle.outside.specs.World.{World, overwritten, with_bytes}
 use Rattle.quota_types.specs.Bytes.{byte_at, number_at}
 use Rattle.quota_types.specs.KeptBytes.{KeepsOutside}
+use Rattle.quota_types.specs.Format.{is_flat, record_size}
 use Rattle.quota_types.specs.Times.{StandsIn, times}
+use Rattle.quota_types.specs.declared.file_kind.Format.{Format}
+use Rattle.quota_types.proofs.BytesLemmas.{number_at-take}
 use Rattle.quota_types.proofs.TimesLemmas.{times-cons-same, times_cases}
 use Rattle.quota_types.specs.declared.record.Rec.{Rec}
 use Rattle.opened_file.specs.QuotaFile.{ChangesBlocks}
@@ -19,7 +22,8 @@ use Rattle.quota_v1.specs.FlatFile.{flat_record, stored_at, timed_at, timed_reco
 use Rattle.quota_v1.proofs.RecordLemmas.{flat_record-read}
 use Rattle.std.proofs.lemmas.Bool.Decides.{nat_tests}
 use Rattle.quota_v1.specs.Slot.{AreFrom, MakesOne}
-use Rattle.quota_v1.specs.Place.{block_time_start, inode_time_start, record_start}
+use Rattle.quota_v1.specs.Place.{block_time_at, inode_time_at, record_start, time_width}
+use Rattle.quota_v1.proofs.PlaceLemmas.{times_fill}
 
 -- a buffer has this many bytes behind those that were read, and none behind these
 room_behind : (count room : ℕ) (buffer : List ℕ) → length buffer ≡ room → length (mid_of count (room - count) buffer) ≡ room - count
@@ -87,18 +91,44 @@ pub number_from : (width : ℕ) (file : List ℕ) (at : ℕ) (bytes : List ℕ) 
 number_from width file at bytes place from within = number_shifted width place at bytes file (λ k low high. from k (omega arith))
 
 -- the record that stands among bytes of a file
-pub stored_from : (file : List ℕ) (start : ℕ) (bytes : List ℕ) (at : ℕ) → AreFrom file start bytes → at + 40 ≤ length bytes → stored_at bytes at ≡ stored_at file (start + at)
-stored_from file start bytes at from within =
-    let same : (width place : ℕ) → place + width ≤ 40 → number_at width bytes (at + place) ≡ number_at width file (start + at + place) = λ width place h.
+pub stored_from : (format : Format) → is_flat format ≡ true → (file : List ℕ) (start : ℕ) (bytes : List ℕ) (at : ℕ) → AreFrom file start bytes → at + record_size format ≤ length bytes → stored_at format bytes at ≡ stored_at format file (start + at)
+stored_from format flat file start bytes at from within =
+    let fill = times_fill format flat in
+    let same : (width place : ℕ) → place + width ≤ record_size format → number_at width bytes (at + place) ≡ number_at width file (start + at + place) = λ width place h.
     number_from width file start bytes (at + place) from (omega arith) ∙ ap (number_at width file) (omega arith) in
-    let first : number_at 4 bytes at ≡ number_at 4 file (start + at) = number_from 4 file start bytes at from (omega arith) in
-    rw (first, same 4 4 (omega arith), same 4 8 (omega arith), same 4 12 (omega arith), same 4 16 (omega arith), same 4 20 (omega arith), same 8 24 (omega arith), same 8 32 (omega arith))
+    let first : number_at 4 bytes at ≡ number_at 4 file (start + at) = number_from 4 file start bytes at from (omega (arith, fill)) in
+    rw (
+      first,
+      same 4 4 (omega (arith, fill)),
+      same 4 8 (omega (arith, fill)),
+      same 4 12 (omega (arith, fill)),
+      same 4 16 (omega (arith, fill)),
+      same 4 20 (omega (arith, fill)),
+      same (time_width format) block_time_at (omega (arith, fill)),
+      same (time_width format) (inode_time_at format) (omega (arith, fill)),
+    )
+
+-- the record at the start of bytes, of which no more than its own are taken
+pub stored_part : (format : Format) → is_flat format ≡ true → (size : ℕ) (bytes : List ℕ) → size ≡ record_size format → stored_at format (take size bytes) 0 ≡ stored_at format bytes 0
+stored_part format flat size bytes is =
+    let fill = times_fill format flat in
+    let same : (width place : ℕ) → place + width ≤ record_size format → number_at width (take size bytes) place ≡ number_at width bytes place = λ width place h. number_at-take width size bytes place (omega (arith, is)) in
+    rw (
+      same 4 0 (omega (arith, fill)),
+      same 4 4 (omega (arith, fill)),
+      same 4 8 (omega (arith, fill)),
+      same 4 12 (omega (arith, fill)),
+      same 4 16 (omega (arith, fill)),
+      same 4 20 (omega (arith, fill)),
+      same (time_width format) block_time_at (omega (arith, fill)),
+      same (time_width format) (0 + inode_time_at format) (omega (arith, fill)),
+    )
 
 -- the record that was written at a place
-pub stored_overwritten : (old : List ℕ) (at : ℕ) (bytes : List ℕ) → 40 ≤ length bytes → stored_at (overwritten old at bytes) at ≡ stored_at bytes 0
-stored_overwritten old at bytes long =
+pub stored_overwritten : (format : Format) → is_flat format ≡ true → (old : List ℕ) (at : ℕ) (bytes : List ℕ) → record_size format ≤ length bytes → stored_at format (overwritten old at bytes) at ≡ stored_at format bytes 0
+stored_overwritten format flat old at bytes long =
     let from : AreFrom (overwritten old at bytes) at bytes = λ k below. sym (inside_overwritten old at bytes k below) in
-    sym (stored_from (overwritten old at bytes) at bytes 0 from (omega arith) ∙ ap (stored_at (overwritten old at bytes)) (omega arith))
+    sym (stored_from format flat (overwritten old at bytes) at bytes 0 from (omega arith) ∙ ap (stored_at format (overwritten old at bytes)) (omega arith))
 
 -- a block of which no byte has changed
 same_block : (old new : List ℕ) (number : ℕ) → ((k : ℕ) → 1024 * number ≤ k → k < 1024 * number + 1024 → byte_at new k ≡ byte_at old k) → block_of new number ≡ block_of old number
@@ -162,21 +192,20 @@ made_overwritten so old new name at bytes is some few made = record {
 }
 
 -- the record of an identifier is what stands in its place among bytes of the file
-timed_from : (file : List ℕ) (start : ℕ) (bytes : List ℕ) (at id : ℕ) → AreFrom file start bytes → at + 40 ≤ length bytes → start + at ≡ 40 * id → timed_at bytes at id ≡ timed_record file id
-unfolding record_start block_time_start inode_time_start
-timed_from file start bytes at id from within place =
-    ap (without_timers_of_zero id) (stored_from file start bytes at from within ∙ ap (stored_at file) place)
+timed_from : (format : Format) → is_flat format ≡ true → (file : List ℕ) (start : ℕ) (bytes : List ℕ) (at id : ℕ) → AreFrom file start bytes → at + record_size format ≤ length bytes → start + at ≡ record_start format id → timed_at format bytes at id ≡ timed_record format file id
+timed_from format flat file start bytes at id from within place =
+    ap (without_timers_of_zero id) (stored_from format flat file start bytes at from within ∙ ap (stored_at format file) place)
 
-pub record_from : (file : List ℕ) (start : ℕ) (bytes : List ℕ) (at id : ℕ) → length file % 40 ≡ 0 → AreFrom file start bytes → at + 40 ≤ length bytes → start + at ≡ 40 * id
-    → flat_record file id ≡ unless_zeros (timed_at bytes at id)
-record_from file start bytes at id whole from within place = flat_record-read file id whole ∙ ap unless_zeros (sym (timed_from file start bytes at id from within place))
+pub record_from : (format : Format) → is_flat format ≡ true → (file : List ℕ) (start : ℕ) (bytes : List ℕ) (at id : ℕ) → length file % record_size format ≡ 0 → AreFrom file start bytes → at + record_size format ≤ length bytes
+    → start + at ≡ record_start format id → flat_record format file id ≡ unless_zeros (timed_at format bytes at id)
+record_from format flat file start bytes at id whole from within place =
+    flat_record-read format file id whole ∙ ap unless_zeros (sym (timed_from format flat file start bytes at id from within place))
 
 -- so it is where it was read alone, from a file that has all its bytes
-pub record_read : (named : Option (List ℕ)) (file : List ℕ) (start : ℕ) (bytes : List ℕ) (id : ℕ) (found : Option Rec) → named ≡ Some file → AreFrom (bytes_of named) start bytes → start ≡ 40 * id
-    → length bytes ≡ 40 → 40 * id + 40 ≤ length file → found ≡ unless_zeros (timed_at bytes 0 id) → found ≡ flat_record file id
-unfolding record_start block_time_start inode_time_start
-record_read named file start bytes id found is from place long there value =
+pub record_read : (format : Format) → is_flat format ≡ true → (named : Option (List ℕ)) (file : List ℕ) (start : ℕ) (bytes : List ℕ) (id : ℕ) (found : Option Rec) → named ≡ Some file → AreFrom (bytes_of named) start bytes → start ≡ record_start format id
+    → record_size format ≤ length bytes → record_start format id + record_size format ≤ length file → found ≡ unless_zeros (timed_at format bytes 0 id) → found ≡ flat_record format file id
+record_read format flat named file start bytes id found is from place long there value =
     let of_file : AreFrom file start bytes = subst (λ (n : Option (List ℕ)). AreFrom (bytes_of n) start bytes) is from in
-    let inside : nat_le (40 * id + 40) (length file) ≡ true = grind (arith, nat_tests) in
-    value ∙ ap unless_zeros (timed_from file start bytes 0 id of_file (omega arith) (omega arith))
-    ∙ sym (ap (λ (b : Bool). cond b (unless_zeros (timed_record file id)) None) inside)
+    let inside : nat_le (record_start format id + record_size format) (length file) ≡ true = grind (arith, nat_tests) in
+    value ∙ ap unless_zeros (timed_from format flat file start bytes 0 id of_file (omega arith) (omega arith))
+    ∙ sym (ap (λ (b : Bool). cond b (unless_zeros (timed_record format file id)) None) inside)

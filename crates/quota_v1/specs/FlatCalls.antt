@@ -1,6 +1,7 @@
 -- Why a call on an opened flat file is refused, and what one makes of its bytes.
 use Rattle.std.specs.Prelude.{◌≡◌, ℕ, List, ⊤}
 use Rattle.quota_types.specs.declared.damage.DamageKind.TheVariants.{PartialRecord}
+use Rattle.quota_types.specs.declared.file_kind.Format.{Format}
 use Rattle.quota_types.specs.declared.record.Rec.{Rec}
 use Rattle.quota_value.specs.QuotaValue.{QuotaValue}
 use Rattle.opened_file.specs.FileChange.{FileChange, changed_value}
@@ -11,9 +12,9 @@ use Rattle.quota_v1.specs.Change.{FlatChanged}
 use Rattle.quota_v1.specs.Place.{record_start}
 
 -- Bytes are what a change makes of others: of each value that those stand for they stand for the changed one.
-pub record IsFlatChange (change : FileChange) (before after : List ℕ) : Type 0 where
-  pub changed : FlatChanged change before after
-  pub stands : (value : QuotaValue) → FlatStandsFor before value → FlatStandsFor after (changed_value change value)
+pub record IsFlatChange (format : Format) (change : FileChange) (before after : List ℕ) : Type 0 where
+  pub changed : FlatChanged format change before after
+  pub stands : (value : QuotaValue) → FlatStandsFor format before value → FlatStandsFor format after (changed_value change value)
 
 -- The faults that a call on an opened flat file may answer, whatever the store tells: of damages, that a record is cut off. It is
 -- never full, and takes no memory.
@@ -23,6 +24,6 @@ MayRefuse (Damage damage) = (damage.kind ≡ PartialRecord) × (damage.id ≡ 0)
 MayRefuse (Full _ _) = ⊥
 MayRefuse Memory = ⊥
 
--- the 40 bytes of an identifier, as a record
-abbrev pub stored_record : List ℕ → ℕ → Rec
-stored_record file id = stored_at file (record_start id)
+-- the bytes of an identifier, as a record
+abbrev pub stored_record : Format → List ℕ → ℕ → Rec
+stored_record format file id = stored_at format file (record_start format id)

@@ -3,7 +3,7 @@ use Rattle.std.specs.Prelude.{◌≡◌, ℕ, ◌+◌, ◌/◌, ◌≤◌, Bool,
 use Rattle.file_blocks.specs.Block.{bytes_of}
 use Rattle.quota_types.specs.Bytes.{number_at}
 use Rattle.quota_types.specs.declared.damage.Damage.{Damage}
-use Rattle.quota_types.specs.declared.file_kind.Format.TheVariants.{V1}
+use Rattle.quota_types.specs.declared.file_kind.Format.{Format}
 use Rattle.quota_types.specs.declared.record.Grace.{Grace}
 use Rattle.opened_file.specs.Changes.{FileAt, FileLaws, file_at, laws_of}
 use Rattle.opened_file.specs.FileUse.{seen_in}
@@ -14,48 +14,49 @@ use Rattle.opened_file.specs.declared.file_use.FileUse.{FileUse}
 use Rattle.quota_v1.specs.Change.{FlatLeaves, FlatMakes}
 use Rattle.quota_v1.specs.FlatCalls.{MayRefuse}
 use Rattle.quota_v1.specs.FlatFile.{FlatStandsFor}
-use Rattle.quota_v1.specs.Place.{block_time_start, inode_time_start}
-use Rattle.quota_v1.specs.View.{IsFlatDefect, flat_limit}
+use Rattle.quota_v1.specs.Place.{block_time_start, flat_limit, inode_time_start, records_read, time_width}
+use Rattle.quota_v1.specs.View.{IsFlatDefect}
 use Rattle.quota_v1.specs.Window.{HoldsWindow}
 use Rattle.quota_v1.specs.declared.window.Window.{Window}
 
 -- What is kept of a file agrees with it: its length in bytes, the two times of its record 0 as they are stored, and the records
 -- that were read.
-pub record AgreesFlat (len : ℕ) (times : Grace) (window : Window) (file : List ℕ) : Type 0 where
+pub record AgreesFlat (format : Format) (len : ℕ) (times : Grace) (window : Window) (file : List ℕ) : Type 0 where
   pub long : len ≡ length file
-  pub block_time : number_at 8 file (block_time_start 0) ≡ times.block
-  pub inode_time : number_at 8 file (inode_time_start 0) ≡ times.inode
-  pub next : HoldsWindow file window
+  pub block_time : number_at (time_width format) file (block_time_start format 0) ≡ times.block
+  pub inode_time : number_at (time_width format) file (inode_time_start format 0) ≡ times.inode
+  pub next : HoldsWindow format file window
 
 -- The store tells its files, the named file stands for the value and has no more bytes than a flat file may have, and what is kept
 -- of it agrees with it.
-pub record HoldsFlat (tells : Bool) (named : Option (List ℕ)) (len : ℕ) (times : Grace) (window : Window) (value : QuotaValue) : Type 0 where
+pub record HoldsFlat (tells : Bool) (named : Option (List ℕ)) (format : Format) (len : ℕ) (times : Grace) (window : Window) (value : QuotaValue) : Type 0 where
   pub told : IsTrue tells
   pub file : List ℕ
   pub there : named ≡ Some file
-  pub few : length file ≤ flat_limit
-  pub stands : FlatStandsFor file value
-  pub agrees : AgreesFlat len times window file
+  pub few : length file ≤ flat_limit format
+  pub stands : FlatStandsFor format file value
+  pub agrees : AgreesFlat format len times window file
 
 -- a damage is one of the named file, where the store tells that: its last record is cut off
-abbrev pub IsNamedDefect : (tells : Bool) → (named : Option (List ℕ)) → Damage → Type 0
-IsNamedDefect tells named damage = IsTrue tells → IsFlatDefect (bytes_of named) damage
+abbrev pub IsNamedDefect : (tells : Bool) → (named : Option (List ℕ)) → Format → Damage → Type 0
+IsNamedDefect tells named format damage = IsTrue tells → IsFlatDefect format (bytes_of named) damage
 
--- what is seen of one of this name, which has no number of blocks
-abbrev pub flat_seen : FileUse → (name : List ℕ) → FileSeen
-flat_seen opened name = seen_in opened name V1 0
+-- what is seen of one of this name and this format, which has no number of blocks
+abbrev pub flat_seen : FileUse → (name : List ℕ) → Format → FileSeen
+flat_seen opened name format = seen_in opened name format 0
 
 -- an opened flat file of this name and this use, and what is kept of it, with what is seen of its store, which tells its files or
 -- does not
-abbrev pub flat_at : (tells : Bool) → StoreSeen → (name : List ℕ) → FileUse → (len : ℕ) → (times : Grace) → Window → FileAt
-flat_at tells store name opened len times window = file_at (HoldsFlat tells (store.files name) len times window) (flat_seen opened name) store
+abbrev pub flat_at : (tells : Bool) → StoreSeen → (name : List ℕ) → FileUse → Format → (len : ℕ) → (times : Grace) → Window → FileAt
+flat_at tells store name opened format len times window =
+    file_at (HoldsFlat tells (store.files name) format len times window) (flat_seen opened name format) store
 
--- how many calls of `read` find the next record at most: each takes 1,000 bytes of as many as a flat file may have
-abbrev pub most_next_reads : ℕ
-most_next_reads = flat_limit / 1000 + 1
+-- how many calls of `read` find the next record at most: each reads as many records as one gives, of those that a flat file may have
+abbrev pub most_next_reads : Format → ℕ
+most_next_reads format = 1048576 / records_read format + 1
 
 -- what is said of all calls on one: a change reads a record at most and writes one, and it is never full
 abbrev pub flat_laws : (tells : Bool) → FileLaws
 flat_laws tells =
-    laws_of tells (λ _ file value. FlatStandsFor file value) (λ _ change. FlatMakes change) (λ _ _ old after left. FlatLeaves old after left) (λ _ _ _ _ _ _. ⊥)
+    laws_of tells (λ format file value. FlatStandsFor format file value) (λ seen change. FlatMakes seen.format change) (λ _ _ old after left. FlatLeaves old after left) (λ _ _ _ _ _ _. ⊥)
     (λ _ fault. MayRefuse fault) (λ _ _. 1) (λ _ _. 1) (λ _ _ _. 1)

@@ -7,8 +7,10 @@ use Rattle.opened_file.specs.EditsOne.{EditsOne}
 use Rattle.outside.specs.Seen.{StoreSeen}
 use Rattle.outside.specs.World.{KeepsOthers, World, with_file}
 use Rattle.quota_types.specs.Bytes.{byte_at, number_at}
+use Rattle.quota_types.specs.Format.{record_size}
 use Rattle.quota_types.specs.KeptBytes.{KeepsOutside}
 use Rattle.quota_types.specs.declared.damage.Damage.{Damage}
+use Rattle.quota_types.specs.declared.file_kind.Format.{Format}
 use Rattle.quota_types.specs.declared.record.Entry.{Entry}
 use Rattle.quota_types.specs.declared.record.Grace.{Grace}
 use Rattle.quota_types.specs.declared.record.Rec.{Rec}
@@ -16,29 +18,29 @@ use Rattle.opened_file.specs.QuotaFile.{ChangesBlocks}
 use Rattle.opened_file.specs.declared.quota_file.FileFault.{FileFault}
 use Rattle.opened_file.specs.declared.quota_file.FileFault.TheVariants.{Store, Damage as Damaged, Full, Memory}
 use Rattle.quota_v1.specs.FlatFile.{flat_record, timed_record}
-use Rattle.quota_v1.specs.Place.{block_time_start, inode_time_start, record_size, record_start}
+use Rattle.quota_v1.specs.Place.{block_time_start, inode_time_start, record_start, time_width}
 
 -- the bytes are those of a file from a place on, of which those past its end count as 0
 abbrev pub AreFrom : (file : List ℕ) (at : ℕ) (bytes : List ℕ) → Type 0
 AreFrom file at bytes = (k : ℕ) → k < length bytes → byte_at bytes k ≡ byte_at file (at + k)
 
 -- the first identifier from one up to another one that has a record, with it, or none where there is none
-abbrev pub IsFirstRecord : List ℕ → (from to : ℕ) → Option Entry → Type 0
-IsFirstRecord file from to None = (id : ℕ) → from ≤ id → id < to → flat_record file id ≡ None
-IsFirstRecord file from to (Some entry) =
+abbrev pub IsFirstRecord : Format → List ℕ → (from to : ℕ) → Option Entry → Type 0
+IsFirstRecord format file from to None = (id : ℕ) → from ≤ id → id < to → flat_record format file id ≡ None
+IsFirstRecord format file from to (Some entry) =
     (from ≤ entry.id)
     × (entry.id < to)
-    × (flat_record file entry.id ≡ Some entry.rec)
-    × ((id : ℕ) → from ≤ id → id < entry.id → flat_record file id ≡ None)
+    × (flat_record format file entry.id ≡ Some entry.rec)
+    × ((id : ℕ) → from ≤ id → id < entry.id → flat_record format file id ≡ None)
 
 -- The record of an identifier was written where it stands, of which the file has all bytes then. All other bytes stay. The two
 -- times of record 0 are the given ones, where that is the record.
-pub record PutsRecord (id : ℕ) (rec : Rec) (times : Grace) (before after : List ℕ) : Type 0 where
-  pub long : length after ≡ max (length before) (record_start id + record_size)
-  pub others : KeepsOutside (record_start id) (record_start id + record_size) before after
-  pub written : timed_record after id ≡ rec
-  pub block_time : id ≡ 0 → number_at 8 after (block_time_start 0) ≡ times.block
-  pub inode_time : id ≡ 0 → number_at 8 after (inode_time_start 0) ≡ times.inode
+pub record PutsRecord (format : Format) (id : ℕ) (rec : Rec) (times : Grace) (before after : List ℕ) : Type 0 where
+  pub long : length after ≡ max (length before) (record_start format id + record_size format)
+  pub others : KeepsOutside (record_start format id) (record_start format id + record_size format) before after
+  pub written : timed_record format after id ≡ rec
+  pub block_time : id ≡ 0 → number_at (time_width format) after (block_time_start format 0) ≡ times.block
+  pub inode_time : id ≡ 0 → number_at (time_width format) after (inode_time_start format 0) ≡ times.inode
 
 -- The named file has other bytes, which are related so to those before, and no other file has changed. Where it was not there it
 -- is made. Of its blocks, of 1,024 bytes each, twelve have changed at most.

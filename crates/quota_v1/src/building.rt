@@ -9,12 +9,11 @@ ghost use Rattle.quota_types.specs.declared.file_kind.Kind.{Kind};
 ghost use Rattle.quota_value.specs.Listed.{ids_of, value_of};
 ghost use Rattle.quota_v1.specs.Build.{IsZeroElsewhere, records_needed};
 ghost use Rattle.quota_v1.specs.FlatFile.{FlatStandsFor};
-ghost use Rattle.quota_v1.specs.Place.{block_time_start, inode_time_start, record_start};
-ghost use Rattle.quota_v1.specs.View.{flat_limit};
+ghost use Rattle.quota_v1.specs.Place.{block_time_start, flat_limit, inode_time_start, record_start, time_width};
 
-use crate::flat_change::{TIMES, write_record, write_times};
-use crate::flat_record::RECORD;
-use quota_types::{Entry, Grace};
+use crate::flat_change::{write_record, write_times};
+use crate::flat_record::record_start;
+use quota_types::{Entry, Format, Grace};
 use std::alloc::{AllocError, Global};
 
 /// Builds the bytes of a whole flat file from its grace periods, in seconds, and its entries.
@@ -26,24 +25,24 @@ use std::alloc::{AllocError, Global};
 /// # Errors
 ///
 /// There was not enough memory.
-#[tactic(auto, unfolding(crate::specs::Place::record_start, crate::specs::Place::block_time_start, crate::specs::Place::inode_time_start))]
 pub fn build_v1(alloc: Global, grace: Grace, list: &[Entry]) -> Result<Vec<u8>, AllocError>
     requires grace { grace_unfit V1 grace ≡ None }
     requires ascending { IsStrictlyIncreasing (ids_of list.now) }
     requires fits { All (λ entry. unfit V1 entry.id entry.rec ≡ None) list.now }
     requires kept { All (λ entry. kept_of V1 entry.id entry.rec ≡ entry.rec) list.now }
     requires not_zeros { All (λ entry. is_zeros entry.rec ≡ false) list.now }
-    ensures stands { IfOk result (λ file. (kind : Kind) → FlatStandsFor file.items (value_of kind V1 grace 0 list.now)) }
-    ensures size { IfOk result (λ file. vec_len file ≡ record_start (records_needed (ids_of list.now))) }
-    ensures limited { IfOk result (λ file. vec_len file ≤ flat_limit) }
-    ensures block_time { IfOk result (λ file. number_at 8 file.items (block_time_start 0) ≡ grace.block) }
-    ensures inode_time { IfOk result (λ file. number_at 8 file.items (inode_time_start 0) ≡ grace.inode) }
-    ensures elsewhere { IfOk result (λ file. IsZeroElsewhere (ids_of list.now) file.items) }
+    ensures stands { IfOk result (λ file. (kind : Kind) → FlatStandsFor V1 file.items (value_of kind V1 grace 0 list.now)) }
+    ensures size { IfOk result (λ file. vec_len file ≡ record_start V1 (records_needed (ids_of list.now))) }
+    ensures limited { IfOk result (λ file. vec_len file ≤ flat_limit V1) }
+    ensures block_time { IfOk result (λ file. number_at (time_width V1) file.items (block_time_start V1 0) ≡ grace.block) }
+    ensures inode_time { IfOk result (λ file. number_at (time_width V1) file.items (inode_time_start V1 0) ≡ grace.inode) }
+    ensures elsewhere { IfOk result (λ file. IsZeroElsewhere V1 (ids_of list.now) file.items) }
 {
-    let mut file = vec![in alloc; 0; RECORD * records_needed(list)]?;
-    write_times(&mut file, TIMES, grace.block, grace.inode);
+    let format = Format::V1;
+    let mut file = vec![in alloc; 0; record_start(format, records_needed(list))]?;
+    write_times(format, &mut file, 0, grace.block, grace.inode);
     for entry in list {
-        write_record(&mut file, entry.id as usize, &entry.rec);
+        write_record(format, &mut file, entry.id, &entry.rec);
     }
     Ok(file)
 }

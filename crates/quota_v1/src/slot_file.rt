@@ -1,24 +1,26 @@
-ghost use Rattle.std.specs.Prelude.{◌≡◌, ◌⊎◌, ◌+◌, ◌-◌, ◌*◌, ◌^◌, ◌<◌, ◌≤◌, ℕ, List, Ok, Err, Some, length, min, IfErr, IfOk, IfSome, IsTrue, OnErr, OnOk, is_ok, []};
+ghost use Rattle.std.specs.Prelude.{◌≡◌, ◌⊎◌, ◌+◌, ◌-◌, ◌*◌, ◌^◌, ◌<◌, ◌≤◌, ℕ, List, Ok, Err, Some, length, true, min, IfErr, IfOk, IfSome, IsTrue, OnErr, OnOk, is_ok, []};
 ghost use Rattle.opened_file.specs.Committed.{CommitsOnce};
 ghost use Rattle.file_blocks.specs.Block.{file_of};
 ghost use Rattle.outside.specs.Count.{Rose, counted};
 ghost use Rattle.outside.specs.Frame.{ChangesOne, OnlyReads};
 ghost use Rattle.outside.specs.ManyCalls.{IsSynced};
 ghost use Rattle.outside.specs.World.{with_bytes};
+ghost use Rattle.quota_types.specs.Format.{is_flat};
 ghost use Rattle.quota_types.specs.Kept.{IsKept};
-ghost use Rattle.quota_types.specs.declared.file_kind.Format.TheVariants.{V1};
+ghost use Rattle.quota_types.specs.Range.{grace_unfit};
 ghost use Rattle.quota_v1.specs.Change.{FlatGraced};
 ghost use Rattle.quota_v1.specs.FlatCalls.{MayRefuse};
 ghost use Rattle.quota_v1.specs.FlatFile.{flat_record};
 ghost use Rattle.quota_v1.specs.Slot.{AreFrom, ChangesFile, IsRecordFault, PutsRecord, MakesOne};
-ghost use Rattle.quota_v1.specs.View.{IsFlatDefect, flat_limit};
+ghost use Rattle.quota_v1.specs.Place.{flat_limit, past_time};
+ghost use Rattle.quota_v1.specs.View.{IsFlatDefect};
 
-use crate::flat_change::{TIMES, write_times};
-use crate::flat_record::RECORD;
+use crate::flat_change::write_times;
+use crate::flat_record::{MOST_RECORD, record_start};
 use crate::slot::{record_at, record_bytes};
 use opened_file::FileFault;
 use outside::{Store, StoreFault};
-use quota_types::{Damage, DamageKind, Grace, Rec};
+use quota_types::{Damage, DamageKind, Format, Grace, Rec};
 
 /// Reads the bytes of a file from a place on, as many as `buf` holds, and answers how many there were. Past the end of the file
 /// there are zeros. After a fault `buf` may hold anything.
@@ -49,43 +51,45 @@ pub(crate) fn read_from<S: Store>(
 /// # Errors
 ///
 /// The store failed, or the file ends within the record.
-#[tactic(auto, unfolding(crate::specs::Place::record_start))]
 pub(crate) fn read_record<S: Store>(
     store: &mut S,
     name: &str,
+    format: Format,
     len: u64,
     id: u32,
 ) -> Result<Option<Rec>, FileFault>
-    requires { len ≤ flat_limit }
+    requires flat { is_flat format ≡ true }
+    requires limited { len ≤ flat_limit format }
     ensures found { IfOk result (λ found. IsTrue S.tells → (file : List ℕ)
-        → (S.seen store.old).files name.now ≡ Some file → length file ≡ len → found ≡ flat_record file id) }
-    ensures kept { IfOk result (λ found. IfSome found (IsKept V1 id)) }
+        → (S.seen store.old).files name.now ≡ Some file → length file ≡ len → found ≡ flat_record format file id) }
+    ensures kept { IfOk result (λ found. IfSome found (IsKept format id)) }
     ensures refused { IfErr result (IsRecordFault (S.seen store.old).faults (S.seen store.new).faults
-        (λ damage. IsTrue S.tells → IsFlatDefect (file_of (S.seen store.old).files name.now) damage)) }
+        (λ damage. IsTrue S.tells → IsFlatDefect format (file_of (S.seen store.old).files name.now) damage)) }
     ensures may { IfErr result MayRefuse }
     ensures leaves { OnlyReads (is_ok result) name.now (S.seen store.old) (S.seen store.new) }
     ensures reads { (S.seen store.new).reads ≤ (S.seen store.old).reads + 1 }
     ensures commits { S.commits [] store.old store.new }
 {
-    let at = RECORD as u64 * u64::from(id);
-    if len < at + RECORD as u64 {
+    let size = format.record_size();
+    let at = record_start(format, id as usize) as u64;
+    if len < at + size as u64 {
         return Ok(None);
     }
-    let mut bytes = [0; RECORD];
+    let mut bytes = [0; MOST_RECORD];
     let Ok(count) = read_from(store, name, at, &mut bytes) else {
         return Err(FileFault::Store);
     };
     if count == 0 {
         return Ok(None);
     }
-    if count < RECORD {
+    if count < size {
         return Err(FileFault::Damage(Damage {
             kind: DamageKind::PartialRecord,
             block: id,
             id: 0,
         }));
     }
-    Ok(record_at(&bytes, 0, id))
+    Ok(record_at(format, &bytes, 0, id))
 }
 
 /// Writes bytes into a file at a place, and syncs it.
@@ -124,24 +128,28 @@ fn write_synced<S: Store>(
 /// # Errors
 ///
 /// The store failed. The file is as before, or has the record.
-#[tactic(auto, unfolding(crate::specs::Place::record_start))]
 pub(crate) fn write_record<S: Store>(
     store: &mut S,
     name: &str,
+    format: Format,
     id: u32,
     rec: &Rec,
     times: Grace,
 ) -> Result<(), StoreFault>
-    requires { IsKept V1 id rec.now }
-    ensures changes { ChangesFile S.tells (PutsRecord id rec.now times) name.now
+    requires flat { is_flat format ≡ true }
+    requires kept { IsKept format id rec.now }
+    requires block { times.block < past_time format }
+    requires inode { times.inode < past_time format }
+    ensures changes { ChangesFile S.tells (PutsRecord format id rec.now times) name.now
         (S.seen store.old) (S.seen store.new) result }
     ensures reads { (S.seen store.new).reads ≡ (S.seen store.old).reads }
     ensures commits { CommitsOnce (λ worlds. S.commits worlds store.old store.new) (IsTrue S.tells
-        → MakesOne (PutsRecord id rec.now times) name.now (S.seen store.old).files (S.seen store.new).files) (S.seen store.new).files }
+        → MakesOne (PutsRecord format id rec.now times) name.now (S.seen store.old).files (S.seen store.new).files) (S.seen store.new).files }
 {
     let times = times_in(id, rec, times);
-    let bytes = record_bytes(rec, times);
-    write_synced(store, name, RECORD as u64 * u64::from(id), &bytes)
+    let bytes = record_bytes(format, rec, times);
+    let at = record_start(format, id as usize) as u64;
+    write_synced(store, name, at, &bytes[..format.record_size()])
 }
 
 /// The two times that are written in a record: those of record 0 are the file's grace periods.
@@ -168,14 +176,17 @@ fn times_in(id: u32, rec: &Rec, times: Grace) -> Grace
 pub(crate) fn write_grace<S: Store>(
     store: &mut S,
     name: &str,
+    format: Format,
     grace: Grace,
 ) -> Result<(), StoreFault>
-    ensures changes { ChangesFile S.tells (FlatGraced grace) name.now (S.seen store.old) (S.seen store.new) result }
+    requires flat { is_flat format ≡ true }
+    requires fits { grace_unfit format grace ≡ None }
+    ensures changes { ChangesFile S.tells (FlatGraced format grace) name.now (S.seen store.old) (S.seen store.new) result }
     ensures commits { CommitsOnce (λ worlds. S.commits worlds store.old store.new) (IsTrue S.tells
-        → MakesOne (FlatGraced grace) name.now (S.seen store.old).files (S.seen store.new).files) (S.seen store.new).files }
+        → MakesOne (FlatGraced format grace) name.now (S.seen store.old).files (S.seen store.new).files) (S.seen store.new).files }
 {
-    let mut bytes = [0; RECORD];
+    let mut bytes = [0; MOST_RECORD];
     read_from(store, name, 0, &mut bytes)?;
-    write_times(&mut bytes, TIMES, grace.block, grace.inode);
-    write_synced(store, name, 0, &bytes)
+    write_times(format, &mut bytes, 0, grace.block, grace.inode);
+    write_synced(store, name, 0, &bytes[..format.record_size()])
 }

@@ -2,20 +2,17 @@ ghost use Rattle.std.specs.Prelude.{◌≡◌, ◌⊎◌, ◌+◌, ◌*◌, ◌%
 ghost use Rattle.file_blocks.specs.Block.{file_of};
 ghost use Rattle.outside.specs.Count.{Rose};
 ghost use Rattle.outside.specs.Frame.{OnlyReads};
+ghost use Rattle.quota_types.specs.Format.{is_flat, record_size};
 ghost use Rattle.quota_types.specs.Kept.{IsKept};
-ghost use Rattle.quota_types.specs.declared.file_kind.Format.TheVariants.{V1};
-ghost use Rattle.quota_v1.specs.Place.{record_size};
+ghost use Rattle.quota_v1.specs.Place.{records_read};
 ghost use Rattle.quota_v1.specs.Slot.{IsFirstRecord};
 ghost use Rattle.quota_v1.specs.Window.{HoldsWindow, window_reads};
 
-use crate::flat_record::RECORD;
+use crate::flat_record::{record_start, records_read};
 use crate::slot::first_record;
 use crate::slot_file::read_from;
 use outside::{Store, StoreFault};
-use quota_types::Entry;
-
-/// How many records are read at once: as many whole ones as one call of `read` gives.
-const MOST: u32 = 25;
+use quota_types::{Entry, Format};
 
 /// Records that follow each other in a flat file, as they were read. Past the end of the file there are zeros.
 #[derive(Drop)]
@@ -24,8 +21,8 @@ pub(crate) struct Window {
     known: bool,
     /// The identifier of the first of them.
     first: u32,
-    /// Their bytes.
-    bytes: [u8; 1000],
+    /// Their bytes, as many as one call of `read` gives.
+    bytes: [u8; 1024],
 }
 
 impl Window {
@@ -36,7 +33,7 @@ impl Window {
         Window {
             known: false,
             first: 0,
-            bytes: [0; 1000],
+            bytes: [0; 1024],
         }
     }
 
@@ -48,30 +45,35 @@ impl Window {
     }
 
     /// Whether the record of an identifier is known.
-    fn has(&self, id: u32) -> bool
-        ensures { result ≡ true → (self.now.known ≡ true) × (self.now.first ≤ id) × (id < self.now.first + 25) }
+    fn has(&self, format: Format, id: u32) -> bool
+        ensures { result ≡ true → (self.now.known ≡ true) × (self.now.first ≤ id) × (id < self.now.first + records_read format) }
     {
-        self.known && self.first <= id && id - self.first < MOST
+        self.known && self.first <= id && id - self.first < records_read(format)
     }
 
     /// Brings the record of an identifier in, with those that follow it, unless it is known.
-    #[tactic(auto, unfolding(crate::specs::Place::record_start))]
-    fn bring<S: Store>(&mut self, store: &mut S, name: &str, id: u32) -> Result<(), StoreFault>
+    fn bring<S: Store>(
+        &mut self,
+        store: &mut S,
+        name: &str,
+        format: Format,
+        id: u32,
+    ) -> Result<(), StoreFault>
         requires { id < 1048576 }
-        ensures has { OnOk result ((self.new.known ≡ true) × (self.new.first ≤ id) × (id < self.new.first + 25)) }
+        ensures has { OnOk result ((self.new.known ≡ true) × (self.new.first ≤ id) × (id < self.new.first + records_read format)) }
         ensures fresh { OnOk result (((S.seen store.new).reads ≡ (S.seen store.old).reads) ⊎ (self.new.first ≡ id)) }
-        ensures held { IsTrue S.tells → HoldsWindow (file_of (S.seen store.old).files name.now) self.old
-            → HoldsWindow (file_of (S.seen store.old).files name.now) self.new }
+        ensures held { IsTrue S.tells → HoldsWindow format (file_of (S.seen store.old).files name.now) self.old
+            → HoldsWindow format (file_of (S.seen store.old).files name.now) self.new }
         ensures cause { OnErr result (Rose (S.seen store.old).faults (S.seen store.new).faults) }
         ensures leaves { OnlyReads (is_ok result) name.now (S.seen store.old) (S.seen store.new) }
         ensures reads { (S.seen store.new).reads ≤ (S.seen store.old).reads + 1 }
         ensures commits { S.commits [] store.old store.new }
     {
-        if self.has(id) {
+        if self.has(format, id) {
             return Ok(());
         }
         self.forget();
-        let at = RECORD as u64 * u64::from(id);
+        let at = record_start(format, id as usize) as u64;
         read_from(store, name, at, &mut self.bytes)?;
         self.first = id;
         self.known = true;
@@ -79,54 +81,55 @@ impl Window {
     }
 
     /// The first record that is known, from an identifier up to another one that is known or follows those.
-    #[tactic(auto, unfolding(crate::specs::Place::record_start))]
-    fn first_known(&self, from: u32, to: u32) -> Option<Entry>
+    fn first_known(&self, format: Format, from: u32, to: u32) -> Option<Entry>
+        requires flat { is_flat format ≡ true }
         requires begins { self.now.first ≤ from }
-        requires ends { to ≤ self.now.first + 25 }
+        requires ends { to ≤ self.now.first + records_read format }
         requires known { self.now.known ≡ true }
         requires small { to ≤ 1048576 }
-        ensures found { (file : List ℕ) → length file % record_size ≡ 0 → HoldsWindow file self.now
-            → IsFirstRecord file from to result }
-        ensures kept { IfSome result (λ entry. IsKept V1 entry.id entry.rec) }
+        ensures found { (file : List ℕ) → length file % record_size format ≡ 0 → HoldsWindow format file self.now
+            → IsFirstRecord format file from to result }
+        ensures kept { IfSome result (λ entry. IsKept format entry.id entry.rec) }
         ensures between { IfSome result (λ entry. (from ≤ entry.id) × (entry.id < to)) }
     {
-        first_record(&self.bytes, self.first, from, to)
+        first_record(format, &self.bytes, self.first, from, to)
     }
 
-    /// The first record from an identifier on, in a file that has `records` of them. Every 25 of them are read once at most,
-    /// and none that is known.
+    /// The first record from an identifier on, in a file that has `records` of them. As many as one call of `read` gives
+    /// are read once at most, and none that is known.
     ///
     /// # Errors
     ///
     /// The store failed.
-    #[tactic(auto, unfolding(crate::specs::Place::record_start))]
     pub(crate) fn first_from<S: Store>(
         &mut self,
         store: &mut S,
         name: &str,
+        format: Format,
         from: u32,
         records: u32,
     ) -> Result<Option<Entry>, StoreFault>
-        requires { records ≤ 1048576 }
+        requires flat { is_flat format ≡ true }
+        requires few { records ≤ 1048576 }
         ensures found { IfOk result (λ found. IsTrue S.tells → (file : List ℕ)
-            → (S.seen store.old).files name.now ≡ Some file → length file % record_size ≡ 0 → HoldsWindow file self.old
-            → IsFirstRecord file from records found) }
-        ensures kept { IfOk result (λ found. IfSome found (λ entry. IsKept V1 entry.id entry.rec)) }
+            → (S.seen store.old).files name.now ≡ Some file → length file % record_size format ≡ 0 → HoldsWindow format file self.old
+            → IsFirstRecord format file from records found) }
+        ensures kept { IfOk result (λ found. IfSome found (λ entry. IsKept format entry.id entry.rec)) }
         ensures between { IfOk result (λ found. IfSome found (λ entry. (from ≤ entry.id) × (entry.id < records))) }
-        ensures held { IsTrue S.tells → HoldsWindow (file_of (S.seen store.old).files name.now) self.old
-            → HoldsWindow (file_of (S.seen store.old).files name.now) self.new }
+        ensures held { IsTrue S.tells → HoldsWindow format (file_of (S.seen store.old).files name.now) self.old
+            → HoldsWindow format (file_of (S.seen store.old).files name.now) self.new }
         ensures cause { OnErr result (Rose (S.seen store.old).faults (S.seen store.new).faults) }
         ensures leaves { OnlyReads (is_ok result) name.now (S.seen store.old) (S.seen store.new) }
-        ensures reads { (S.seen store.new).reads ≤ (S.seen store.old).reads + window_reads from records }
+        ensures reads { (S.seen store.new).reads ≤ (S.seen store.old).reads + window_reads format from records }
         ensures near { IfOk result (λ found. IfSome found (λ entry. (S.seen store.new).reads
-            ≤ (S.seen store.old).reads + window_reads from (entry.id + 1))) }
+            ≤ (S.seen store.old).reads + window_reads format from (entry.id + 1))) }
         ensures commits { S.commits [] store.old store.new }
     {
         let mut next = from;
         while next < records {
-            self.bring(store, name, next)?;
-            let end = records.min(self.first + MOST);
-            if let Some(entry) = self.first_known(next, end) {
+            self.bring(store, name, format, next)?;
+            let end = records.min(self.first + records_read(format));
+            if let Some(entry) = self.first_known(format, next, end) {
                 return Ok(Some(entry));
             }
             next = end;

@@ -4,7 +4,7 @@ use Rattle.std.specs.FinMap.{nat_cmp-IsAntisymmetric, same_map}
 use Rattle.quota_v1.proofs.laws.a_file_has_one_meaning_of_a_kind.Goals as goal
 
 pub returns : goal.returns
-returns c file value other stands stands' kind =
+returns c layout file value other stands stands' kind =
     let format : value.format ≡ other.format = stands.format ∙ sym stands'.format in
     let grace : value.grace ≡ other.grace = stands.grace ∙ sym stands'.grace in
     let flags : value.flags ≡ other.flags = stands.flags ∙ sym stands'.flags in

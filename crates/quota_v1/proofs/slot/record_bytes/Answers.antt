@@ -1,10 +1,8 @@
 use Rattle.std.proofs.Common.{refl, ◌∙◌, arith}
 use Rattle.quota_types.proofs.NumberLemmas.{number_before}
-use Rattle.quota_v1.specs.Place.{block_time_start, inode_time_start, record_start}
 use Rattle.quota_v1.proofs.slot.record_bytes.Goals as goal
 
 pub returns-clause-stored : goal.returns-clause-stored
-unfolding record_start block_time_start inode_time_start
 returns-clause-stored c =
     let numbers = c.write_numbers.ensures in
     let times = c.write_times.ensures in
