@@ -4,9 +4,10 @@
 //! The one promise: a number of bytes that a read answers fits the buffer.
 #![tactic(auto)]
 
-mod far_blocks;
+mod kept;
 mod opened;
 mod read_ahead;
+mod recent;
 mod whole;
 mod window;
 mod write_behind;

@@ -113,6 +113,7 @@ impl Opened {
         if !metadata.is_file() {
             return Err(no_regular_file(&metadata));
         }
+        self.ahead.note_length(metadata.len());
         Ok(metadata.len())
     }
 

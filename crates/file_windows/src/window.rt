@@ -29,6 +29,14 @@ pub(crate) fn read_from(file: &File, at: u64, buf: &mut [u8]) -> io::Result<usiz
     Ok(done)
 }
 
+/// Whether reads that came to a place lead to another one: it is the same one, or not far behind it.
+pub(crate) fn leads_to(end: u64, at: u64) -> bool {
+    match at.checked_sub(end) {
+        Some(behind) => behind <= 2 * WINDOW as u64,
+        None => false,
+    }
+}
+
 /// Bytes of a file, side by side, that were read with one call of the system.
 #[derive(Drop)]
 pub(crate) struct FileWindow {
@@ -51,6 +59,31 @@ impl FileWindow {
     #[inline(always)]
     pub fn at(&self) -> u64 {
         self.at
+    }
+
+    /// Whether there are some, and they begin at a place.
+    pub fn begins_at(&self, at: u64) -> bool {
+        self.held > 0 && self.at == at
+    }
+
+    /// Whether there are some, and they begin behind a place, at most a window's length behind it.
+    pub fn begins_behind(&self, at: u64) -> bool {
+        self.held > 0 && at < self.at && self.at - at <= WINDOW as u64
+    }
+
+    /// Whether there are some, and the reads that came to their beginning lead to a place.
+    pub fn leads_to(&self, at: u64) -> bool {
+        self.held > 0 && leads_to(self.at, at)
+    }
+
+    /// Where they end, where they lead to a place, and end there or before it.
+    pub fn end_before(&self, at: u64) -> Option<u64> {
+        let end = self.at.saturating_add(self.held as u64);
+        if self.leads_to(at) && end <= at {
+            Some(end)
+        } else {
+            None
+        }
     }
 
     /// Lets go of them, since the file may not have them any more.

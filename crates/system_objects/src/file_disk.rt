@@ -40,12 +40,12 @@ fn failed_name<R: Files<File = File>>(
 
 /// The files of the system as a disk, by paths that count from the current folder. It tells nothing of them.
 ///
-/// The two files that were used last stay open. Reads of one that go on where the last one ended come from a window of 65,536
+/// The two files that were used last stay open. Reads of one that go on where others came to are from eight windows of 65,536
 /// bytes, those of other places from eight blocks of 1,024 bytes, and bytes that are to be written side by side are gathered
-/// up to the number of the window, so that all make few calls of the system. What was read is forgotten where the file is
-/// written or cut, where it is closed, and where a call on it fails. What was gathered is written before the file is read,
-/// cut, synced or closed, before its length is asked for, and before any file is made or renamed; where that fails, the call
-/// at hand is the one that failed.
+/// up to the number of a window, so that all make few calls of the system. Where a file of at most 8,388,608 bytes is read in
+/// no order, each window of it that is read is kept. What was read is forgotten where the file is written or cut, where it is
+/// closed, and where a call on it fails. What was gathered is written before the file is read, cut, synced or closed, before its
+/// length is asked for, and before any file is made or renamed; where that fails, the call at hand is the one that failed.
 ///
 /// A file that was there when its name was used first is never made by a write to it: where it is gone, the write fails. A
 /// file that is made under a name with `.new` behind that of a link stands beside the file behind the link, and takes its
