@@ -129,6 +129,21 @@ calls() {
     grep -E "$pattern|total" calls | awk '{ print "calls of the system: " $NF " " $4 }'
 }
 
+# asked WHAT FILE WORD..: how often the program asks the system for bytes with these words, beside how often 65,536 bytes are
+# in the file, and how many KiB it reads.
+asked() {
+    local what=$1 windows
+    windows=$((($(stat -c %s "$2") + 65535) / 65536))
+    shift 2
+    if ! command -v strace >/dev/null; then
+        echo "$what: not counted, since strace is not there"
+        return
+    fi
+    strace -f -e trace=pread64 -o calls "$program" "$@" >/dev/null
+    awk -v what="$what" -v windows="$windows" '/pread64/ { count++; bytes += $NF }
+        END { printf "%s: %d reads, %d windows, ratio %.2f; %d KiB are read\n", what, count, windows, count / windows, bytes / 1024 }' calls
+}
+
 # report_beside_awk WORD..: a report with these words beside awk, which prints the same lines from a text dump of the
 # file, with the names of a file of names where one is given by `names`. The ratio of their times, the most memory that the
 # program holds, and its calls of the system.
