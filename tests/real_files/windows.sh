@@ -43,6 +43,53 @@ for format in vfsold vfsv1; do
 done
 rm one other owners owners.again users few many
 
+# Tree files of 20,000 users who came in different orders, by a listing or by lines that are made together, and one that most
+# of them left, so that there is a long list of free blocks: the report has the limits of each. It and a look-up ask the system
+# for bytes at most three times as often as 65,536 of them are in the file.
+awk 'BEGIN { for (id = 0; id < 20000; id++) print id, 7 * id + 1, 9 * id + 2, id % 50 + 3, id % 60 + 4 }' >up
+sort -k 1nr up >down
+awk '{ print int($1 / 100) * 100 + ($1 * 37 + 11) % 100, $0 }' up | sort -s -k 1n | cut -d ' ' -f 2- >nearly
+awk '{ print ($1 * 7919 + 5) % 20011, $0 }' up | sort -s -k 1n | cut -d ' ' -f 2- >chance
+awk '{ print $1, 100, 1, $1, 0 }' up >owners
+counts=
+if strace -o trace.txt true 2>err.txt; then counts=yes; fi
+
+# asks_few WHAT FILE WORD..: whether the words ask the system for bytes so seldom, where the calls can be counted.
+asks_few() {
+    local what=$1 most asked
+    most=$((($(stat -c %s "$2") + 65535) / 65536 * 3))
+    shift 2
+    [ -n "$counts" ] || return 0
+    strace -f -e trace=pread64 -o trace.txt "$folder/program" "$@" >out.txt
+    asked=$(grep -c pread64 trace.txt)
+    same "$what asks at most $most times" "$((asked > most ? asked : 0))" 0
+}
+
+# has_limits WHAT FILE LINES: whether the report of the file has the limits of these lines, and of nobody else.
+has_limits() {
+    same "the limits of $1" "$("$run" repquota -n -u -v "$2" | awk 'NR > 4 { print substr($1, 2), $4, $5, $8, $9 }' | cksum)" "$(sort -n "$3" | cksum)"
+}
+
+expect 'a listing of 20,000 users' 0 '' '' quotacheck -c -u --input owners listed
+expect 'limits of all of them' 0 '' '' setquota -u -b --input chance listed
+has_limits 'users of a listing' listed up
+asks_few 'their report' listed repquota -u listed
+for order in up down nearly chance; do
+    expect "a file without records for $order" 0 '' '' quotacheck -c -u came </dev/null
+    expect "users who come: $order" 0 '' '' setquota -u -b --input "$order" came
+    has_limits "users who came: $order" came up
+    asks_few "a report of users who came: $order" came repquota -u came
+    asks_few "a look-up among users who came: $order" came edquota --print -u 777 came
+done
+awk '$1 % 500 { print $1, 0, 0, 0, 0; next } { print }' up >left
+expect 'users who leave' 0 '' '' setquota -u -b --input left came
+awk '$1 % 500 == 0' up >stayed
+has_limits 'users who stayed' came stayed
+asks_few 'a report of those who stayed' came repquota -u came
+rm up down nearly chance owners listed came left stayed
+unset -f asks_few has_limits
+unset counts
+
 # The greatest identifier and the greatest use of a flat file.
 expect 'the greatest flat file' 0 '' '' quotacheck -c -F vfsold q <<<'1048575 0 1 1 8589934590'
 same 'its size' "$(stat -c %s q)" 41943040
