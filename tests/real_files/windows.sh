@@ -56,8 +56,9 @@ if strace -o trace.txt true 2>err.txt; then counts=yes; fi
 
 # asks_few WHAT FILE WORD..: whether the words ask the system for bytes so seldom, where the calls can be counted.
 asks_few() {
-    local what=$1 most asked
-    most=$((($(stat -c %s "$2") + 65535) / 65536 * 3))
+    local what=$1 size most asked
+    size=$(stat -c %s "$2")
+    most=$((3 * ((size + 65535) / 65536)))
     shift 2
     [ -n "$counts" ] || return 0
     strace -f -e trace=pread64 -o trace.txt "$folder/program" "$@" >out.txt
