@@ -57,6 +57,8 @@ _quota_cli() {
             *) operands=$((operands + 1)) ;;
         esac
     done
+    # (flat files of projects are no words of a command)
+    if [[ $letters == *P* ]]; then formats=${formats#vfsold }; fi
     if [ "$COMP_CWORD" = 1 ]; then
         words="$commands --help --version"
     elif [[ $previous == -F || $previous == --format ]]; then

@@ -45,7 +45,7 @@ rm one other owners owners.again users few many
 
 # Tree files of 20,000 users who came in different orders, by a listing or by lines that are made together, and one that most
 # of them left, so that there is a long list of free blocks: the report has the limits of each. It and a look-up ask the system
-# for bytes at most three times as often as 65,536 of them are in the file.
+# for bytes at most three times as often as 65,536 of them are in the file, and eight times more before it is seen how they go on.
 awk 'BEGIN { for (id = 0; id < 20000; id++) print id, 7 * id + 1, 9 * id + 2, id % 50 + 3, id % 60 + 4 }' >up
 sort -k 1nr up >down
 awk '{ print int($1 / 100) * 100 + ($1 * 37 + 11) % 100, $0 }' up | sort -s -k 1n | cut -d ' ' -f 2- >nearly
@@ -58,7 +58,7 @@ if strace -o trace.txt true 2>err.txt; then counts=yes; fi
 asks_few() {
     local what=$1 size most asked
     size=$(stat -c %s "$2")
-    most=$((3 * ((size + 65535) / 65536)))
+    most=$((3 * ((size + 65535) / 65536) + 8))
     shift 2
     [ -n "$counts" ] || return 0
     strace -f -e trace=pread64 -o trace.txt "$folder/program" "$@" >out.txt
