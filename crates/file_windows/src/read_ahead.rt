@@ -2,7 +2,7 @@ ghost use Rattle.std.specs.Prelude.{◌≤◌, length, IfOk};
 
 use crate::kept::KeptWindows;
 use crate::recent::RecentWindows;
-use crate::window::{WINDOW, leads_to, read_from};
+use crate::window::{WINDOW, is_from, read_from};
 use std::alloc::Global;
 use std::fs::File;
 use std::io;
@@ -12,6 +12,9 @@ const BLOCK: u64 = 1_024;
 
 /// The most blocks that are kept.
 const BLOCKS: usize = 8;
+
+/// How far behind a block that was read by itself the next read may begin a run.
+const FAR_GAP: u64 = 32_768;
 
 /// The most windows that are kept of a file that is read in some order.
 const WINDOWS: usize = 8;
@@ -107,10 +110,10 @@ impl ReadAhead {
     /// block by itself.
     fn is_led_to(&self, far_end: Option<u64>, at: u64) -> bool {
         let by_far = match far_end {
-            Some(end) => leads_to(end, at),
+            Some(end) => is_from(end, at, FAR_GAP),
             None => false,
         };
-        by_far || leads_to(self.run_start, at) || self.runs.leads_to(at)
+        by_far || is_from(self.run_start, at, 2 * WINDOW as u64) || self.runs.leads_to(at)
     }
 
     /// Whether the two blocks before this one were read by themselves.

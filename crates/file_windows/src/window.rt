@@ -29,10 +29,13 @@ pub(crate) fn read_from(file: &File, at: u64, buf: &mut [u8]) -> io::Result<usiz
     Ok(done)
 }
 
-/// Whether reads that came to a place lead to another one: it is the same one, or not far behind it.
-pub(crate) fn leads_to(end: u64, at: u64) -> bool {
-    match at.checked_sub(end) {
-        Some(behind) => behind <= 2 * WINDOW as u64,
+/// How far behind the end of a window a run of reads may go on.
+const GAP: u64 = 16_384;
+
+/// Whether a place is another one, or at most so far behind it.
+pub(crate) fn is_from(start: u64, at: u64, most: u64) -> bool {
+    match at.checked_sub(start) {
+        Some(behind) => behind <= most,
         None => false,
     }
 }
@@ -71,9 +74,9 @@ impl FileWindow {
         self.held > 0 && at < self.at && self.at - at <= WINDOW as u64
     }
 
-    /// Whether there are some, and the reads that came to their beginning lead to a place.
+    /// Whether there are some, and a run of reads that came to them leads to a place: one among them, or not far behind them.
     pub fn leads_to(&self, at: u64) -> bool {
-        self.held > 0 && leads_to(self.at, at)
+        self.held > 0 && is_from(self.at, at, (self.held as u64).saturating_add(GAP))
     }
 
     /// Where they end, where they lead to a place, and end there or before it.
