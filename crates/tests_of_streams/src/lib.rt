@@ -1,4 +1,5 @@
-//! Rows of streams: which records a marker gives of a stream, however that is cut into pieces.
+//! Rows of streams: which records a marker gives of a stream, however that is cut into pieces, and what is written on
+//! connections that are served.
 //!
 //! The crate has tests and nothing else, so that what it tests is proved once and not once more with its tests. A row is an
 //! element of a constant, and one small function plays all rows of a kind.
@@ -8,3 +9,7 @@
 mod marker_rows;
 #[cfg(test)]
 mod parts;
+#[cfg(test)]
+mod short_reads;
+#[cfg(test)]
+mod stream_rows;

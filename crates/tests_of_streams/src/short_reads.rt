@@ -1,0 +1,44 @@
+use memory_network::MemConns;
+use rpc_record::{ConnFault, Conns};
+
+/// Connections in memory whose reads take no more than so many bytes.
+#[derive(Drop)]
+pub(crate) struct ShortReads {
+    pub(crate) conns: MemConns,
+    pub(crate) most: usize,
+}
+
+impl Conns for ShortReads {
+    ghost use Rattle.std.specs.Prelude.{false};
+    ghost use Rattle.std.proofs.lemmas.Bool.{false≢true};
+
+    // Where `most` is 0, a read takes nothing before the end.
+    ghost tells = { false };
+
+    ghost is_open = { λ short. ⟦<MemConns as Conns>⟧.is_open short.conns };
+
+    ghost seen = { λ short. ⟦<MemConns as Conns>⟧.seen short.conns };
+
+    ghost told_open = { λ _ told. absurd (false≢true told) };
+
+    fn listen(&mut self, port: u16) -> Result<(), ConnFault> {
+        self.conns.listen(port)
+    }
+
+    fn accept(&mut self) -> Result<u64, ConnFault> {
+        self.conns.accept()
+    }
+
+    fn read(&mut self, buf: &mut [u8]) -> Result<usize, ConnFault> {
+        let most = self.most.min(buf.len());
+        self.conns.read(&mut buf[..most])
+    }
+
+    fn write(&mut self, bytes: &[u8]) -> Result<(), ConnFault> {
+        self.conns.write(bytes)
+    }
+
+    fn close(&mut self) {
+        self.conns.close();
+    }
+}
