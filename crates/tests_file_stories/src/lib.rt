@@ -14,6 +14,7 @@ pub mod refused_conversions;
 pub mod refused_listings;
 pub mod reports;
 pub mod served;
+pub mod served_projects;
 pub mod summed;
 pub mod trees;
 pub mod turned;

@@ -1,7 +1,7 @@
 use crate::playing::play;
 use tests_file_stories::{
     calls, checked, conversions, ended_checks, generated, names, new_files, projects,
-    refused_conversions, refused_listings, reports, served, summed, trees, turned,
+    refused_conversions, refused_listings, reports, served, served_projects, summed, trees, turned,
 };
 use tests_story_player::FILES;
 
@@ -132,7 +132,7 @@ fn files_of_each_kind_are_none_of_another_one(rt: HostRuntime) {
 
 #[test]
 fn calls_for_projects_are_answered(rt: HostRuntime) {
-    play(&rt, rt.alloc(), &[FILES, projects::SERVED]);
+    play(&rt, rt.alloc(), &[FILES, served_projects::SERVED]);
 }
 
 #[test]
