@@ -4,7 +4,7 @@ use Rattle.std.proofs.Common.{◌≡◌, ◌≢◌, ℕ, suc, ◌+◌, ◌^◌, 
 use Rattle.std.proofs.lemmas.Bool.{cases_Bool, cases_eq, cases_lt, le-leb}
 use Rattle.std.specs.FinMap.{get, insert}
 use Rattle.quota_types.specs.declared.file_kind.Format.{Format}
-use Rattle.quota_types.specs.declared.file_kind.Format.TheVariants.{V1, V2R0, V2R1}
+use Rattle.quota_types.specs.declared.file_kind.Format.TheVariants.{V1, V1R32, V2R0, V2R1}
 use Rattle.quota_types.specs.declared.record.Entry.{Entry}
 use Rattle.quota_types.specs.declared.record.Rec.{Rec}
 use Rattle.quota_types.specs.Times.{StandsIn, times}
@@ -34,6 +34,7 @@ use Rattle.block_changes.proofs.OneLeafLemmas.{awaited_counts, ids_fewer, ids_ot
 -- a format with one place for an entry has more
 pub some_places : (format : Format) (place : ℕ) → place < entries_per_block format → 1 < entries_per_block format
 some_places V1 place low = absurd (omega (arith, low))
+some_places V1R32 place low = absurd (omega (arith, low))
 some_places V2R0 place low = omega arith
 some_places V2R1 place low = omega arith
 

@@ -6,7 +6,7 @@ use Rattle.std.specs.Option.{option_map, option_to_list}
 use Rattle.std.proofs.lemmas.Option.{none-some}
 use Rattle.quota_types.specs.declared.field.NoRoom.{NoRoom as NoRoomFor}
 use Rattle.quota_types.specs.declared.file_kind.Format.{Format}
-use Rattle.quota_types.specs.declared.file_kind.Format.TheVariants.{V1, V2R0, V2R1}
+use Rattle.quota_types.specs.declared.file_kind.Format.TheVariants.{V1, V1R32, V2R0, V2R1}
 use Rattle.quota_types.specs.declared.record.Entry.{Entry}
 use Rattle.quota_types.specs.declared.record.Grace.{Grace}
 use Rattle.quota_value.specs.Listed.{ids_of, value_of}
@@ -87,6 +87,7 @@ absent_of found (Some file) none is = absurd (none-some (length file) (sym none 
 -- a value of no flags, whatever the format
 no_flags : (format : Format) → flags_in format 0 ≡ 0
 no_flags V1 = refl
+no_flags V1R32 = refl
 no_flags V2R0 = refl
 no_flags V2R1 = refl
 

@@ -2,7 +2,7 @@
 use Rattle.std.proofs.Common.{◌≡◌, ℕ, Bool, true, false, IsTrue, List, Option, None, Some, Ok, refl, sym, ap, subst, ◌∙◌}
 use Rattle.std.specs.Prelude.{All}
 use Rattle.quota_types.specs.declared.file_kind.Format.{Format}
-use Rattle.quota_types.specs.declared.file_kind.Format.TheVariants.{V1, V2R0, V2R1}
+use Rattle.quota_types.specs.declared.file_kind.Format.TheVariants.{V1, V1R32, V2R0, V2R1}
 use Rattle.quota_types.specs.declared.file_kind.Kind.{Kind}
 use Rattle.quota_types.specs.declared.record.Entry.{Entry}
 use Rattle.quota_types.specs.declared.record.Grace.{Grace}
@@ -18,9 +18,11 @@ use Rattle.convert.proofs.ValueLemmas.{records_kept}
 -- a value that is seen is one of the format that was asked for
 view_format : (named : Option (List ℕ)) (kind : Kind) (format : Format) (value : QuotaValue) → IsView named kind (Some format) (Ok value) → value.format ≡ format
 view_format None kind V1 value view = absurd view.0
+view_format None kind V1R32 value view = absurd view.0
 view_format None kind V2R0 value view = absurd view.0
 view_format None kind V2R1 value view = absurd view.0
 view_format (Some file) kind V1 value view = view.0.1.format
+view_format (Some file) kind V1R32 value view = view.0.1.format
 view_format (Some file) kind V2R0 value view = sym view.2
 view_format (Some file) kind V2R1 value view = sym view.2
 
@@ -28,9 +30,11 @@ view_format (Some file) kind V2R1 value view = sym view.2
 view_flags : (named : Option (List ℕ)) (kind : Kind) (format : Format) (value other : QuotaValue) → IsView named kind (Some format) (Ok value) → IsView named kind (Some format) (Ok other)
     → other.flags ≡ value.flags
 view_flags None kind V1 value other view also = absurd view.0
+view_flags None kind V1R32 value other view also = absurd view.0
 view_flags None kind V2R0 value other view also = absurd view.0
 view_flags None kind V2R1 value other view also = absurd view.0
 view_flags (Some file) kind V1 value other view also = also.0.1.flags ∙ sym view.0.1.flags
+view_flags (Some file) kind V1R32 value other view also = also.0.1.flags ∙ sym view.0.1.flags
 view_flags (Some file) kind V2R0 value other view also = also.0.1.flags ∙ sym view.0.1.flags
 view_flags (Some file) kind V2R1 value other view also = also.0.1.flags ∙ sym view.0.1.flags
 

@@ -6,7 +6,7 @@ use Rattle.std.proofs.lemmas.Bool.Decides.{nat_tests}
 use Rattle.quota_types.specs.declared.field.Field.{Field}
 use Rattle.quota_types.specs.Format.{is_flat}
 use Rattle.quota_types.specs.declared.file_kind.Format.{Format}
-use Rattle.quota_types.specs.declared.file_kind.Format.TheVariants.{V1}
+use Rattle.quota_types.specs.declared.file_kind.Format.TheVariants.{V1, V1R32}
 use Rattle.opened_file.specs.ValueEdits.{IsLeft}
 use Rattle.outside.specs.Frame.{OnlyReads}
 use Rattle.opened_file.specs.QuotaFile.{is_store_fault}
@@ -222,7 +222,9 @@ any_cause tells edit opened file before after name format (Unfit out) keeps was 
 full_asked : (asked : Option Format) (format : Format) (blocks limit : ℕ) → IsOpenedAs asked format → MayRefuse format (Full blocks limit)
     → IsTrue (asks_tree asked) × (blocks_allowed format ≡ most_blocks)
 full_asked asked V1 blocks limit asks may = absurd (may.flat refl)
+full_asked asked V1R32 blocks limit asks may = absurd (may.flat refl)
 full_asked (Some V1) format blocks limit asks may = absurd (may.flat (ap is_flat asks))
+full_asked (Some V1R32) format blocks limit asks may = absurd (may.flat (ap is_flat asks))
 full_asked asked format blocks limit asks may = (refl, refl)
 
 -- for what an edit may be refused, whatever is told

@@ -5,7 +5,7 @@ use Rattle.std.proofs.lemmas.Grind.{same_number_lists}
 use Rattle.quota_types.specs.Bytes.{byte_at, number_at}
 use Rattle.quota_types.specs.Kept.{without_marker}
 use Rattle.quota_types.specs.declared.file_kind.Format.{Format}
-use Rattle.quota_types.specs.declared.file_kind.Format.TheVariants.{V1, V2R0, V2R1}
+use Rattle.quota_types.specs.declared.file_kind.Format.TheVariants.{V1, V1R32, V2R0, V2R1}
 use Rattle.quota_types.specs.declared.record.Rec.{Rec}
 use Rattle.quota_types.proofs.BytesLemmas.{number_at-past}
 use Rattle.entry_codec.specs.Entry.{is_unused, stored_id, stored_v2r0, stored_v2r1}
@@ -146,6 +146,7 @@ used_not_true xs stored id rec x unused = let used = x.used in cc
 
 pub one_spelling : (format : Format) (xs ys : List ℕ) (id : ℕ) (rec : Rec) → IsSpelling format xs id rec → IsSpelling format ys id rec → xs ≡ ys
 one_spelling V1 xs ys id rec x y = absurd x.entry
+one_spelling V1R32 xs ys id rec x y = absurd x.entry
 one_spelling V2R0 xs ys id rec x y =
     let same = same_used xs ys id rec (stored_v2r0 xs) (stored_v2r0 ys) x.entry y.entry
     (not_zeros_v2r0 xs x.are_bytes x.size (used_not_true xs _ id rec x.entry))

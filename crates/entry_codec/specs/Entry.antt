@@ -4,12 +4,13 @@ use Rattle.std.specs.Prelude.{ℕ, Bool, ◌==◌, List}
 use Rattle.std.specs.List.{list_all}
 use Rattle.quota_types.specs.Bytes.{number_at}
 use Rattle.quota_types.specs.declared.file_kind.Format.{Format}
-use Rattle.quota_types.specs.declared.file_kind.Format.TheVariants.{V1, V2R0, V2R1}
+use Rattle.quota_types.specs.declared.file_kind.Format.TheVariants.{V1, V1R32, V2R0, V2R1}
 use Rattle.quota_types.specs.declared.record.Rec.{Rec}
 
 -- the entries of a data block, which fill it behind its first 16 bytes
 abbrev pub entries_per_block : Format → ℕ
 entries_per_block V1 = 0
+entries_per_block V1R32 = 0
 entries_per_block V2R0 = 21
 entries_per_block V2R1 = 14
 

@@ -4,7 +4,7 @@ use Rattle.quota_types.specs.Bytes.{byte_at, number_at}
 use Rattle.quota_types.specs.Format.{record_size}
 use Rattle.quota_types.specs.Kept.{without_marker}
 use Rattle.quota_types.specs.declared.file_kind.Format.{Format}
-use Rattle.quota_types.specs.declared.file_kind.Format.TheVariants.{V1, V2R0, V2R1}
+use Rattle.quota_types.specs.declared.file_kind.Format.TheVariants.{V1, V1R32, V2R0, V2R1}
 use Rattle.quota_types.specs.declared.record.Rec.{Rec}
 use Rattle.entry_codec.specs.Entry.{is_unused, stored_id, stored_v2r0, stored_v2r1}
 use Rattle.entry_codec.specs.declared.header.Header.{Header}
@@ -13,6 +13,7 @@ use Rattle.entry_codec.specs.Header.{HeaderNumbers, magic_of, format_of}
 -- the bytes between the identifier and the record, which have any value
 abbrev pub padding_of : Format → List ℕ → ℕ
 padding_of V1 bytes = 0
+padding_of V1R32 bytes = 0
 padding_of V2R0 bytes = 0
 padding_of V2R1 bytes = number_at 4 bytes 4
 
@@ -26,6 +27,7 @@ pub record IsUsedBy (bytes : List ℕ) (stored : Rec) (id : ℕ) (rec : Rec) : T
 -- the bytes of an entry are used by this identifier with this record
 abbrev pub IsEntry : Format → List ℕ → ℕ → Rec → Type 0
 IsEntry V1 bytes id rec = ⊥
+IsEntry V1R32 bytes id rec = ⊥
 IsEntry V2R0 bytes id rec = IsUsedBy bytes (stored_v2r0 bytes) id rec
 IsEntry V2R1 bytes id rec = IsUsedBy bytes (stored_v2r1 bytes) id rec
 

@@ -63,7 +63,7 @@ fn used_record(format: Format, id: u32, bytes: &[u8]) -> Rec
     ensures kept { kept_of format id result ≡ result }
 {
     match format {
-        Format::V1 => unreachable!(),
+        Format::V1 | Format::V1R32 => unreachable!(),
         Format::V2R0 => kept(Format::V2R0, id, stored_v2r0(bytes)),
         Format::V2R1 => kept(Format::V2R1, id, stored_v2r1(bytes)),
     }
@@ -161,7 +161,7 @@ pub fn write_entry(format: Format, id: u32, rec: &Rec, bytes: &mut [u8])
 {
     let stored = marked(id, rec);
     match format {
-        Format::V1 => unreachable!(),
+        Format::V1 | Format::V1R32 => unreachable!(),
         Format::V2R0 => write_v2r0(id, &stored, bytes),
         Format::V2R1 => write_v2r1(id, &stored, bytes),
     }

@@ -74,7 +74,7 @@ fn version_of(format: Format) -> u32
     ensures { format_of result ≡ Some format }
 {
     match format {
-        Format::V1 => unreachable!(),
+        Format::V1 | Format::V1R32 => unreachable!(),
         Format::V2R0 => 0,
         Format::V2R1 => 1,
     }

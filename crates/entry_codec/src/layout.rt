@@ -18,7 +18,7 @@ pub fn entries_per_block(format: Format) -> usize
     ensures { result ≡ entries_per_block format }
 {
     match format {
-        Format::V1 => unreachable!(),
+        Format::V1 | Format::V1R32 => unreachable!(),
         Format::V2R0 => 21,
         Format::V2R1 => 14,
     }

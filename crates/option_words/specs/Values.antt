@@ -3,7 +3,7 @@
 use Rattle.std.specs.Prelude.{ℕ, Bool, ◌&&◌, nat_le, if◌then◌else◌, List, [], ◌∷◌, length, Option, Some, None, codes}
 use Rattle.std.specs.Option.{option_and_then}
 use Rattle.quota_types.specs.declared.file_kind.Format.{Format}
-use Rattle.quota_types.specs.declared.file_kind.Format.TheVariants.{V1, V2R0, V2R1}
+use Rattle.quota_types.specs.declared.file_kind.Format.TheVariants.{V1, V1R32, V2R0, V2R1}
 use Rattle.quota_types.specs.declared.file_kind.Kind.{Kind}
 use Rattle.quota_types.specs.declared.file_kind.Kind.TheVariants.{User, Group, Project}
 use Rattle.input_text.specs.Numeral.{number_of}
@@ -13,7 +13,7 @@ use Rattle.option_words.specs.Tools.{look_up}
 
 -- the format of a name
 abbrev pub format_of : List ℕ → Option Format
-format_of word = look_up ((codes "vfsold", V1) ∷ (codes "vfsv0", V2R0) ∷ (codes "vfsv1", V2R1) ∷ []) word
+format_of word = look_up ((codes "vfsold", V1) ∷ (codes "vfsold32", V1R32) ∷ (codes "vfsv0", V2R0) ∷ (codes "vfsv1", V2R1) ∷ []) word
 
 -- the kind of files that is exported under a word
 abbrev pub kind_of : List ℕ → Option Kind

@@ -9,7 +9,7 @@ use input_text::read_number;
 use quota_types::{Format, Kind};
 use refusals::UsageKind;
 
-/// Reads the name of a format: `vfsold`, `vfsv0` or `vfsv1`.
+/// Reads the name of a format: `vfsold`, `vfsold32`, `vfsv0` or `vfsv1`.
 ///
 /// # Errors
 ///
@@ -73,6 +73,7 @@ fn format_of(word: &str) -> Option<Format>
 {
     match word {
         "vfsold" => Some(Format::V1),
+        "vfsold32" => Some(Format::V1R32),
         "vfsv0" => Some(Format::V2R0),
         "vfsv1" => Some(Format::V2R1),
         _ => None,

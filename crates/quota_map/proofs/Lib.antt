@@ -1,5 +1,6 @@
 pub mod ReadingLemmas
 pub mod AnyLemmas
+pub mod FlatLemmas
 pub mod ViewLemmas
 pub mod SeenLemmas
 pub mod ReplacedLemmas

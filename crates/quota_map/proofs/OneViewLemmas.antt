@@ -5,7 +5,7 @@ use Rattle.std.proofs.lemmas.Bool.Decides.{nat_tests}
 use Rattle.std.proofs.lemmas.Option.{none-some, same_Some}
 use Rattle.quota_types.specs.Format.{is_flat}
 use Rattle.quota_types.specs.declared.file_kind.Format.{Format}
-use Rattle.quota_types.specs.declared.file_kind.Format.TheVariants.{V1, V2R0, V2R1}
+use Rattle.quota_types.specs.declared.file_kind.Format.TheVariants.{V1, V1R32, V2R0, V2R1}
 use Rattle.quota_types.specs.declared.file_kind.Kind.{Kind}
 use Rattle.quota_value.specs.QuotaValue.{QuotaValue}
 use Rattle.opened_file.specs.declared.quota_file.OpenFault.{OpenFault}
@@ -30,6 +30,7 @@ by_blocks limit blocks = if nat_lt limit blocks then Some (TooLarge blocks limit
 abbrev by_format : Option Format → Format → (limit blocks : ℕ) → Option OpenFault
 by_format None found limit blocks = by_blocks limit blocks
 by_format (Some V1) V1 limit blocks = by_blocks limit blocks
+by_format (Some V1R32) V1R32 limit blocks = by_blocks limit blocks
 by_format (Some V2R0) V2R0 limit blocks = by_blocks limit blocks
 by_format (Some V2R1) V2R1 limit blocks = by_blocks limit blocks
 by_format (Some wanted) found limit blocks = Some (FormatMismatch found)
@@ -64,12 +65,14 @@ few_blocks limit blocks few =
 format_asked : (asked : Option Format) (found : Format) (limit blocks : ℕ) → IsAsAsked asked found → by_format asked found limit blocks ≡ by_blocks limit blocks
 format_asked None found limit blocks is = refl
 format_asked (Some V1) V1 limit blocks is = refl
+format_asked (Some V1R32) V1R32 limit blocks is = refl
 format_asked (Some V2R0) V2R0 limit blocks is = refl
 format_asked (Some V2R1) V2R1 limit blocks is = refl
 format_asked (Some wanted) found limit blocks is = absurd (cc)
 
 format_differs : (wanted found : Format) (limit blocks : ℕ) → wanted ≢ found → by_format (Some wanted) found limit blocks ≡ Some (FormatMismatch found)
 format_differs V1 V1 limit blocks differ = absurd (differ refl)
+format_differs V1R32 V1R32 limit blocks differ = absurd (differ refl)
 format_differs V2R0 V2R0 limit blocks differ = absurd (differ refl)
 format_differs V2R1 V2R1 limit blocks differ = absurd (differ refl)
 format_differs wanted found limit blocks differ = refl

@@ -3,25 +3,28 @@ use Rattle.std.proofs.Common.{◌≡◌, ℕ, Bool, true, false, if◌then◌els
 use Rattle.std.specs.Prelude.{MatchBool}
 use Rattle.quota_types.specs.Format.{IsTreeFormat, is_flat}
 use Rattle.quota_types.specs.declared.file_kind.Format.{Format}
-use Rattle.quota_types.specs.declared.file_kind.Format.TheVariants.{V1}
 use Rattle.quota_types.specs.declared.file_kind.Kind.{Kind}
 use Rattle.quota_value.specs.QuotaValue.{QuotaValue}
 use Rattle.opened_file.specs.declared.quota_file.OpenFault.{OpenFault}
 use Rattle.tree_file.specs.View.{IsTreeView}
 use Rattle.quota_v1.specs.View.{IsFlatView}
 use Rattle.quota_map.specs.View.{IsView, asks_flat, most_blocks, opening_reads}
-use Rattle.std.proofs.lemmas.Bool.{cases_lt, false≢true}
+use Rattle.std.proofs.lemmas.Bool.{cases_lt}
 use Rattle.quota_types.specs.Bytes.{number_at}
 use Rattle.quota_types.specs.declared.file_kind.Kind.TheVariants.{User, Group, Project}
 use Rattle.entry_codec.specs.Header.{header_of, magic_of}
 use Rattle.tree_meaning.specs.TreeFile.{TreeStandsFor}
 use Rattle.opened_file.specs.Replace.{pieces_of}
 
--- the flat format that is asked for
-pub flat_asked : (asked : Option Format) → asks_flat asked ≡ true → asked ≡ Some V1
-flat_asked None is = absurd (false≢true is)
-flat_asked (Some V1) is = refl
-flat_asked (Some _) is = absurd (false≢true is)
+pub seen_flat : (named : Option (List ℕ)) (kind : Kind) (format : Format) (result : Result QuotaValue OpenFault) → is_flat format ≡ true → IsFlatView format named kind result
+    → IsView named kind (Some format) result
+seen_flat named kind format result flat seen =
+    subst (λ (b : Bool). MatchBool b (IsFlatView format named kind result) (IsTreeView named kind (Some format) most_blocks result)) (sym flat) seen
+
+pub flat_seen : (named : Option (List ℕ)) (kind : Kind) (format : Format) (result : Result QuotaValue OpenFault) → is_flat format ≡ true → IsView named kind (Some format) result
+    → IsFlatView format named kind result
+flat_seen named kind format result flat seen =
+    subst (λ (b : Bool). MatchBool b (IsFlatView format named kind result) (IsTreeView named kind (Some format) most_blocks result)) flat seen
 
 pub seen_tree : (named : Option (List ℕ)) (kind : Kind) (asked : Option Format) (result : Result QuotaValue OpenFault) → asks_flat asked ≡ false → IsTreeView named kind asked most_blocks result
     → IsView named kind asked result

@@ -1,5 +1,6 @@
 -- What is seen of a quota file by whoever opens it: as a flat file exactly where that format is asked for, and otherwise as a
--- tree file. Source: quotaon(8) and setquota(8) on formats, of which only vfsold has no magic number.
+-- tree file. Source: quotaon(8) and setquota(8) on formats, of which only vfsold has no magic number; vfsold32 is vfsold as 32-bit
+-- x86 has it.
 use Rattle.std.specs.Prelude.{◌≡◌, ℕ, Bool, true, false, List, ◌+◌, ◌*◌, Option, Some, None, Result, Err, ⊤, not, MatchBool, if◌then◌else◌}
 use Rattle.quota_types.specs.Format.{IsTreeFormat, is_flat}
 use Rattle.quota_types.specs.declared.file_kind.Format.{Format}
@@ -19,7 +20,7 @@ use Rattle.quota_types.specs.Damage.{NamesItsId}
 
 -- how many blocks a tree file may have
 abbrev pub most_blocks : ℕ
-most_blocks = 1048576
+most_blocks = 4194304
 
 -- a flat file is asked for
 abbrev pub asks_flat : Option Format → Bool

@@ -11,7 +11,7 @@ use tree_file::TreeFile;
 /// An opened quota file of any format.
 #[derive(Drop)]
 pub enum AnyFile {
-    /// A flat file: vfsold.
+    /// A flat file: vfsold or vfsold32.
     V1(V1File),
     /// A tree file: vfsv0 or vfsv1.
     Tree(TreeFile),

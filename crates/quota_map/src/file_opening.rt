@@ -1,7 +1,8 @@
-ghost use Rattle.std.specs.Prelude.{◌≡◌, ◌+◌, ◌≤◌, Ok, IsTrue, IfOk, IfErr, OnOk, is_ok, []};
+ghost use Rattle.std.specs.Prelude.{◌≡◌, ◌+◌, ◌≤◌, None, Some, true, false, Ok, IfSome, IsTrue, IfOk, IfErr, OnOk, is_ok, []};
 ghost use Rattle.outside.specs.Frame.{OnlyReads};
 ghost use Rattle.quota_value.specs.QuotaValue.{QuotaValue};
 ghost use Rattle.file_blocks.specs.Block.{file_of};
+ghost use Rattle.quota_types.specs.Format.{is_flat};
 ghost use Rattle.quota_map.specs.View.{IsOpenFault, IsOpenedAs, IsView, asks_flat, fresh_seen, opening_reads};
 
 use crate::AnyFile;
@@ -13,15 +14,15 @@ use std::alloc::Global;
 use tree_file::open_tree;
 
 /// How many blocks a tree file may have, of 1,024 bytes each.
-pub const MOST_BLOCKS: u32 = 1_048_576;
+pub const MOST_BLOCKS: u32 = 4_194_304;
 
-/// Opens a quota file of the kind: as a flat file, which has no mark of its kind, exactly where that format is asked for, and
+/// Opens a quota file of the kind: as a flat file, which has no mark of its kind, exactly where a flat format is asked for, and
 /// otherwise as a tree file of the format that is asked for, where one is. Of a flat file its length and the times of record
 /// 0 are kept; of a tree file its header, once each block was read and the whole found sound.
 ///
 /// # Errors
 ///
-/// It is refused where it cannot be opened as one of its format: by `open_v1`, or by `open_tree` with at most 1,048,576 blocks.
+/// It is refused where it cannot be opened as one of its format: by `open_v1`, or by `open_tree` with at most 4,194,304 blocks.
 pub fn open_file<S: Store>(
     alloc: Global,
     store: &mut S,
@@ -44,18 +45,19 @@ pub fn open_file<S: Store>(
         + opening_reads format (file_of (S.seen store.old).files name.now) }
     ensures commits { S.commits [] store.old store.new }
 {
-    if asks_flat(format) {
-        return Ok(AnyFile::V1(open_v1(alloc, store, name)?));
+    if let Some(flat) = flat_asked(format) {
+        return Ok(AnyFile::V1(open_v1(alloc, store, name, flat)?));
     }
     Ok(AnyFile::Tree(open_tree(alloc, store, name, kind, format, MOST_BLOCKS)?))
 }
 
-/// Whether a flat file is asked for.
-fn asks_flat(format: Option<Format>) -> bool
-    ensures { result ≡ asks_flat format }
+/// The format that is asked for, where it is a flat one.
+fn flat_asked(format: Option<Format>) -> Option<Format>
+    ensures flat { IfSome result (λ flat. (format ≡ Some flat) × (is_flat flat ≡ true)) }
+    ensures other { result ≡ None → asks_flat format ≡ false }
 {
     match format {
-        Some(format) => format.is_flat(),
-        None => false,
+        Some(format) if format.is_flat() => Some(format),
+        _ => None,
     }
 }

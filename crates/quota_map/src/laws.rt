@@ -1,8 +1,8 @@
 //! Laws of quota files of all formats.
 
-ghost use Rattle.std.specs.Prelude.{◌≡◌, ◌≤◌, ℕ, List};
+ghost use Rattle.std.specs.Prelude.{◌≡◌, ◌≤◌, true, ℕ, List};
+ghost use Rattle.quota_types.specs.Format.{is_flat};
 ghost use Rattle.quota_types.specs.declared.file_kind.Format.{Format};
-ghost use Rattle.quota_types.specs.declared.file_kind.Format.TheVariants.{V1};
 ghost use Rattle.quota_value.specs.QuotaValue.{QuotaValue};
 ghost use Rattle.quota_map.specs.AnyFile.{reads_of_get};
 ghost use Rattle.quota_map.specs.StandsFor.{StandsFor};
@@ -18,6 +18,6 @@ pub fn a_file_has_one_meaning_of_a_kind_and_format()
 
 /// A look-up makes one call of `read` at most in a flat file, and five in a file of any format.
 pub fn a_look_up_reads_five_times_at_most()
-    ensures flat { reads_of_get V1 ≡ 1 }
+    ensures flat { (format : Format) → is_flat format ≡ true → reads_of_get format ≡ 1 }
     ensures all { (format : Format) → reads_of_get format ≤ 5 }
 {}

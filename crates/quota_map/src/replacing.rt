@@ -100,7 +100,7 @@ fn built(
     ensures refused { IfErr result (IsBuildFault (blocks_needed format (ids_of list.now)) limit) }
 {
     match format {
-        Format::V1 => Ok(build_v1(alloc, grace, list)?),
+        Format::V1 | Format::V1R32 => Ok(build_v1(alloc, format, grace, list)?),
         Format::V2R0 | Format::V2R1 => { build(alloc, format, kind, grace, flags, list, limit) }
     }
 }

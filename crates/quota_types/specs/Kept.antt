@@ -4,13 +4,17 @@ use Rattle.std.specs.Prelude.{◌≡◌, ℕ, ◌*◌, None, Bool, ◌&&◌, ◌
 use Rattle.quota_types.specs.Range.{unfit}
 use Rattle.quota_types.specs.Rec.{is_null_of, kib_of}
 use Rattle.quota_types.specs.declared.file_kind.Format.{Format}
-use Rattle.quota_types.specs.declared.file_kind.Format.TheVariants.{V1, V2R0, V2R1}
+use Rattle.quota_types.specs.declared.file_kind.Format.TheVariants.{V1, V1R32, V2R0, V2R1}
 use Rattle.quota_types.specs.declared.record.Rec.{Rec}
 
 -- the record of an identifier, without its timers where that is identifier 0: in their place a flat file has the grace
 -- periods
 abbrev pub without_timers_of_zero : ℕ → Rec → Rec
 without_timers_of_zero id rec = if id == 0 then record rec { btime = 0; itime = 0 } else rec
+
+-- the record of an identifier as a flat file has it: with the space in whole KiB, rounded up
+abbrev pub whole_kib : ℕ → Rec → Rec
+whole_kib id rec = without_timers_of_zero id (record rec { space = 1024 * kib_of rec.space })
 
 -- the eight fields are 0 but for an itime of 1
 abbrev pub is_marker : Rec → Bool
@@ -24,7 +28,8 @@ without_marker id rec = if id == 0 && is_marker rec then record rec { itime = 0 
 -- What the format keeps of an identifier's record: a flat file the space in whole KiB, rounded up, and no timers of
 -- identifier 0; a tree file all but the marker.
 abbrev pub kept_of : Format → ℕ → Rec → Rec
-kept_of V1 id rec = without_timers_of_zero id (record rec { space = 1024 * kib_of rec.space })
+kept_of V1 id rec = whole_kib id rec
+kept_of V1R32 id rec = whole_kib id rec
 kept_of V2R0 id rec = without_marker id rec
 kept_of V2R1 id rec = without_marker id rec
 

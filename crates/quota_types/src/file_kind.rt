@@ -38,11 +38,13 @@ impl Kind {
     }
 }
 
-/// The format of a quota file, as the Linux quota tools name them.
+/// The format of a quota file, as the Linux quota tools name them, but for vfsold32, which is their vfsold on 32-bit x86.
 #[derive(Clone, Copy, Debug, PartialEq, Eq)]
 pub enum Format {
-    /// vfsold: a flat table of records of 40 bytes, indexed by identifier.
+    /// vfsold: a flat table of records of 40 bytes, indexed by identifier, with timers of 64 bits.
     V1,
+    /// vfsold32: a flat table of records of 32 bytes, indexed by identifier, with timers of 32 bits.
+    V1R32,
     /// vfsv0: a tree with fields of 32 bits.
     V2R0,
     /// vfsv1: a tree with fields of 64 bits.
@@ -55,7 +57,7 @@ impl Format {
         ensures { result ≡ is_flat self }
     {
         match self {
-            Format::V1 => true,
+            Format::V1 | Format::V1R32 => true,
             Format::V2R0 | Format::V2R1 => false,
         }
     }
@@ -66,6 +68,7 @@ impl Format {
     {
         match self {
             Format::V1 => 40,
+            Format::V1R32 => 32,
             Format::V2R0 => 48,
             Format::V2R1 => 72,
         }

@@ -1,5 +1,5 @@
 ghost use Rattle.std.specs.Prelude.{◌≡◌, ◌^◌, ◌<◌, None};
-ghost use Rattle.quota_types.specs.Kept.{IsKept, kept_of, without_marker};
+ghost use Rattle.quota_types.specs.Kept.{IsKept, kept_of, whole_kib, without_marker};
 ghost use Rattle.quota_types.specs.Range.{unfit};
 ghost use Rattle.quota_types.specs.Rec.{is_null_of, kib_of};
 
@@ -19,7 +19,7 @@ const MARKER: Rec = Rec {
 
 fn kept_flat(id: u32, rec: Rec) -> Rec
     requires { kib_of rec.space < 2 ^ 32 }
-    ensures { result ≡ kept_of Format.V1 id rec }
+    ensures { result ≡ whole_kib id rec }
 {
     let rounded = Rec {
         space: 1024 * rec.kib(),
@@ -57,7 +57,7 @@ pub fn kept(format: Format, id: u32, rec: Rec) -> Rec
     ensures null { is_null_of result ≡ is_null_of rec }
 {
     match format {
-        Format::V1 => kept_flat(id, rec),
+        Format::V1 | Format::V1R32 => kept_flat(id, rec),
         Format::V2R0 | Format::V2R1 => kept_tree(id, rec),
     }
 }

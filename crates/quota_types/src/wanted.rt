@@ -2,19 +2,47 @@ ghost use Rattle.std.specs.Prelude.{◌≡◌, None, Some, IfOk, IfErr, OnOk};
 ghost use Rattle.quota_types.specs.Kept.{IsKept, kept_of};
 ghost use Rattle.quota_types.specs.Range.{unfit};
 ghost use Rattle.quota_types.specs.Rec.{is_null_of};
-ghost use Rattle.quota_types.specs.Timers.{timers_of};
+ghost use Rattle.quota_types.specs.Timers.{timer_of, timers_of};
 
-use crate::{Field, Format, Grace, NoRoom, Rec, check_record, kept, next_timers};
+use crate::{Format, Grace, NoRoom, Rec, is_exceeded, kept, with_timers};
 
-/// The grace period for the limit of a timer.
-fn period_of(timer: Field, grace: Grace) -> u64
-    ensures block { timer ≡ Field.Btime → result ≡ grace.block }
-    ensures inode { timer ≡ Field.Itime → result ≡ grace.inode }
+/// A timer as it is to be, in seconds since 1970; the end of one that starts may be a sum beyond 64 bits.
+fn wanted_timer(soft: u64, used: u64, timer: u64, grace: u64, now: u64) -> u128
+    ensures { result ≡ timer_of soft used timer grace now }
 {
-    match timer {
-        Field::Btime => grace.block,
-        _ => grace.inode,
+    if !is_exceeded(soft, used) {
+        0
+    } else if timer == 0 {
+        u128::from(now) + u128::from(grace)
+    } else {
+        u128::from(timer)
     }
+}
+
+/// What the format keeps of an identifier's record with these timers, in seconds since 1970, each of which may be a sum
+/// beyond 64 bits.
+///
+/// # Errors
+///
+/// The first field for which the format has no room, in the order of `Field`, with its value; that of the space is in
+/// bytes.
+pub fn kept_timed(
+    format: Format,
+    id: u32,
+    rec: Rec,
+    btime: u128,
+    itime: u128,
+) -> Result<Rec, NoRoom>
+    ensures kept { IfOk result (λ next. next ≡ kept_of format id (record rec { btime = btime; itime = itime })) }
+    ensures again { IfOk result (IsKept format id) }
+    ensures null { IfOk result (λ next. is_null_of next ≡ is_null_of rec) }
+    ensures wanted { OnOk result (unfit format id (record rec { btime = btime; itime = itime }) ≡ None) }
+    ensures refused { IfErr result (λ out. unfit format id (record rec { btime = btime; itime = itime })
+        ≡ Some (out.field, out.value)) }
+    ensures id { IfErr result (λ out. out.id ≡ id) }
+{
+    let timed = with_timers(format, id, rec, btime, itime)?;
+    Ok(kept(format, id, timed))
 }
 
 /// What the format keeps of an identifier's record with the timers that `next_timers` tells.
@@ -31,22 +59,7 @@ pub fn next_kept(format: Format, id: u32, rec: Rec, grace: Grace, now: u64) -> R
     ensures refused { IfErr result (λ out. unfit format id (timers_of rec grace now) ≡ Some (out.field, out.value)) }
     ensures id { IfErr result (λ out. out.id ≡ id) }
 {
-    let field = match next_timers(rec, grace, now) {
-        Ok(next) => {
-            check_record(format, id, &next)?;
-            return Ok(kept(format, id, next));
-        }
-        Err(field) => field,
-    };
-    let stopped = Rec {
-        btime: 0,
-        itime: 0,
-        ..rec
-    };
-    check_record(format, id, &stopped)?;
-    Err(NoRoom {
-        id,
-        field,
-        value: u128::from(now) + u128::from(period_of(field, grace)),
-    })
+    let btime = wanted_timer(rec.bsoft, rec.kib(), rec.btime, grace.block, now);
+    let itime = wanted_timer(rec.isoft, rec.inodes, rec.itime, grace.inode, now);
+    kept_timed(format, id, rec, btime, itime)
 }

@@ -5,7 +5,7 @@ use Rattle.file_blocks.specs.Block.{bytes_of}
 use Rattle.quota_types.specs.Format.{record_size}
 use Rattle.quota_types.specs.Ids.{IsAfter}
 use Rattle.quota_types.specs.declared.file_kind.Format.{Format}
-use Rattle.quota_types.specs.declared.file_kind.Format.TheVariants.{V1, V2R0, V2R1}
+use Rattle.quota_types.specs.declared.file_kind.Format.TheVariants.{V1, V1R32, V2R0, V2R1}
 use Rattle.quota_types.specs.declared.record.Entry.{Entry}
 use Rattle.opened_file.specs.Passing.{first_after, passed_up_to}
 use Rattle.opened_file.specs.declared.quota_file.FileFault.{FileFault}
@@ -17,12 +17,14 @@ use Rattle.quota_v1.specs.Window.{passing_reads, window_reads}
 passed_some : (format : Format) (before now first from end to records : ℕ) → first ≤ from → from < end → end ≤ to → end ≤ records → now ≤ before + window_reads format from end
     → now ≤ before + (1 + (min to records - first) / records_read format)
 passed_some V1 before now first from end to records later some far within few = omega arith
+passed_some V1R32 before now first from end to records later some far within few = omega arith
 passed_some V2R0 before now first from end to records later some far within few = omega arith
 passed_some V2R1 before now first from end to records later some far within few = omega arith
 
 -- there was none to pass
 passed_none : (format : Format) (before now first from to records : ℕ) → records ≤ from → now ≤ before + window_reads format from records → now ≤ before + (1 + (min to records - first) / records_read format)
 passed_none V1 before now first from to records none few = omega arith
+passed_none V1R32 before now first from to records none few = omega arith
 passed_none V2R0 before now first from to records none few = omega arith
 passed_none V2R1 before now first from to records none few = omega arith
 

@@ -7,7 +7,7 @@ use Rattle.quota_types.specs.Kept.{kept_of, without_timers_of_zero}
 use Rattle.quota_types.specs.Range.{grace_unfit, unfit}
 use Rattle.quota_types.specs.Rec.{kib_of}
 use Rattle.quota_types.specs.declared.file_kind.Format.{Format}
-use Rattle.quota_types.specs.declared.file_kind.Format.TheVariants.{V1, V2R0, V2R1}
+use Rattle.quota_types.specs.declared.file_kind.Format.TheVariants.{V1, V1R32, V2R0, V2R1}
 use Rattle.quota_types.specs.declared.record.Grace.{Grace}
 use Rattle.quota_types.specs.declared.record.Rec.{Rec}
 use Rattle.quota_v1.specs.Place.{flat_limit, past_time, record_start, records_read, time_width}
@@ -15,12 +15,14 @@ use Rattle.quota_v1.specs.Place.{flat_limit, past_time, record_start, records_re
 -- a record is six numbers of four bytes and two times
 pub times_fill : (format : Format) → is_flat format ≡ true → record_size format ≡ 24 + 2 * time_width format
 times_fill V1 flat = refl
+times_fill V1R32 flat = refl
 times_fill V2R0 flat = absurd (false≢true flat)
 times_fill V2R1 flat = absurd (false≢true flat)
 
 -- a time has some bytes, and eight at most
 pub some_time : (format : Format) → (1 ≤ time_width format) × (time_width format ≤ 8)
 some_time V1 = (omega arith, omega arith)
+some_time V1R32 = (omega arith, omega arith)
 some_time V2R0 = (omega arith, omega arith)
 some_time V2R1 = (omega arith, omega arith)
 
@@ -28,6 +30,7 @@ some_time V2R1 = (omega arith, omega arith)
 pub start_of_first : (format : Format) → record_start format 0 ≡ 0
 unfolding record_start
 start_of_first V1 = refl
+start_of_first V1R32 = refl
 start_of_first V2R0 = refl
 start_of_first V2R1 = refl
 
@@ -35,6 +38,7 @@ start_of_first V2R1 = refl
 pub start_of_next : (format : Format) (id : ℕ) → record_start format (id + 1) ≡ record_start format id + record_size format
 unfolding record_start
 start_of_next V1 id = omega arith
+start_of_next V1R32 id = omega arith
 start_of_next V2R0 id = omega arith
 start_of_next V2R1 id = omega arith
 
@@ -42,6 +46,7 @@ start_of_next V2R1 id = omega arith
 pub starts_apart : (format : Format) (id other : ℕ) → id < other → record_start format id + record_size format ≤ record_start format other
 unfolding record_start
 starts_apart V1 id other low = omega arith
+starts_apart V1R32 id other low = omega arith
 starts_apart V2R0 id other low = omega arith
 starts_apart V2R1 id other low = omega arith
 
@@ -49,6 +54,7 @@ starts_apart V2R1 id other low = omega arith
 pub start_of_sum : (format : Format) (id more : ℕ) → record_start format (id + more) ≡ record_start format id + record_start format more
 unfolding record_start
 start_of_sum V1 id more = omega arith
+start_of_sum V1R32 id more = omega arith
 start_of_sum V2R0 id more = omega arith
 start_of_sum V2R1 id more = omega arith
 
@@ -65,17 +71,20 @@ within_among format first id to at room later low place few = omega (arith, few,
 pub start_of_last : (format : Format) → record_start format 1048576 ≡ flat_limit format
 unfolding record_start
 start_of_last V1 = refl
+start_of_last V1R32 = refl
 start_of_last V2R0 = refl
 start_of_last V2R1 = refl
 
 -- how many bytes these are at most
 pub start_small : (format : Format) (id : ℕ) → id ≤ 2 ^ 32 → record_size format * id < 2 ^ 40
 start_small V1 id few = omega arith
+start_small V1R32 id few = omega arith
 start_small V2R0 id few = omega arith
 start_small V2R1 id few = omega arith
 
 pub limit_small : (format : Format) → flat_limit format ≤ 2 ^ 40
 limit_small V1 = omega arith
+limit_small V1R32 = omega arith
 limit_small V2R0 = omega arith
 limit_small V2R1 = omega arith
 
@@ -83,11 +92,13 @@ limit_small V2R1 = omega arith
 pub read_within : (format : Format) (first to : ℕ) → to ≤ first + records_read format → record_start format to ≤ record_start format first + 1024
 unfolding record_start
 read_within V1 first to few = omega arith
+read_within V1R32 first to few = omega arith
 read_within V2R0 first to few = omega arith
 read_within V2R1 first to few = omega arith
 
 pub some_read : (format : Format) → 1 ≤ records_read format
 some_read V1 = omega arith
+some_read V1R32 = omega arith
 some_read V2R0 = omega arith
 some_read V2R1 = omega arith
 
@@ -95,6 +106,7 @@ some_read V2R1 = omega arith
 pub start_whole : (format : Format) (count : ℕ) → record_start format count % record_size format ≡ 0
 unfolding record_start
 start_whole V1 count = omega arith
+start_whole V1R32 count = omega arith
 start_whole V2R0 count = omega arith
 start_whole V2R1 count = omega arith
 
@@ -102,6 +114,7 @@ start_whole V2R1 count = omega arith
 pub whole_with : (format : Format) (old new id : ℕ) → old % record_size format ≡ 0 → new ≡ max old (record_start format id + record_size format) → new % record_size format ≡ 0
 unfolding record_start
 whole_with V1 old new id whole long = omega arith
+whole_with V1R32 old new id whole long = omega arith
 whole_with V2R0 old new id whole long = omega arith
 whole_with V2R1 old new id whole long = omega arith
 
@@ -109,6 +122,7 @@ whole_with V2R1 old new id whole long = omega arith
 pub before_start : (format : Format) (long id : ℕ) → long % record_size format ≡ 0 → long < record_start format id + record_size format → long ≤ record_start format id
 unfolding record_start
 before_start V1 long id whole short = omega arith
+before_start V1R32 long id whole short = omega arith
 before_start V2R0 long id whole short = omega arith
 before_start V2R1 long id whole short = omega arith
 
@@ -116,6 +130,7 @@ before_start V2R1 long id whole short = omega arith
 pub past_all : (format : Format) (long id : ℕ) → long / record_size format ≤ id → long < record_start format id + record_size format
 unfolding record_start
 past_all V1 long id past = omega arith
+past_all V1R32 long id past = omega arith
 past_all V2R0 long id past = omega arith
 past_all V2R1 long id past = omega arith
 
@@ -123,6 +138,7 @@ past_all V2R1 long id past = omega arith
 pub cut_off : (format : Format) (long id : ℕ) → record_start format id < long → long < record_start format id + record_size format → (long % record_size format ≢ 0) × (id ≡ long / record_size format)
 unfolding record_start
 cut_off V1 long id some short = (omega arith, omega arith)
+cut_off V1R32 long id some short = (omega arith, omega arith)
 cut_off V2R0 long id some short = (omega arith, omega arith)
 cut_off V2R1 long id some short = (omega arith, omega arith)
 
@@ -130,18 +146,21 @@ cut_off V2R1 long id some short = (omega arith, omega arith)
 pub id_within : (format : Format) (long id : ℕ) → long ≤ flat_limit format → record_start format id + record_size format ≤ long → id < 1048576
 unfolding record_start
 id_within V1 long id few inside = omega arith
+id_within V1R32 long id few inside = omega arith
 id_within V2R0 long id few inside = omega arith
 id_within V2R1 long id few inside = omega arith
 
 -- a flat file has no more records than it may have
 pub records_few : (format : Format) (long : ℕ) → long ≤ flat_limit format → long / record_size format ≤ 1048576
 records_few V1 long few = omega arith
+records_few V1R32 long few = omega arith
 records_few V2R0 long few = omega arith
 records_few V2R1 long few = omega arith
 
 -- a flat format has room for no greater identifier
 pub id_fits : (format : Format) → is_flat format ≡ true → (id : ℕ) (rec : Rec) → unfit format id rec ≡ None → id ≤ 1048575
 id_fits V1 flat id rec fits = grind (arith, nat_tests)
+id_fits V1R32 flat id rec fits = grind (arith, nat_tests)
 id_fits V2R0 flat id rec fits = absurd (false≢true flat)
 id_fits V2R1 flat id rec fits = absurd (false≢true flat)
 
@@ -171,17 +190,29 @@ room_of_fits V1 flat id rec fits = record {
   btime = grind (arith, nat_tests);
   itime = grind (arith, nat_tests);
 }
+room_of_fits V1R32 flat id rec fits = record {
+  ihard = grind (arith, nat_tests);
+  isoft = grind (arith, nat_tests);
+  inodes = grind (arith, nat_tests);
+  bhard = grind (arith, nat_tests);
+  bsoft = grind (arith, nat_tests);
+  space = grind (arith, nat_tests);
+  btime = grind (arith, nat_tests);
+  itime = grind (arith, nat_tests);
+}
 room_of_fits V2R0 flat id rec fits = absurd (false≢true flat)
 room_of_fits V2R1 flat id rec fits = absurd (false≢true flat)
 
 pub fits_of_room : (format : Format) → is_flat format ≡ true → (id : ℕ) (rec : Rec) → id ≤ 1048575 → HasRoom format rec → unfit format id rec ≡ None
 fits_of_room V1 flat id rec low room = grind (arith, nat_tests)
+fits_of_room V1R32 flat id rec low room = grind (arith, nat_tests)
 fits_of_room V2R0 flat id rec low room = absurd (false≢true flat)
 fits_of_room V2R1 flat id rec low room = absurd (false≢true flat)
 
 -- what a flat format keeps of a record
 pub kept_flat : (format : Format) → is_flat format ≡ true → (id : ℕ) (rec : Rec) → kept_of format id rec ≡ without_timers_of_zero id (record rec { space = 1024 * kib_of rec.space })
 kept_flat V1 flat id rec = refl
+kept_flat V1R32 flat id rec = refl
 kept_flat V2R0 flat id rec = absurd (false≢true flat)
 kept_flat V2R1 flat id rec = absurd (false≢true flat)
 
@@ -194,6 +225,12 @@ pub record HasGraceRoom (format : Format) (grace : Grace) : Type 0 where
 
 pub grace_room : (format : Format) → is_flat format ≡ true → (grace : Grace) → grace_unfit format grace ≡ None → HasGraceRoom format grace
 grace_room V1 flat grace fits = record {
+  some_block = grind (arith, nat_tests);
+  some_inode = grind (arith, nat_tests);
+  block = grind (arith, nat_tests);
+  inode = grind (arith, nat_tests);
+}
+grace_room V1R32 flat grace fits = record {
   some_block = grind (arith, nat_tests);
   some_inode = grind (arith, nat_tests);
   block = grind (arith, nat_tests);

@@ -4,7 +4,7 @@ use Rattle.std.proofs.lemmas.Bool.{cases_lt}
 use Rattle.file_blocks.specs.Block.{bytes_of}
 use Rattle.outside.specs.World.{World}
 use Rattle.quota_types.specs.declared.file_kind.Format.{Format}
-use Rattle.quota_types.specs.declared.file_kind.Format.TheVariants.{V1, V2R0, V2R1}
+use Rattle.quota_types.specs.declared.file_kind.Format.TheVariants.{V1, V1R32, V2R0, V2R1}
 use Rattle.quota_types.specs.declared.record.Entry.{Entry}
 use Rattle.quota_v1.specs.Place.{records_read}
 use Rattle.quota_v1.specs.FlatFile.{flat_record}
@@ -47,7 +47,9 @@ pub reads_exact : (format : Format) (before between now from next first end reco
     → records_read format * between ≤ records_read format * before + (next - from) → (now ≡ between) ⊎ (first ≡ next) → now ≤ between + 1 → next < end
     → end < records → records_read format * now ≤ records_read format * before + (end - from)
 reads_exact V1 before between now from next first end records later more begins is exact (inl same) few on inside = omega arith
+reads_exact V1R32 before between now from next first end records later more begins is exact (inl same) few on inside = omega arith
 reads_exact V1 before between now from next first end records later more begins is exact (inr same) few on inside = omega arith
+reads_exact V1R32 before between now from next first end records later more begins is exact (inr same) few on inside = omega arith
 reads_exact V2R0 before between now from next first end records later more begins is exact (inl same) few on inside = omega arith
 reads_exact V2R0 before between now from next first end records later more begins is exact (inr same) few on inside = omega arith
 reads_exact V2R1 before between now from next first end records later more begins is exact (inl same) few on inside = omega arith
@@ -57,7 +59,9 @@ pub reads_within : (format : Format) (before between now from next first end rec
     → records_read format * between ≤ records_read format * before + (next - from) → (now ≡ between) ⊎ (first ≡ next) → now ≤ between + 1 → next < end
     → records_read format * now ≤ records_read format * before + (end - from) + (records_read format - 1)
 reads_within V1 before between now from next first end records later more begins is exact (inl same) few on = omega arith
+reads_within V1R32 before between now from next first end records later more begins is exact (inl same) few on = omega arith
 reads_within V1 before between now from next first end records later more begins is exact (inr same) few on = omega arith
+reads_within V1R32 before between now from next first end records later more begins is exact (inr same) few on = omega arith
 reads_within V2R0 before between now from next first end records later more begins is exact (inl same) few on = omega arith
 reads_within V2R0 before between now from next first end records later more begins is exact (inr same) few on = omega arith
 reads_within V2R1 before between now from next first end records later more begins is exact (inl same) few on = omega arith
@@ -66,6 +70,7 @@ reads_within V2R1 before between now from next first end records later more begi
 -- so many at most
 pub reads_some : (format : Format) (before now from end : ℕ) → records_read format * now ≤ records_read format * before + (end - from) + (records_read format - 1) → now ≤ before + window_reads format from end
 reads_some V1 before now from end few = omega arith
+reads_some V1R32 before now from end few = omega arith
 reads_some V2R0 before now from end few = omega arith
 reads_some V2R1 before now from end few = omega arith
 
@@ -73,12 +78,14 @@ reads_some V2R1 before now from end few = omega arith
 pub reads_near : (format : Format) (before between now from next id : ℕ) → records_read format * between ≤ records_read format * before + (next - from) → from ≤ next → now ≤ between + 1 → next ≤ id
     → now ≤ before + window_reads format from (id + 1)
 reads_near V1 before between now from next id exact later few found = omega arith
+reads_near V1R32 before between now from next id exact later few found = omega arith
 reads_near V2R0 before between now from next id exact later few found = omega arith
 reads_near V2R1 before between now from next id exact later few found = omega arith
 
 -- which are no more than up to a later one
 pub reads_on : (format : Format) (before now from end records : ℕ) → now ≤ before + window_reads format from end → end ≤ records → now ≤ before + window_reads format from records
 reads_on V1 before now from end records few le = omega arith
+reads_on V1R32 before now from end records few le = omega arith
 reads_on V2R0 before now from end records few le = omega arith
 reads_on V2R1 before now from end records few le = omega arith
 
@@ -91,11 +98,13 @@ reads_end format before now from next records few later within = elim (cases_lt 
   where
     reads_none : (format : Format) (before now from next records : ℕ) → now ≤ before + window_reads format from next → next ≤ from → now ≤ before + window_reads format from records
     reads_none V1 before now from next records few none = omega arith
+    reads_none V1R32 before now from next records few none = omega arith
     reads_none V2R0 before now from next records few none = omega arith
     reads_none V2R1 before now from next records few none = omega arith
 
 -- no more than all records of a flat file ask for
 pub reads_most : (format : Format) (before now from records : ℕ) → now ≤ before + window_reads format from records → records ≤ 1048576 → now ≤ before + most_next_reads format
 reads_most V1 before now from records few most = omega arith
+reads_most V1R32 before now from records few most = omega arith
 reads_most V2R0 before now from records few most = omega arith
 reads_most V2R1 before now from records few most = omega arith

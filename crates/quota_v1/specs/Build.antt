@@ -1,5 +1,5 @@
 -- A whole new flat file, from a list of entries. Source: the table of vfsold, `struct v1_disk_dqblk` of the quota tools,
--- as they write it on 64-bit x86.
+-- as they write it on 64-bit x86, or for vfsold32 on 32-bit x86.
 use Rattle.std.specs.Prelude.{◌≡◌, ℕ, ◌+◌, ◌<◌, max, List, [], ◌∷◌}
 use Rattle.std.specs.List.{Contains}
 use Rattle.quota_types.specs.Bytes.{byte_at}

@@ -1,5 +1,5 @@
 -- What a flat quota file stands for. Source: the table of vfsold, `struct v1_disk_dqblk` of the quota tools, as they
--- write it on 64-bit x86.
+-- write it on 64-bit x86, or for vfsold32 on 32-bit x86.
 use Rattle.std.specs.Prelude.{◌≡◌, ℕ, ◌+◌, ◌*◌, ◌%◌, ◌==◌, nat_le, if◌then◌else◌, List, length, Option, Some, None}
 use Rattle.std.specs.FinMap.{get}
 use Rattle.quota_types.specs.Format.{record_size}

@@ -1,13 +1,15 @@
 -- Where the records of a flat file stand, and the times of each. Source: the table of vfsold, `struct v1_disk_dqblk` of the quota
--- tools, as they write it on 64-bit x86.
+-- tools, as they write it on 64-bit x86 (vfsold), where its two times are of 64 bits, and on 32-bit x86 (vfsold32), where they are of
+-- 32.
 use Rattle.std.specs.Prelude.{ℕ, ◌+◌, ◌*◌, ◌/◌, ◌^◌}
 use Rattle.quota_types.specs.Format.{record_size}
 use Rattle.quota_types.specs.declared.file_kind.Format.{Format}
-use Rattle.quota_types.specs.declared.file_kind.Format.TheVariants.{V1, V2R0, V2R1}
+use Rattle.quota_types.specs.declared.file_kind.Format.TheVariants.{V1, V1R32, V2R0, V2R1}
 
 -- how many bytes a format has for each of the two times of a record
 abbrev pub time_width : Format → ℕ
 time_width V1 = 8
+time_width V1R32 = 4
 time_width V2R0 = 8
 time_width V2R1 = 8
 

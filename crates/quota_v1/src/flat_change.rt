@@ -47,6 +47,7 @@ fn write_time(format: Format, bytes: &mut [u8], at: usize, time: u64)
 {
     match format {
         Format::V1 => set_le64_at(bytes, at, time),
+        Format::V1R32 => set_le32_at(bytes, at, time as u32),
         Format::V2R0 | Format::V2R1 => unreachable!(),
     }
 }

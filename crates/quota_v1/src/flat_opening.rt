@@ -1,6 +1,5 @@
 ghost use Rattle.std.specs.Prelude.{◌≡◌, ◌+◌, ◌%◌, ◌≤◌, true, Ok, IsTrue, IfOk, IfErr, IsSomeAnd, length, is_ok, []};
 ghost use Rattle.quota_types.specs.declared.file_kind.Kind.{Kind};
-ghost use Rattle.quota_types.specs.declared.file_kind.Format.TheVariants.{V1};
 ghost use Rattle.outside.specs.Frame.{OnlyReads};
 ghost use Rattle.quota_value.specs.QuotaValue.{QuotaValue};
 ghost use Rattle.quota_types.specs.Format.{is_flat, record_size};
@@ -17,21 +16,29 @@ use outside::Store;
 use quota_types::{Damage, DamageKind, Format, Grace};
 use std::alloc::Global;
 
-/// Opens a flat file, of which record 0 is read for its times, and nothing else.
+/// Opens a flat file of a format, of which record 0 is read for its times, and nothing else. Nothing in a file tells which flat
+/// format it has.
 ///
 /// # Errors
 ///
-/// It is refused where there is no such file, where it has more than 41,943,040 bytes, and where it does not consist
-/// of whole records, in this order; and where the store failed or there was not enough memory.
-pub fn open_v1<S: Store>(alloc: Global, store: &mut S, name: &str) -> Result<V1File, OpenFault>
+/// It is refused where there is no such file, where it has more bytes than 1,048,576 records of the format (41,943,040 where it is
+/// vfsold, and 33,554,432 where it is vfsold32), and where it does not consist of whole records, in this order; and where the store
+/// failed or there was not enough memory.
+pub fn open_v1<S: Store>(
+    alloc: Global,
+    store: &mut S,
+    name: &str,
+    format: Format,
+) -> Result<V1File, OpenFault>
+    requires { is_flat format ≡ true }
     ensures seen { IfOk result (λ file. IsTrue S.tells → (kind : Kind) → (value : QuotaValue)
-        × IsFlatView V1 ((S.seen store.old).files name.now) kind (Ok value)) }
+        × IsFlatView format ((S.seen store.old).files name.now) kind (Ok value)) }
     ensures held { IfOk result (λ file. IsTrue S.tells → (kind : Kind) → (value : QuotaValue)
-        → IsFlatView V1 ((S.seen store.old).files name.now) kind (Ok value)
+        → IsFlatView format ((S.seen store.old).files name.now) kind (Ok value)
         → ⟦<V1File as QuotaFile<S>>⟧.holds file store.new value) }
     ensures fresh { IfOk result (λ file. ⟦<V1File as QuotaFile<S>>⟧.seen file
-        ≡ record { name = name.now; format = V1; usable = true; limit = 0; refusals = 0 }) }
-    ensures refused { IfErr result (IsFlatFault V1 (S.seen store.old).faults (S.seen store.new).faults S.tells
+        ≡ record { name = name.now; format = format; usable = true; limit = 0; refusals = 0 }) }
+    ensures refused { IfErr result (IsFlatFault format (S.seen store.old).faults (S.seen store.new).faults S.tells
         ((S.seen store.old).files name.now)) }
     ensures leaves { OnlyReads (is_ok result) name.now (S.seen store.old) (S.seen store.new) }
     ensures reads { (S.seen store.new).reads ≤ (S.seen store.old).reads + 1 }
@@ -41,7 +48,6 @@ pub fn open_v1<S: Store>(alloc: Global, store: &mut S, name: &str) -> Result<V1F
         Ok(own_name) => own_name,
         Err(_) => return Err(OpenFault::Memory),
     };
-    let format = Format::V1;
     let len = accepted_len(store, name, format)?;
     let mut first = [0; MOST_RECORD];
     let Ok(_) = read_from(store, name, 0, &mut first) else {

@@ -17,11 +17,13 @@ pub(crate) const TIMES: usize = 24;
 /// The grace period that 0, or no stored period, stands for: 7 days, in seconds.
 const WEEK: u64 = 604_800;
 
-/// Where the second of the two times of a record begins (`struct v1_disk_dqblk`, with fields of 32 bits and times of 64).
+/// Where the second of the two times of a record begins (`struct v1_disk_dqblk`, whose times have 64 bits where it is one of vfsold,
+/// and 32 bits where it is one of vfsold32).
 pub(crate) fn second_time(format: Format) -> usize
     ensures { result ≡ inode_time_at format }
 {
     match format {
+        Format::V1R32 => 28,
         Format::V1 | Format::V2R0 | Format::V2R1 => 32,
     }
 }
@@ -59,6 +61,7 @@ pub(crate) fn records_read(format: Format) -> u32
 {
     match format {
         Format::V1 => 25,
+        Format::V1R32 => 32,
         Format::V2R0 => 21,
         Format::V2R1 => 14,
     }
@@ -89,6 +92,7 @@ pub(crate) fn time_at(format: Format, bytes: &[u8], at: usize) -> u64
 {
     match format {
         Format::V1 => le64_at(bytes, at),
+        Format::V1R32 => u64::from(le32_at(bytes, at)),
         Format::V2R0 | Format::V2R1 => unreachable!(),
     }
 }

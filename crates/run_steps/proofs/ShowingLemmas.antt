@@ -4,7 +4,7 @@ use Rattle.quota_types.specs.declared.damage.Damage.{Damage}
 use Rattle.quota_types.specs.declared.file_kind.Kind.{Kind}
 use Rattle.quota_types.specs.Format.{is_flat}
 use Rattle.quota_types.specs.declared.file_kind.Format.{Format}
-use Rattle.quota_types.specs.declared.file_kind.Format.TheVariants.{V1, V2R0, V2R1}
+use Rattle.quota_types.specs.declared.file_kind.Format.TheVariants.{V1, V1R32, V2R0, V2R1}
 use Rattle.outside.specs.Frame.{OnlyReads}
 use Rattle.quota_value.specs.QuotaValue.{QuotaValue}
 use Rattle.opened_file.specs.QuotaFile.{IsLookupFault}
@@ -134,6 +134,7 @@ shown_in_part kind asked name text tells old store out cause showing unshown =
 pub damage_may : (asked : Option Format) (format : Format) (damage : Damage) → IsOpenedAs asked format → MayRefuse format (FileDamaged damage) → IsDamageAs asked damage
 damage_may None format damage asks may = may.tree asks
 damage_may (Some V1) format damage asks may = may.flat (ap is_flat asks)
+damage_may (Some V1R32) format damage asks may = may.flat (ap is_flat asks)
 damage_may (Some V2R0) format damage asks may = may.tree (ap is_flat asks)
 damage_may (Some V2R1) format damage asks may = may.tree (ap is_flat asks)
 

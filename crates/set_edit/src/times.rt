@@ -15,7 +15,7 @@ use crate::edit::put_or_remove;
 use crate::{EditFault, Skipped, TimeWord};
 use opened_file::QuotaFile;
 use outside::Store;
-use quota_types::{Field, Format, NoRoom, Rec, check_record, is_exceeded, kept};
+use quota_types::{Format, NoRoom, Rec, is_exceeded, kept_timed};
 
 /// Sets the ends of an identifier's grace periods. Where a soft limit is not 0 and the usage exceeds it, that timer becomes
 /// the moment `now`, in seconds since 1970, plus the seconds of the word, or 0 where the word unsets it. Otherwise that
@@ -25,8 +25,8 @@ use quota_types::{Field, Format, NoRoom, Rec, check_record, is_exceeded, kept};
 /// # Errors
 ///
 /// It is refused with `NoRoom` by the first field for which the format has no room, with its value: the identifier, even
-/// where both times are skipped, or a timer whose end does not fit 64 bits, that for blocks before that for inodes. Each
-/// fault of the opened file is answered as it is.
+/// where both times are skipped, or a timer for which it has no room, that for blocks before that for inodes, whose value
+/// may be a sum beyond 64 bits. Each fault of the opened file is answered as it is.
 pub fn set_times<S: Store, F: QuotaFile<S>>(
     file: &mut F,
     store: &mut S,
@@ -96,49 +96,21 @@ fn next_times(
         ≡ Some (out.field, out.value)) }
     ensures id { IfErr result (λ out. out.id ≡ id) }
 {
-    let stopped = Rec {
-        btime: 0,
-        itime: 0,
-        ..rec
-    };
-    check_record(format, id, &stopped)?;
     let stays = skipped_times(&rec);
-    let btime = next_time(id, Field::Btime, stays.block, rec.btime, block, now)?;
-    let itime = next_time(id, Field::Itime, stays.inode, rec.itime, inode, now)?;
-    let timed = Rec {
-        btime,
-        itime,
-        ..rec
-    };
-    Ok(kept(format, id, timed))
+    let btime = next_time(stays.block, rec.btime, block, now);
+    let itime = next_time(stays.inode, rec.itime, inode, now);
+    kept_timed(format, id, rec, btime, itime)
 }
 
-/// A timer as it was where it is skipped, and otherwise as the word asks for.
-fn next_time(
-    id: u32,
-    field: Field,
-    skipped: bool,
-    timer: u64,
-    word: TimeWord,
-    now: u64,
-) -> Result<u64, NoRoom>
-    ensures set { IfOk result (λ next. next ≡ (if skipped then timer else time_of word now)) }
-    ensures refused { IfErr result (λ out. out ≡ record {
-      id = id;
-      field = field;
-      value = if skipped then timer else time_of word now;
-    }) }
-    ensures past { IfErr result (λ out. 2 ^ 64 ≤ out.value) }
+/// A timer as it was where it is skipped, and otherwise as the word asks for, which may be a sum beyond 64 bits.
+fn next_time(skipped: bool, timer: u64, word: TimeWord, now: u64) -> u128
+    ensures { result ≡ (if skipped then timer else time_of word now) }
 {
     if skipped {
-        return Ok(timer);
+        return u128::from(timer);
     }
     match word {
-        TimeWord::Seconds(seconds) => now.checked_add(seconds).ok_or(NoRoom {
-            id,
-            field,
-            value: u128::from(now) + u128::from(seconds),
-        }),
-        TimeWord::Unset => Ok(0),
+        TimeWord::Seconds(seconds) => u128::from(now) + u128::from(seconds),
+        TimeWord::Unset => 0,
     }
 }

@@ -11,7 +11,7 @@ use Rattle.quota_types.specs.Bytes.{byte_at, number_at}
 use Rattle.quota_types.specs.Format.{record_size}
 use Rattle.quota_types.specs.Kept.{without_marker}
 use Rattle.quota_types.specs.declared.file_kind.Format.{Format}
-use Rattle.quota_types.specs.declared.file_kind.Format.TheVariants.{V1, V2R0, V2R1}
+use Rattle.quota_types.specs.declared.file_kind.Format.TheVariants.{V1, V1R32, V2R0, V2R1}
 use Rattle.quota_types.specs.declared.record.Entry.{Entry}
 use Rattle.quota_types.proofs.TimesLemmas.{range_with_len-add}
 use Rattle.quota_types.proofs.BytesLemmas.{number_at-zeros, number_same}
@@ -110,6 +110,7 @@ any_left test first (suc left) count all each =
 
 padding_zero : (format : Format) (bytes : List ℕ) → ((k : ℕ) → get_or bytes k 0 ≡ 0) → padding_of format bytes ≡ 0
 padding_zero V1 bytes zeros = refl
+padding_zero V1R32 bytes zeros = refl
 padding_zero V2R0 bytes zeros = refl
 padding_zero V2R1 bytes zeros = number_at-zeros 4 4 bytes (λ k from to. zeros k)
 

@@ -12,7 +12,7 @@ use Rattle.std.specs.FinMap.Entries.{find as find_key}
 use Rattle.std.specs.List.{AllByRecursion, flat_map, range_with_len}
 use Rattle.quota_types.specs.Format.{IsTreeFormat}
 use Rattle.quota_types.specs.declared.file_kind.Format.{Format}
-use Rattle.quota_types.specs.declared.file_kind.Format.TheVariants.{V1, V2R0, V2R1}
+use Rattle.quota_types.specs.declared.file_kind.Format.TheVariants.{V1, V1R32, V2R0, V2R1}
 use Rattle.quota_types.specs.declared.record.Entry.{Entry}
 use Rattle.quota_types.specs.declared.record.Rec.{Rec}
 use Rattle.entry_codec.specs.Entry.{entries_per_block}
@@ -56,6 +56,7 @@ first_parts format list first (suc count) =
 
 enough : (format : Format) → IsTreeFormat format → (count : ℕ) → count ≤ entries_per_block format * filled_blocks (entries_per_block format) count
 enough V1 tree count = absurd (true≢false tree)
+enough V1R32 tree count = absurd (true≢false tree)
 enough V2R0 tree count = omega arith
 enough V2R1 tree count = omega arith
 
@@ -69,6 +70,7 @@ length_part format list first place =
 
 some_in_part : (format : Format) → IsTreeFormat format → (count place : ℕ) → place < filled_blocks (entries_per_block format) count → 1 ≤ min (entries_per_block format) (count - entries_per_block format * place)
 some_in_part V1 tree count place low = absurd (true≢false tree)
+some_in_part V1R32 tree count place low = absurd (true≢false tree)
 some_in_part V2R0 tree count place low = omega arith
 some_in_part V2R1 tree count place low = omega arith
 

@@ -3,7 +3,7 @@
 use Rattle.std.specs.Prelude.{ℕ, ◌+◌, ◌-◌, ◌/◌, ◌^◌, ◌==◌, not, List, [], ◌∷◌, length, map}
 use Rattle.std.specs.List.{filter}
 use Rattle.quota_types.specs.declared.file_kind.Format.{Format}
-use Rattle.quota_types.specs.declared.file_kind.Format.TheVariants.{V1, V2R0, V2R1}
+use Rattle.quota_types.specs.declared.file_kind.Format.TheVariants.{V1, V1R32, V2R0, V2R1}
 
 -- the numbers of a list, each once
 abbrev pub each_once : List ℕ → List ℕ
@@ -25,5 +25,6 @@ tree_needed ids = 2 + beginnings 3 ids + beginnings 2 ids + beginnings 1 ids
 -- the blocks that a file of these identifiers needs; a flat file has none
 abbrev pub blocks_needed : Format → List ℕ → ℕ
 blocks_needed V1 ids = 0
+blocks_needed V1R32 ids = 0
 blocks_needed V2R0 ids = tree_needed ids + filled_blocks 21 (length ids)
 blocks_needed V2R1 ids = tree_needed ids + filled_blocks 14 (length ids)

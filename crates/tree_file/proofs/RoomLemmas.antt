@@ -9,7 +9,7 @@ use Rattle.std.specs.FinMap.{entries, find as find_key, get, get-entries, get-in
 use Rattle.std.specs.Ordering.{nat_cmp}
 use Rattle.quota_types.specs.Times.{StandsIn, times}
 use Rattle.quota_types.specs.declared.file_kind.Format.{Format}
-use Rattle.quota_types.specs.declared.file_kind.Format.TheVariants.{V1, V2R0, V2R1}
+use Rattle.quota_types.specs.declared.file_kind.Format.TheVariants.{V1, V1R32, V2R0, V2R1}
 use Rattle.quota_types.specs.declared.record.Rec.{Rec}
 use Rattle.quota_types.proofs.TimesLemmas.{stands_right, times-cons-same, times_cases}
 use Rattle.file_blocks.specs.Block.{block_of}
@@ -138,6 +138,17 @@ wanted_by_format V1 file ids version is = absurd (elim (cases_eq version 0) [
     | inl one ↦ let no : Some V2R1 ≡ Some V1 = sym (ap format_of one) ∙ is in cc
     | inr other ↦
         let no : None ≡ Some V1 =
+        sym (ap (λ (b : Bool). if b then Some V2R0 else if version == 1 then Some V2R1 else None) (ne_eqb version 0 more)
+        ∙ ap (λ (b : Bool). if b then Some V2R1 else None) (ne_eqb version 1 other)) ∙ is in
+        cc
+  ]
+])
+wanted_by_format V1R32 file ids version is = absurd (elim (cases_eq version 0) [
+  | inl zero ↦ let no : Some V2R0 ≡ Some V1R32 = sym (ap format_of zero) ∙ is in cc
+  | inr more ↦ elim (cases_eq version 1) [
+    | inl one ↦ let no : Some V2R1 ≡ Some V1R32 = sym (ap format_of one) ∙ is in cc
+    | inr other ↦
+        let no : None ≡ Some V1R32 =
         sym (ap (λ (b : Bool). if b then Some V2R0 else if version == 1 then Some V2R1 else None) (ne_eqb version 0 more)
         ∙ ap (λ (b : Bool). if b then Some V2R1 else None) (ne_eqb version 1 other)) ∙ is in
         cc

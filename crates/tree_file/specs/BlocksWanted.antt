@@ -1,7 +1,7 @@
 -- How many blocks a tree file needs for records. Whether it has room for a change rests on that number, and so on the file as it is.
 use Rattle.std.specs.Prelude.{ℕ, ◌==◌, Bool, is_none, List, find, Option, Some, None}
 use Rattle.quota_types.specs.declared.file_kind.Format.{Format}
-use Rattle.quota_types.specs.declared.file_kind.Format.TheVariants.{V1, V2R0, V2R1}
+use Rattle.quota_types.specs.declared.file_kind.Format.TheVariants.{V1, V1R32, V2R0, V2R1}
 use Rattle.entry_codec.specs.Header.{header_of}
 use Rattle.file_blocks.specs.Block.{bytes_of}
 use Rattle.free_chains.specs.declared.heads.Heads.{Heads}
@@ -29,5 +29,6 @@ tree_blocks_wanted format file ids =
 -- how many blocks a file of this format, as it is, will have once it has records of just these identifiers; a flat file has none
 abbrev pub blocks_wanted : Format → Option (List ℕ) → List ℕ → ℕ
 blocks_wanted V1 file ids = 0
+blocks_wanted V1R32 file ids = 0
 blocks_wanted V2R0 file ids = tree_blocks_wanted V2R0 file ids
 blocks_wanted V2R1 file ids = tree_blocks_wanted V2R1 file ids

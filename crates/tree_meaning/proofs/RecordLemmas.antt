@@ -9,7 +9,7 @@ use Rattle.quota_types.specs.Bytes.{number_at}
 use Rattle.quota_types.specs.Format.{IsTreeFormat, record_size}
 use Rattle.quota_types.specs.Kept.{without_marker}
 use Rattle.quota_types.specs.declared.file_kind.Format.{Format}
-use Rattle.quota_types.specs.declared.file_kind.Format.TheVariants.{V1, V2R0, V2R1}
+use Rattle.quota_types.specs.declared.file_kind.Format.TheVariants.{V1, V1R32, V2R0, V2R1}
 use Rattle.quota_types.specs.declared.record.Entry.{Entry}
 use Rattle.quota_types.specs.declared.record.Rec.{Rec}
 use Rattle.entry_codec.specs.Entry.{entries_per_block, is_unused, stored_id}
@@ -21,6 +21,7 @@ use Rattle.file_blocks.proofs.WordLemmas.{number_in_part}
 
 pub used_is : (format : Format) (bytes : List ℕ) (id : ℕ) (rec : Rec) → IsEntry format bytes id rec → (is_unused bytes ≡ false) × (entry_of format bytes ≡ Some (record { id = id; rec = rec }))
 used_is V1 bytes id rec e = absurd e
+used_is V1R32 bytes id rec e = absurd e
 used_is V2R0 bytes id rec e =
     let found : ℕ → Rec → Option Entry = λ i r. Some (record { id = i; rec = r }) in (
       e.used,
@@ -49,11 +50,13 @@ spelled format bytes entry is =
 
 pub is_spelled : (format : Format) (bytes : List ℕ) (entry : Entry) → IsTreeFormat format → entry_of format bytes ≡ Some entry → IsEntry format bytes entry.id entry.rec
 is_spelled V1 bytes entry tree is = absurd (true≢false tree)
+is_spelled V1R32 bytes entry tree is = absurd (true≢false tree)
 is_spelled V2R0 bytes entry tree is = let parts = spelled V2R0 bytes entry is in record { used = parts.0; id_is = parts.1; rec_is = parts.2 }
 is_spelled V2R1 bytes entry tree is = let parts = spelled V2R1 bytes entry is in record { used = parts.0; id_is = parts.1; rec_is = parts.2 }
 
 some_size : (format : Format) → IsTreeFormat format → 4 ≤ record_size format
 some_size V1 tree = absurd (true≢false tree)
+some_size V1R32 tree = absurd (true≢false tree)
 some_size V2R0 tree = omega arith
 some_size V2R1 tree = omega arith
 
@@ -88,6 +91,7 @@ same_entry format block bytes id other place rec is entry same =
 
 entry_id : (format : Format) (bytes : List ℕ) (other : ℕ) (rec : Rec) → IsEntry format bytes other rec → other ≡ stored_id bytes
 entry_id V1 bytes other rec entry = absurd entry
+entry_id V1R32 bytes other rec entry = absurd entry
 entry_id V2R0 bytes other rec entry = entry.id_is
 entry_id V2R1 bytes other rec entry = entry.id_is
 

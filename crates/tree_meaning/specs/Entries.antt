@@ -7,7 +7,7 @@ use Rattle.quota_types.specs.Bytes.{number_at}
 use Rattle.quota_types.specs.Format.{record_size}
 use Rattle.quota_types.specs.Kept.{without_marker}
 use Rattle.quota_types.specs.declared.file_kind.Format.{Format}
-use Rattle.quota_types.specs.declared.file_kind.Format.TheVariants.{V1, V2R0, V2R1}
+use Rattle.quota_types.specs.declared.file_kind.Format.TheVariants.{V1, V1R32, V2R0, V2R1}
 use Rattle.quota_types.specs.declared.record.Entry.{Entry}
 use Rattle.quota_types.specs.declared.record.Rec.{Rec}
 use Rattle.entry_codec.specs.Entry.{entries_per_block, is_unused, stored_id, stored_v2r0, stored_v2r1}
@@ -19,6 +19,7 @@ entry_bytes format block place = take (record_size format) (drop (16 + record_si
 -- the record of an entry, as it is stored; a flat file has no entries
 abbrev pub stored_record : Format → List ℕ → Rec
 stored_record V1 bytes = stored_v2r0 bytes
+stored_record V1R32 bytes = stored_v2r0 bytes
 stored_record V2R0 bytes = stored_v2r0 bytes
 stored_record V2R1 bytes = stored_v2r1 bytes
 

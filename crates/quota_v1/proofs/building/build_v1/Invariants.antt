@@ -1,5 +1,4 @@
 use Rattle.std.proofs.Common.{take}
-use Rattle.quota_types.specs.declared.file_kind.Format.TheVariants.{V1}
 use Rattle.quota_v1.specs.Build.{records_needed}
 use Rattle.quota_v1.specs.Place.{record_start}
 use Rattle.quota_value.specs.Listed.{ids_of}
@@ -7,4 +6,4 @@ use Rattle.quota_v1.proofs.BuildLemmas.{IsBuiltOf}
 use Rattle.quota_v1.proofs.building.build_v1.Given as goal
 
 abbrev pub invariant-loop-entry : goal.invariant-loop-entry
-invariant-loop-entry l = IsBuiltOf V1 l.fn.grace (take l.entry-index l.list) (record_start V1 (records_needed (ids_of l.list))) l.file.items
+invariant-loop-entry l = IsBuiltOf l.fn.format l.fn.grace (take l.entry-index l.list) (record_start l.fn.format (records_needed (ids_of l.list))) l.file.items
