@@ -1,6 +1,9 @@
 -- How many lines were edited, where their edits did not end since something failed.
 use Rattle.std.proofs.Common.{◌≡◌, ℕ, ◌≤◌, List, [], ◌∷◌, ◌++◌, Option, None, Some, Ok, Err, Result, refl, sym, subst, arith}
-use Rattle.std.specs.Prelude.{◌<◌, IfErr}
+use Rattle.std.specs.Prelude.{◌+◌, ◌*◌, ◌^◌, ◌<◌, IfErr}
+use Rattle.quota_types.specs.Format.{record_size}
+use Rattle.quota_types.specs.declared.file_kind.Format.{Format}
+use Rattle.quota_types.specs.declared.file_kind.Format.TheVariants.{V1, V1R32, V2R0, V2R1}
 use Rattle.quota_value.specs.QuotaValue.{QuotaValue}
 use Rattle.outside.specs.Seen.{StoreSeen}
 use Rattle.set_edit.specs.declared.edit_fault.EditFault.{EditFault}
@@ -78,3 +81,10 @@ refused_made others file now lines line rest start made tells old before after h
 pub own_so : (ended : Result (Unit {0}) Refusal) (fact : Type 0) → IfErr ended (λ (refusal : Refusal). status_of refusal.cause < 4) → IfOwn ended fact → fact
 own_so (Ok passed) fact own is = is
 own_so (Err refusal) fact own is = is own
+
+-- the record of an identifier of 32 bits ends early in a flat file, whatever the size of its records
+pub record_end_small : (format : Format) (id : ℕ) → id < 2 ^ 32 → record_size format * (id + 1) < 2 ^ 40
+record_end_small V1 id low = omega (arith, low)
+record_end_small V1R32 id low = omega (arith, low)
+record_end_small V2R0 id low = omega (arith, low)
+record_end_small V2R1 id low = omega (arith, low)

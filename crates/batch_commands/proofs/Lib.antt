@@ -8,6 +8,7 @@ pub mod LookLemmas
 pub mod MeaningLemmas
 pub mod MemoryLemmas
 pub mod OverLemmas
+pub mod ReachLemmas
 pub mod ReadsLemmas
 pub mod RefusedLemmas
 pub mod TogetherLemmas

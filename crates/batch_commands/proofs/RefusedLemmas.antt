@@ -7,7 +7,7 @@ use Rattle.std.proofs.lemmas.Bool.Decides.{nat_tests}
 use Rattle.quota_types.specs.declared.field.Field.{Field}
 use Rattle.quota_types.specs.Format.{is_flat}
 use Rattle.quota_types.specs.declared.file_kind.Format.{Format}
-use Rattle.quota_types.specs.declared.file_kind.Format.TheVariants.{V1, V2R0, V2R1}
+use Rattle.quota_types.specs.declared.file_kind.Format.TheVariants.{V1, V1R32, V2R0, V2R1}
 use Rattle.quota_types.specs.declared.file_kind.Kind.{Kind}
 use Rattle.file_in_memory.specs.OneFile.{only_file}
 use Rattle.quota_value.specs.QuotaValue.{QuotaValue}
@@ -26,10 +26,10 @@ use Rattle.edit_steps.specs.EditStep.{changed, is_too_large, value_left}
 use Rattle.edit_steps.proofs.FullLemmas.{is_full}
 use Rattle.edit_steps.specs.Fits.{IsFullFor}
 use Rattle.edit_steps.proofs.LimitsLemmas.{set_format}
-use Rattle.batch_commands.specs.Batch.{EditsThen, edit_of, may_fill, met_at, way_behind}
+use Rattle.batch_commands.specs.Batch.{EditsThen, LeaveRoom, edit_of, met_at, way_behind}
 use Rattle.batch_commands.specs.BatchReading.{LineSteps}
 use Rattle.batch_commands.specs.AtOnce.{IsPaid}
-use Rattle.batch_commands.specs.Together.{AreNotTogether, IsFlatReach, IsMadeInMemory, IsWithin, MayPay, memory_seen, refusal_in}
+use Rattle.batch_commands.specs.Together.{AreNeverDone, IsFlatReach, IsMadeInMemory, IsWithin, MayPay, memory_seen, refusal_in}
 use Rattle.batch_commands.specs.declared.batch_line.LineEdit.{LineEdit}
 use Rattle.batch_commands.specs.declared.together.Edited.{Edited}
 use Rattle.batch_commands.specs.declared.together.Whole.{Whole}
@@ -108,6 +108,10 @@ full_long kind (Some V1) line now file blocks limit full =
     let flat : is_flat full.new.format ≡ true = ap is_flat (set_format full.value full.new line.id line.limits now full.edited ∙ full.seen.0.1.format) in
     let none = flat_blocks (Some file) full.new full.new.format refl flat in
     absurd (omega (arith, none, full.needs, full.passes))
+full_long kind (Some V1R32) line now file blocks limit full =
+    let flat : is_flat full.new.format ≡ true = ap is_flat (set_format full.value full.new line.id line.limits now full.edited ∙ full.seen.0.1.format) in
+    let none = flat_blocks (Some file) full.new full.new.format refl flat in
+    absurd (omega (arith, none, full.needs, full.passes))
 
 -- Lines that are not made together.
 
@@ -115,18 +119,18 @@ full_case : (cause : Cause) → (is_full cause ≡ false) ⊎ ((blocks : ℕ) ×
 full_case (Full blocks limit) = inr (blocks, limit, refl)
 full_case _ = inl refl
 
--- this many bytes more may fill the file
-fills : (asked : Option Format) (count size most long : ℕ) → IsTrue (asks_tree asked) → (IsTrue (asks_tree asked) → most ≤ size + 2048 + 4096 * count) → long ≤ most → 1024 * most_blocks ≤ long + 4096
-    → IsTrue (may_fill asked count size)
-fills asked count size most long tree grows within full =
+-- lines that leave room do not fill the file
+unfilled : (asked : Option Format) (count size most long : ℕ) → IsTrue (asks_tree asked) → (IsTrue (asks_tree asked) → most ≤ size + 2048 + 4096 * count) → LeaveRoom asked count size → long ≤ most
+    → 1024 * most_blocks ≤ long + 4096 → ⊥
+unfilled asked count size most long tree grows room within full =
     let few = grows tree in
-    let test : nat_le (1024 * most_blocks) (size + 4096 * (2 + count)) ≡ true = grind (arith, nat_tests, few, within, full) in
-    subst (λ (b : Bool). IsTrue (b && nat_le (1024 * most_blocks) (size + 4096 * (2 + count)))) (sym tree) test
+    let left = room tree in
+    absurd (omega (arith, few, left, within, full))
 
 refused_together : (kind : Kind) (asked : Option Format) (file : List ℕ) (now others : ℕ) (lines : List LineEdit) (value : QuotaValue) (whole : Whole) (edited : Edited) (refusal : Refusal)
     → MayPay asked (length lines) whole → IsWithin whole.most (length lines) edited → IsView (Some whole.bytes.items) kind asked (Ok value)
     → IsMadeInMemory (LineSteps (Together others) file now lines value) file whole.bytes.items edited → refusal_in edited.lines.ended ≡ Some refusal
-    → AreNotTogether asked file now lines value (length whole.bytes.items)
+    → AreNeverDone file now lines value
 refused_together kind asked file now others lines value whole edited refusal may within view made is =
     let made = made no_source no_sink no_sink no_link (tells_of true true true true true) in
     let old = outside_of (seen_of (memory_seen file whole.bytes.items 0) no_source no_sink no_sink no_link) in
@@ -134,23 +138,23 @@ refused_together kind asked file now others lines value whole edited refusal may
     let ends : EndsBy (LineSteps (Together others) file now lines value) old made.acts to (Some refusal) =
     subst (λ (r : Option Refusal). EndsBy (LineSteps (Together others) file now lines value) old made.acts to r) is made.by_steps in
     elim (full_case refusal.cause) [
-      | inl other ↦ inr (λ way old' new' acts by. refused_never (Together others) way file now lines value old old' to new' made.acts acts refusal other ends by)
+      | inl other ↦ λ way old' new' acts by. refused_never (Together others) way file now lines value old old' to new' made.acts acts refusal other ends by
       | inr full ↦
           let seen : IsView (only_file file whole.bytes.items file) kind asked (Ok value) = subst (λ (f : Option (List ℕ)). IsView f kind asked (Ok value)) (sym (only_file-at file whole.bytes.items)) view in
           let one = (applied_full (Together others) kind asked file now lines None to refusal full.0 full.1 full.2 tt value old made.acts seen ends).1 in
           let long = full_long kind asked one.line now edited.bytes.items full.0 full.1
           (subst (λ (f : Option (List ℕ)). IsFullFor kind asked (edit_of one.line now) f full.0 full.1) (only_file-at file edited.bytes.items) one.full) in
-          inl (fills asked (length lines) (length whole.bytes.items) whole.most (length edited.bytes.items) long.0 may.grows within.short long.1)
+          absurd (unfilled asked (length lines) (length whole.bytes.items) whole.most (length edited.bytes.items) long.0 may.grows may.room within.short long.1)
     ]
 
 pub not_together : (kind : Kind) (asked : Option Format) (file : List ℕ) (now others : ℕ) (lines : List LineEdit) (value : QuotaValue) (whole : Whole) (edited : Edited)
     → MayPay asked (length lines) whole → IsWithin whole.most (length lines) edited → IsView (Some whole.bytes.items) kind asked (Ok value)
     → IsMadeInMemory (LineSteps (Together others) file now lines value) file whole.bytes.items edited → IsSome (refusal_in edited.lines.ended)
-    → AreNotTogether asked file now lines value (length whole.bytes.items)
+    → AreNeverDone file now lines value
 not_together kind asked file now others lines value whole edited may within view made some =
     by_refusal (refusal_in edited.lines.ended) refl some
   where
-    by_refusal : (found : Option Refusal) → refusal_in edited.lines.ended ≡ found → IsSome found → AreNotTogether asked file now lines value (length whole.bytes.items)
+    by_refusal : (found : Option Refusal) → refusal_in edited.lines.ended ≡ found → IsSome found → AreNeverDone file now lines value
     by_refusal None is some = absurd (false≢true some)
     by_refusal (Some refusal) is some = refused_together kind asked file now others lines value whole edited refusal may within view made is
 
@@ -174,7 +178,7 @@ pays_unless asked count whole edited may within more = by_end edited.lines.ended
 
 -- Lines for which a file may be written anew reach no further than twelve pieces for each.
 pub paid_within : (asked : Option Format) (lines : List LineEdit) (size most : ℕ) → IsPaid asked lines size → (IsTrue (asks_tree asked) → most ≤ size + 2048 + 4096 * length lines)
-    → (asks_tree asked ≡ false → IsFlatReach size lines most) → most ≤ 12288 * length lines
+    → (asks_tree asked ≡ false → IsFlatReach asked size lines most) → most ≤ 12288 * length lines
 paid_within asked lines size most paid grows room = by_test (asks_tree asked) refl
   where
     by_test : (test : Bool) → asks_tree asked ≡ test → most ≤ 12288 * length lines

@@ -16,7 +16,7 @@ use Rattle.opened_file.specs.declared.whole_file.LoadFault.{LoadFault}
 use Rattle.opened_file.specs.declared.whole_file.LoadFault.TheVariants.{Store as NotRead, NoFile, TooLarge, Memory as Wanting}
 use Rattle.quota_map.specs.View.{IsView}
 use Rattle.quota_types.specs.declared.file_kind.Format.{Format}
-use Rattle.quota_types.specs.declared.file_kind.Format.TheVariants.{V1, V2R0, V2R1}
+use Rattle.quota_types.specs.declared.file_kind.Format.TheVariants.{V1, V1R32, V2R0, V2R1}
 use Rattle.quota_types.specs.declared.file_kind.Kind.{Kind}
 use Rattle.run_steps.specs.Causes.{load_cause}
 use Rattle.run_steps.specs.Opening.{MayRefuseOpening}
@@ -377,6 +377,7 @@ view_some None kind asked value view = absurd (none_view kind asked value view)
     none_view : (kind : Kind) (asked : Option Format) (value : QuotaValue) → IsView None kind asked (Ok value) → ⊥
     none_view kind None value view = view.0
     none_view kind (Some V1) value view = view.0
+    none_view kind (Some V1R32) value view = view.0
     none_view kind (Some V2R0) value view = view.0
     none_view kind (Some V2R1) value view = view.0
 

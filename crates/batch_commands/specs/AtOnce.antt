@@ -12,17 +12,18 @@ use Rattle.command_words.specs.declared.command.Common.{Common}
 use Rattle.run_steps.specs.Done.{Outside}
 use Rattle.run_steps.specs.Naming.{names_seen}
 use Rattle.run_steps.specs.Taking.{input_said}
-use Rattle.batch_commands.specs.Batch.{AskedEdits, batch_step, way_of}
+use Rattle.batch_commands.specs.Batch.{AreWithin, AskedEdits, LeaveRoom, batch_step, way_of}
 use Rattle.batch_commands.specs.FullForLines.{AllFit}
 use Rattle.batch_commands.specs.declared.batch_line.LineEdit.{LineEdit}
 
 -- A file of this length may be written anew for lines, in no more pieces of 1,024 bytes than twelve for each of them: a tree file of 8,192
 -- bytes for each, less 2,048 for its header and its root, since a line may add 4,096; and a flat file of 12,288 bytes for each, within
--- which stand the records that the lines ask for, too.
+-- which stand the records that the lines ask for, too. The lines leave room in it.
 pub record IsPaid (asked : Option Format) (lines : List LineEdit) (size : ℕ) : Type 0 where
   pub tree : IsTrue (asks_tree asked) → size + 2048 ≤ 8192 * length lines
-  pub flat : asks_tree asked ≡ false → (size ≤ 12288 * length lines) × All (λ (line : LineEdit). 40 * (line.id + 1) ≤ 12288 * length lines) lines
+  pub flat : asks_tree asked ≡ false → (size ≤ 12288 * length lines) × AreWithin asked lines (12288 * length lines)
   pub within : 12288 * length lines ≤ 2 ^ 42
+  pub room : LeaveRoom asked (length lines) size
 
 -- The edits of lines are made together: there are several, each of which fits, no file has the name of this one with `.new` added, and it
 -- may be written anew for so many.

@@ -1,9 +1,10 @@
 -- `setquota -b`: new limits of many identifiers, a line of an input each. Source: the manual page of setquota; what stands in
 -- a line, and that the edits of the lines before a refused one stay, is this project's own.
-use Rattle.std.specs.Prelude.{◌≡◌, ◌⊎◌, ℕ, ◌+◌, ◌*◌, ◌&&◌, length, nat_le, nat_lt, Bool, true, false, if◌then◌else◌, List, [], ◌∷◌, Option, Some, None, is_none}
+use Rattle.std.specs.Prelude.{◌≡◌, ◌⊎◌, ⊤, ℕ, ◌+◌, ◌*◌, ◌<◌, ◌≤◌, ◌&&◌, All, IsTrue, length, nat_le, nat_lt, Bool, true, false, if◌then◌else◌, List, [], ◌∷◌, Option, Some, None, is_none}
 use Rattle.std.specs.List.{list_all}
 use Rattle.std.specs.Str.{is_utf8}
 use Rattle.id_names.specs.NamesFile.{NameLine}
+use Rattle.quota_types.specs.Format.{record_size}
 use Rattle.quota_types.specs.declared.file_kind.Format.{Format}
 use Rattle.input_text.specs.InputLines.{InputLines, NoLine, LineThen, LongNext, PastNext, input_lines}
 use Rattle.quota_value.specs.QuotaValue.{QuotaValue}
@@ -163,22 +164,24 @@ BatchSteps common from file invocation =
 abbrev pub input_edits : List NameLine → (bytes : List ℕ) → List LineEdit
 input_edits names bytes = (input_asks names [] bytes).edits
 
--- So many lines may fill a file of this length: a tree file, which with 4,096 bytes for each of them, and for two more, has at least as
--- many bytes as the most blocks that it may have. (What a line needs that is refused counts as one more, and as another one what a file
+-- where the record of an identifier ends in a flat file of the format
+unfoldable pub record_end : Format → ℕ → ℕ
+record_end format id = record_size format * (id + 1)
+
+-- A flat file that is asked for has room for the record of each of these lines, where it has so many bytes.
+abbrev pub AreWithin : Option Format → List LineEdit → (room : ℕ) → Type 0
+AreWithin None lines room = ⊤
+AreWithin (Some format) lines room = All (λ (line : LineEdit). record_end format line.id ≤ room) lines
+
+-- So many lines leave room in a file of this length, which is no tree file, or with 4,096 bytes for each of them, and for two more, has
+-- fewer bytes than the most blocks that it may have. (What a line needs that is refused counts as one more, and as another one what a file
 -- may lack of its header and its root.)
-abbrev pub may_fill : Option Format → (count length : ℕ) → Bool
-may_fill asked count length = asks_tree asked && nat_le (1024 * most_blocks) (length + 4096 * (2 + count))
+abbrev pub LeaveRoom : Option Format → (count length : ℕ) → Type 0
+LeaveRoom asked count length = IsTrue (asks_tree asked) → length + 4096 * (2 + count) < 1024 * most_blocks
 
--- how many calls of `read` it takes to read a file of this length whole, where so many lines may be edited together in it, and may
--- still be made in place then: where there are several, the file has no more pieces than twelve for each of them, and they may fill it
-abbrev pub whole_reads : Option Format → (count length : ℕ) → ℕ
-whole_reads asked count length =
-    if nat_lt 1 count && (nat_le (pieces_of length) (12 * count) && may_fill asked count length) then pieces_of length else 0
-
--- how many calls of `read` edits of a file of this length make at most, where all are made: seventeen each, and where they may fill it
--- those that read it whole
-abbrev pub line_reads : Option Format → List LineEdit → (size : ℕ) → ℕ
-line_reads asked edits size = whole_reads asked (length edits) size + 17 * length edits
+-- how many calls of `read` edits of lines make at most, where all are made: seventeen each
+abbrev pub line_reads : List LineEdit → ℕ
+line_reads edits = 17 * length edits
 
 -- that many, where there is neither a file of names nor one of lines, which are read besides
 abbrev pub if_neither : (names from : Option (List ℕ)) → ℕ → Option ℕ
@@ -189,7 +192,7 @@ if_neither names from reads = None
 abbrev pub batch_reads : Common → Option (List ℕ) → List ℕ → World → (bytes : List ℕ) → Option ℕ
 batch_reads common from file files bytes =
     if_neither common.names from
-    (opening_reads common.format (file_of files file) + line_reads common.format (input_edits [] bytes) (length (file_of files file)))
+    (opening_reads common.format (file_of files file) + line_reads (input_edits [] bytes))
 
 -- edits of lines change the store, and those before a refused one stay
 abbrev pub line_uses : Uses

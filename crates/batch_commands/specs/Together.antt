@@ -25,7 +25,7 @@ use Rattle.quota_map.specs.View.{asks_tree}
 use Rattle.run_steps.specs.Run.{IsPlacedBy}
 use Rattle.run_steps.specs.Steps.{Steps}
 use Rattle.run_steps.specs.Writes.{edits_in}
-use Rattle.batch_commands.specs.Batch.{line_uses, may_fill}
+use Rattle.batch_commands.specs.Batch.{AreWithin, LeaveRoom, line_uses}
 use Rattle.batch_commands.specs.BatchReading.{LineSteps}
 use Rattle.batch_commands.specs.declared.batch_line.LineEdit.{LineEdit}
 use Rattle.batch_commands.specs.declared.together.Attempt.{Attempt}
@@ -113,20 +113,16 @@ pub record IsWithin (most count : ℕ) (edited : Edited) : Type 0 where
 
 -- So many lines of a file that was read whole may be edited together: what they may come to make of it can replace it, in no more calls
 -- of `write` than twelve for each; and a tree file comes to have no more than 4,096 bytes for each besides, and up to 2,048 of its
--- header and its root, of which it may lack the end.
+-- header and its root, of which it may lack the end. They leave room in it.
 pub record MayPay (asked : Option Format) (count : ℕ) (whole : Whole) : Type 0 where
   pub few : pieces_of whole.most ≤ 12 * count
   pub within : whole.most ≤ 2 ^ 42
   pub grows : IsTrue (asks_tree asked) → whole.most ≤ length whole.bytes.items + 2048 + 4096 * count
+  pub room : LeaveRoom asked count (length whole.bytes.items)
 
 -- The edits of lines are not all done, whatever files there are, since one of them is refused.
 abbrev pub AreNeverDone : (file : List ℕ) (now : ℕ) → List LineEdit → QuotaValue → Type 0
 AreNeverDone file now lines value = (way : Way) (old new : Outside) (acts : List Act) → EndsBy (LineSteps way file now lines value) old acts new None → ⊥
-
--- Why the edits of lines of a file of this length are not made together, though it was read whole: one of them is refused; or they may
--- fill the file.
-abbrev pub AreNotTogether : Option Format → (file : List ℕ) (now : ℕ) → List LineEdit → QuotaValue → (size : ℕ) → Type 0
-AreNotTogether asked file now lines value size = IsTrue (may_fill asked (length lines) size) ⊎ AreNeverDone file now lines value
 
 -- a file is not opened for a fault of the store, or since there is not enough memory, and not for its bytes
 abbrev pub is_of_call : OpenFault → Bool
@@ -144,11 +140,12 @@ replace_cause Wanting = WantOfMemory
 abbrev pub ReadsWhole : (count length before now : ℕ) → Type 0
 ReadsWhole count length before now = (now ≡ before) ⊎ ((pieces_of length ≤ 12 * count) × (now ≤ before + pieces_of length))
 
--- The least number of bytes in which a flat file has room for as many as it has, and for the record of each of these lines, of 40 bytes.
-pub record IsFlatReach (size : ℕ) (lines : List LineEdit) (most : ℕ) : Type 0 where
+-- The least number of bytes in which a flat file that is asked for has room for as many as it has, and for the record of each of these
+-- lines.
+pub record IsFlatReach (asked : Option Format) (size : ℕ) (lines : List LineEdit) (most : ℕ) : Type 0 where
   pub reaches : size ≤ most
-  pub holds : All (λ (line : LineEdit). 40 * (line.id + 1) ≤ most) lines
-  pub least : (room : ℕ) → size ≤ room → All (λ (line : LineEdit). 40 * (line.id + 1) ≤ room) lines → most ≤ room
+  pub holds : AreWithin asked lines most
+  pub least : (room : ℕ) → size ≤ room → AreWithin asked lines room → most ≤ room
 
 -- Why lines are not edited in a copy of a file, which may have so many bytes, and of whose calls so many had failed: one more of them
 -- failed, or it has more bytes; or there was not enough memory to come so far, where that may be.

@@ -72,7 +72,7 @@ pub fn apply_lines<S: Store, I: Source>(
         (record { files = (S.seen store.old).files; input = (I.seen input.old).left; datagrams = datagrams }) (S.seen store.new).files
         (λ worlds. S.commits worlds store.old store.new) }
     // Where it was done without a file of names, and out of the standard input, no more was read than the opening of the file takes,
-    // seventeen blocks for each line that asks for an edit, and the file once more where lines that may be edited together may fill it.
+    // and seventeen blocks for each line that asks for an edit.
     ensures reads { OnOk result (IsTrue S.tells → IsTrue I.tells
         → ReadsWithin (batch_reads common from file (S.seen store.old).files (I.seen input.old).left) (S.seen store.old) (S.seen store.new)) }
     ensures untouched { IsSome from → input.new ≡ input.old }
@@ -120,7 +120,7 @@ fn apply_named<S: Store, I: Source>(
         (λ worlds. S.commits worlds store.old store.new) }
     ensures reads { from ≡ None → OnOk result (IsTrue S.tells → IsTrue I.tells → (S.seen store.new).reads ≤ (S.seen store.old).reads
         + (opening_reads format (file_of (S.seen store.old).files file)
-        + line_reads format (input_edits names.now (I.seen input.old).left) (length (file_of (S.seen store.old).files file)))) }
+        + line_reads (input_edits names.now (I.seen input.old).left))) }
     ensures untouched { IsSome from → input.new ≡ input.old }
     ensures keeps { I.keeps false input.old input.new }
 {
@@ -171,7 +171,7 @@ fn apply_opened<S: Store, I: Source>(
         → (IsTrue S.tells → IsView ((S.seen store.old).files file) kind format (Ok value))
         → from ≡ None → OnOk result (IsTrue S.tells → IsTrue I.tells
         → (S.seen store.new).reads ≤ (S.seen store.old).reads
-        + line_reads format (input_edits names.now (I.seen input.old).left) (length (file_of (S.seen store.old).files file))) }
+        + line_reads (input_edits names.now (I.seen input.old).left)) }
     ensures untouched { IsSome from → input.new ≡ input.old }
     ensures keeps { I.keeps false input.old input.new }
 {
@@ -231,7 +231,7 @@ fn edit_lines<S: Store>(
         → (value : QuotaValue) → (IsTrue S.tells → ⟦<AnyFile as QuotaFile<S>>⟧.holds opened store.old value)
         → (IsTrue S.tells → IsView ((S.seen store.old).files file) kind format (Ok value))
         → OnOk result (IsTrue S.tells → (S.seen store.new).reads ≤ (S.seen store.old).reads
-        + line_reads format lines.now (length (file_of (S.seen store.old).files file))) }
+        + line_reads lines.now) }
 {
     match edit_together(alloc, kind, format, lines, file, store, now) {
         Attempt::Ended(ended) => ended,

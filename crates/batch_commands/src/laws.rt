@@ -31,5 +31,5 @@ pub fn a_file_that_is_full_is_so_behind_lines()
 pub fn lines_read_a_file_four_times_at_most()
     ensures reads { (kind : Kind) (asked : Option Format) (file : List ℕ) (value : QuotaValue) (lines : List LineEdit)
         → IsView (Some file) kind asked (Ok value)
-        → opening_reads asked file + line_reads asked lines (length file) ≤ 4 + 4 * pieces_of (length file) + 17 * length lines }
+        → opening_reads asked file + line_reads lines ≤ 4 + 4 * pieces_of (length file) + 17 * length lines }
 {}

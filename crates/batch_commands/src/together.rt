@@ -16,11 +16,11 @@ ghost use Rattle.run_steps.specs.Carrying.{CarriesOut};
 ghost use Rattle.batch_commands.specs.AtOnce.{IsPaid, MakeTogether};
 ghost use Rattle.batch_commands.specs.FullForLines.{AllFit};
 ghost use Rattle.outside.specs.World.{World};
-ghost use Rattle.batch_commands.specs.Batch.{LineEditMayRefuse, line_uses, way_of, whole_reads};
+ghost use Rattle.batch_commands.specs.Batch.{LineEditMayRefuse, line_uses, way_of};
 ghost use Rattle.batch_commands.specs.BatchReading.{LineSteps};
 ghost use Rattle.batch_commands.specs.LinesCommitted.{CommitsFrom};
 ghost use Rattle.batch_commands.specs.declared.together.GivenUp.TheVariants.{NoMemory};
-ghost use Rattle.batch_commands.specs.Together.{AreNeverDone, AreNotTogether, HasBytes, IfEnded, IfNotMade, IfWanting, IsEditOf, IsFlatReach, IsGivenUp, IsMadeInMemory, IsOnlyRead, IsWithin, MayPay, ReadsWhole, StandsAlone, is_of_call, refusal_in, replace_cause};
+ghost use Rattle.batch_commands.specs.Together.{AreNeverDone, HasBytes, IfEnded, IfNotMade, IfWanting, IsEditOf, IsFlatReach, IsGivenUp, IsMadeInMemory, IsOnlyRead, IsWithin, MayPay, ReadsWhole, StandsAlone, is_of_call, refusal_in, replace_cause};
 
 use crate::batch::{EditedLines, edit_all};
 use crate::batch_line::LineEdit;
@@ -83,9 +83,9 @@ pub struct Edited {
 }
 
 /// Sets the limits that lines ask for in the file of this name, up to the first edit that is refused, by one replacement of the file.
-/// So it is done where there are at least two lines, where no file has its name with `.new` added, and where it pays: where the
-/// replacement takes no more than twelve calls of `write` for each line that was edited. Where the edits change nothing nothing is
-/// written.
+/// So it is done where there are at least two lines that leave room in the file, where no file has its name with `.new` added, and where
+/// it pays: where the replacement takes no more than twelve calls of `write` for each line that was edited. Where the edits change
+/// nothing nothing is written.
 ///
 /// # Errors
 ///
@@ -122,12 +122,10 @@ pub fn edit_together<S: Store>(
     // Where all was done, no more was read than twelve blocks a line.
     ensures reads { IfEnded result (λ ended. OnOk ended (IsTrue S.tells
         → (S.seen store.new).reads ≤ (S.seen store.old).reads + 12 * length lines.now)) }
-    // Where they were not made they are never all done, or nothing was read but what is read whole.
+    // Where they were not made nothing was read, or they are never all done.
     ensures reads_more { IfNotMade result (λ _. IsTrue S.tells → (value : QuotaValue)
         → IsView ((S.seen store.old).files file) kind format (Ok value)
-        → ((S.seen store.new).reads ≤ (S.seen store.old).reads
-        + whole_reads format (length lines.now) (length (file_of (S.seen store.old).files file)))
-        ⊎ AreNeverDone file now lines.now value) }
+        → ((S.seen store.new).reads ≤ (S.seen store.old).reads) ⊎ AreNeverDone file now lines.now value) }
 {
     if lines.len() < 2 {
         return Attempt::NotMade(file);
@@ -139,8 +137,8 @@ pub fn edit_together<S: Store>(
     }
 }
 
-/// The file of this name, where a replacement of it may take no more calls of `write` than the edits of these lines, and none has its
-/// name with `.new` added.
+/// The file of this name, where a replacement of it may take no more calls of `write` than the edits of these lines, which leave room in
+/// it, and none has its name with `.new` added.
 fn read_whole<S: Store>(
     alloc: Global,
     format: Option<Format>,
@@ -222,9 +220,9 @@ fn edit_bytes<S: Store>(
         → IfEnded result (λ ended. CommitsFrom ⊤ (is_ok ended) (LineSteps (Together others) file now lines.now value)
         (ReplacesOnly file (S.seen store.old).files) (S.seen store.old).files (S.seen store.new).files (λ worlds. S.commits worlds store.old store.new)) }
     ensures none_committed { IfNotMade result (λ _. S.commits [] store.old store.new) }
-    // Where it does not pay, one of the lines is refused in every file, or they may fill this one.
+    // Where it does not pay, one of the lines is refused in every file.
     ensures never { MayPay format (length lines.now) whole → (value : QuotaValue) → IsView (Some whole.bytes.items) kind format (Ok value)
-        → IfNotMade result (λ _. AreNotTogether format file now lines.now value (length whole.bytes.items)) }
+        → IfNotMade result (λ _. AreNeverDone file now lines.now value) }
     // Where all of them fit it pays.
     ensures fitting { MayPay format (length lines.now) whole → (others : ℕ) (value : QuotaValue) (files : World)
         → files file ≡ Some whole.bytes.items → IsView (Some whole.bytes.items) kind format (Ok value)

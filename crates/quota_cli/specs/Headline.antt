@@ -169,9 +169,7 @@ pub record Keeps (typed : CommandLine) (tells : RunTells) (old new : RunSeen) (s
   pub within : ChangesWithin (asked typed) old.store new.store
   -- With status 0 there were no more calls of `read` to the store than the command makes, where that is said: of `rquotad` those of
   -- opening each file, and five for each datagram; of `setquota -b` without a file of names and out of the standard input those of
-  -- opening the file, seventeen for each line that asks for an edit, and those that read the file whole once, where there are at least
-  -- two such lines, the file has at most twelve pieces of 1,024 bytes for each of them, and they may fill it: it is a tree file that with
-  -- 4,096 bytes for each of them, and for two more, has at least as many bytes as 1,048,576 blocks.
+  -- opening the file, and seventeen for each line that asks for an edit.
   pub reads : status ≡ 0 → AreReadsTold (uses_asked typed) tells → ReadsWithin ((asked typed).most_reads (outside_of old)) old.store new.store
   -- With status 0 the files are what a change of such a file makes of them, beside standing for the edited value, where the words ask
   -- for new limits, new times or new grace periods: of a tree file into which a record was put, that it has no more blocks than before

@@ -6,7 +6,7 @@ use Rattle.quota_map.specs.View.{IsView}
 use Rattle.outside.proofs.FrameLemmas.{keeps_other_two-then, syncs-after_read, syncs-read}
 use Rattle.run_steps.proofs.OpeningLemmas.{not_opened, unwritten}
 use Rattle.run_steps.proofs.PhaseLemmas.{carries_opening}
-use Rattle.batch_commands.specs.Batch.{ReadSteps, batch_step, input_edits, line_reads}
+use Rattle.batch_commands.specs.Batch.{ReadSteps, batch_step, input_edits}
 use Rattle.batch_commands.proofs.TogetherLemmas.{replaces-read, told_first}
 use Rattle.batch_commands.proofs.WantingLemmas.{wanting_since}
 use Rattle.std.specs.Prelude.{is_ok}
@@ -56,9 +56,7 @@ returns-in-Ok-clause-reads g c = λ none.
     on_ok_weaker c.apply_opened.result (λ reads input_told.
     let opening = (rw file at opened.reads) told in
     let lines = reads told input_told in
-    let same : (file_of (S.seen c.open_file.new.store).files c.args.file) ≡ (file_of (S.seen c.args.store.now).files c.args.file) = ap (λ (files : World). file_of files c.args.file) c.in-Ok.ensures.leaves.files in
-    let edits = ap (λ (bytes : List ℕ). line_reads c.args.format (input_edits c.args.names.now (g.I.Source.seen c.args.input.now).left) (length bytes)) same in
-    omega (arith, opening, lines, edits)) few)
+    omega (arith, opening, lines)) few)
 
 pub returns-in-Err-clause-synced : goal.returns-in-Err-clause-synced
 returns-in-Err-clause-synced g c = λ told. syncs-read _ _ _ c.in-Err.ensures.leaves

@@ -113,12 +113,11 @@ returns-in-Ok-edit_lines-clause-reads g c = λ as_asked value held seen none tol
     let asked : AskedEdits = record { edits = c.in-Ok.batch.edits.items; refusal = c.in-Ok.batch.refusal } in
     let unread = ap S.seen (took.unread none) in
     let files = took.leaves.files in
-    asked_reads c.args.format c.args.names.now c.args.from (S.seen c.args.store.now).files _ asked (S.seen c.args.store.now).reads (S.seen c.take_batch.new.store).reads _
-    (length (file_of (S.seen c.args.store.now).files c.args.file)) none (took.read told (λ is. input_told)) (ap (λ (s : StoreSeen). s.reads) unread)
-    (subst (λ (s : StoreSeen). (S.seen c.edit_lines.new.store).reads ≤ (S.seen c.take_batch.new.store).reads + line_reads c.args.format asked.edits (length (file_of s.files c.args.file))) unread
+    asked_reads c.args.names.now c.args.from (S.seen c.args.store.now).files _ asked (S.seen c.args.store.now).reads (S.seen c.take_batch.new.store).reads _
+    none (took.read told (λ is. input_told)) (ap (λ (s : StoreSeen). s.reads) unread)
     (rw c.as_slice.ensures.value at (c.in-Ok-edit_lines.ensures.reads as_asked value
     (λ told. subst (λ (w : World). HoldsAny S.tells w c.args.opened value) (sym files) (held told))
-    (λ told. subst (λ (w : World). IsView (w c.args.file) c.args.kind c.args.format (Ok value)) (sym files) (seen told)) told)))
+    (λ told. subst (λ (w : World). IsView (w c.args.file) c.args.kind c.args.format (Ok value)) (sym files) (seen told)) told))
 
 pub returns-in-Some-clause-wanting : goal.returns-in-Some-clause-wanting
 returns-in-Some-clause-wanting g c =

@@ -45,7 +45,7 @@ returns-clause-reads g c = λ as_asked value held seen.
     let carried = rw c.in-NotMade.ensures.back at (c.edit_all.ensures.carries way c.args.format as_asked value
     (λ told. subst (λ (files : World). HoldsAny S.tells files c.args.opened value) (sym reads.files) (held told)) no_source no_sink no_sink no_link true true true true) in
     told_first _ c.edit_all.result.ended (λ told.
-    placed_reads c.args.format c.args.file c.args.now c.args.lines.now value (length (file_of (S.seen c.args.store.now).files c.args.file)) (S.seen c.args.store.now).reads (S.seen c.edit_together.new.store).reads (S.seen c.edit_all.new.store).reads
+    placed_reads c.args.file c.args.now c.args.lines.now value (S.seen c.args.store.now).reads (S.seen c.edit_together.new.store).reads (S.seen c.edit_all.new.store).reads
     c.edit_all.result.ended way old new (tells_of S.tells true true true true)
     (on_ok_weaker c.edit_all.result.ended (λ done. done (record { store = told; input = refl; link = refl })) carried.done)
     c.edit_all.ensures.reads (c.in-NotMade.ensures.reads_more told value (seen told)))

@@ -1,4 +1,4 @@
-use Rattle.std.proofs.Common.{◌≡◌, ◌⊎◌, ◌+◌, ◌≤◌, Ok, Some, length, sym, ap, subst, arith, []}
+use Rattle.std.proofs.Common.{◌≡◌, ◌⊎◌, ◌+◌, ◌≤◌, Ok, Some, length, sym, ap, subst, inr, arith, []}
 use Rattle.std.specs.Prelude.{Option, List, false, is_ok, ℕ, ⊤}
 use Rattle.file_blocks.specs.Block.{bytes_of, file_of}
 use Rattle.outside.specs.World.{World}
@@ -6,13 +6,13 @@ use Rattle.quota_map.specs.View.{IsView}
 use Rattle.run_steps.specs.Act.{Together, Way}
 use Rattle.run_steps.specs.Done.{seen_of, tells_of}
 use Rattle.run_steps.specs.Carrying.{CarriesOut}
-use Rattle.batch_commands.specs.Batch.{LineEditMayRefuse, line_uses, way_of, whole_reads}
+use Rattle.batch_commands.specs.Batch.{LineEditMayRefuse, line_uses, way_of}
 use Rattle.batch_commands.specs.BatchReading.{LineSteps}
 use Rattle.batch_commands.specs.FullForLines.{AllFit}
-use Rattle.batch_commands.specs.Together.{AreNeverDone, AreNotTogether, IfEnded, IfNotMade, StandsAlone}
+use Rattle.batch_commands.specs.Together.{AreNeverDone, IfEnded, IfNotMade, StandsAlone}
 use Rattle.batch_commands.specs.declared.together.Attempt.{Attempt}
 use Rattle.batch_commands.specs.declared.together.Attempt.TheVariants.{Ended, NotMade}
-use Rattle.batch_commands.proofs.ReadsLemmas.{whole_or_never, whole_twelve}
+use Rattle.batch_commands.proofs.ReadsLemmas.{whole_twelve}
 use Rattle.batch_commands.proofs.TogetherLemmas.{ended_any, ended_read, on_ok_any, unread_carried, view_some, way_many}
 use Rattle.outside.specs.Replacement.{ReplacesOnly}
 use Rattle.batch_commands.specs.LinesCommitted.{CommitsFrom}
@@ -56,17 +56,11 @@ returns-in-Ok-Some-clause-reads_more g c =
     let bytes = c.in-Ok-Some.whole.bytes.items in
     let whole = rw c.as_str.ensures at (rw c.in-Ok-Some.field-0-is at c.in-Ok-Some.ensures.whole) in
     let pays = rw c.in-Ok-Some.field-0-is at c.in-Ok-Some.ensures.pays in
-    let read = rw c.as_str.ensures at c.in-Ok-Some.ensures.reads in
     not_made_weaker_all c.edit_bytes.result
     (λ told value view.
     let named : files file ≡ Some bytes = (whole told).named in
     c.edit_bytes.ensures.never (pays told) value (subst (λ (f : Option (List ℕ)). IsView f c.args.kind c.args.format (Ok value)) named view))
-    (λ told value view why.
-    let named : files file ≡ Some bytes = (whole told).named in
-    let size : length (file_of files file) ≡ length bytes = ap (λ (f : Option (List ℕ)). length (bytes_of f)) named in
-    subst (λ (after : ℕ). (after ≤ (S.seen c.args.store.now).reads + whole_reads c.args.format (length c.args.lines.now) (length (file_of files file))) ⊎ AreNeverDone file c.args.now c.args.lines.now value) (sym c.edit_bytes.ensures.reads)
-    (whole_or_never c.args.format file c.args.now c.args.lines.now value (length (file_of files file)) (S.seen c.args.store.now).reads (S.seen c.read_whole.new.store).reads (omega arith) (read told)
-    (subst (λ (n : ℕ). AreNotTogether c.args.format file c.args.now c.args.lines.now value n) (sym size) why)))
+    (λ told value view never. inr never)
   where
     not_made_weaker_all : {T V : Type 0} {P : V → Type 0} {A B : V → Type 0} (attempt : Attempt) → (T → (value : V) → P value → IfNotMade attempt (λ name. A value)) → (T → (value : V) → P value → A value → B value)
         → IfNotMade attempt (λ name. T → (value : V) → P value → B value)
