@@ -1,9 +1,9 @@
 //! Conversions of quota files.
 
 /// One map in each format: identifier 0 with a space of one byte and a timer, a record that limits and counts nothing but has
-/// timers, and identifier 1000 with timers above 32 bits; grace periods of 1 second and of 2^32 - 1, and flags. A flat file
-/// has whole KiB, and no timer of identifier 0. The rules let the one data block of a new file be any of 2 to 6; its place
-/// here is the one that this program chooses.
+/// timers, and identifier 1000 with timers above 32 bits, or just below where the other format is vfsold32; grace periods of 1
+/// second and of 2^32 - 1, and flags. A flat file has whole KiB, and no timer of identifier 0. The rules let the one data block of
+/// a new file be any of 2 to 6; its place here is the one that this program chooses.
 pub const PAIRS: &str = "\
 = one map in each format
 fill 0 7168
@@ -40,6 +40,30 @@ record blocks 1 inodes 1 btime 1 itime 4294967295
 fill 0 39960
 record bhard 2 bsoft 1 blocks 3 ihard 4 isoft 3 inodes 5 btime 4294967296 itime 4294967297
 keep made
+
+= the same map with timers of 32 bits
+use middle
+put 5264 4294967295 0 4294967294 0
+keep middle-early
+use new
+put 5336 4294967295 0 4294967294 0
+keep new-early
+use old
+put 40024 4294967295 0 4294967294 0
+keep old-early
+use made
+put 40024 4294967295 0 4294967294 0
+keep made-early
+put end 0 0 1 0 0 1 1 4294967295
+fill 0 128
+put end 0 0 0 0 0 0 9 4294967295
+fill 0 31808
+put end 2 1 3 4 3 5 4294967295 4294967294
+keep old32
+put end 0 0 1 0 0 1 1 4294967295
+fill 0 31968
+put end 2 1 3 4 3 5 4294967295 4294967294
+keep made32
 
 = from vfsold to vfsold
 file q old
@@ -151,6 +175,87 @@ run repquota -F vfsv1 -v -p r
 head user r 00:00 49710days
 > #0           --          1          0          0      0        1        0        0      0
 > #1000        ++          3          1          2 4294967296        5        3        4 4294967297
+
+= from vfsold to vfsold32
+file q old-early
+run convertquota -f vfsold,vfsold32 q r
+same q
+absent r.new
+holds r made32
+run repquota -F vfsold32 -v -p r
+head user r 00:00 49710days
+> #0           --          1          0          0      0        1        0        0      0
+> #1000        ++          3          1          2 4294967295        5        3        4 4294967294
+
+= from vfsv0 to vfsold32
+file q middle-early
+run convertquota -f vfsv0,vfsold32 q r
+same q
+absent r.new
+holds r made32
+run repquota -F vfsold32 -v -p r
+head user r 00:00 49710days
+> #0           --          1          0          0      0        1        0        0      0
+> #1000        ++          3          1          2 4294967295        5        3        4 4294967294
+
+= from vfsv1 to vfsold32
+file q new-early
+run convertquota -f vfsv1,vfsold32 q r
+same q
+absent r.new
+holds r made32
+run repquota -F vfsold32 -v -p r
+head user r 00:00 49710days
+> #0           --          1          0          0      0        1        0        0      0
+> #1000        ++          3          1          2 4294967295        5        3        4 4294967294
+
+= from vfsold32 to vfsold32
+file q old32
+run convertquota -f vfsold32,vfsold32 q r
+same q
+absent r.new
+holds r made32
+run repquota -F vfsold32 -v -p r
+head user r 00:00 49710days
+> #0           --          1          0          0      0        1        0        0      0
+> #1000        ++          3          1          2 4294967295        5        3        4 4294967294
+
+= from vfsold32 to vfsold
+file q old32
+run convertquota -f vfsold32,vfsold q r
+same q
+absent r.new
+holds r made-early
+run repquota -F vfsold -v -p r
+head user r 00:00 49710days
+> #0           --          1          0          0      0        1        0        0      0
+> #1000        ++          3          1          2 4294967295        5        3        4 4294967294
+
+= from vfsold32 to vfsv0
+file q old32
+run convertquota -f vfsold32,vfsv0 q r
+same q
+absent r.new
+at r 7168 end
+at r 0 3653246737 0 1 4294967295 0 7 0
+at r 2064 0 0 0 1 0 0 1024 0 0 0 0 0 1000 4 3 5 2 1 3072 0 4294967295 0 4294967294 0
+run repquota -F vfsv0 -v -p r
+head user r 00:00 49710days
+> #0           --          1          0          0      0        1        0        0      0
+> #1000        ++          3          1          2 4294967295        5        3        4 4294967294
+
+= from vfsold32 to vfsv1
+file q old32
+run convertquota -f vfsold32,vfsv1 q r
+same q
+absent r.new
+at r 7168 end
+at r 0 3653246737 1 1 4294967295 0 7 0
+at r 2064 0 0 0 0 0 0 1 0 0 0 0 0 1024 0 0 0 0 0 1000 0 4 0 3 0 5 0 2 0 1 0 3072 0 4294967295 0 4294967294 0
+run repquota -F vfsv1 -v -p r
+head user r 00:00 49710days
+> #0           --          1          0          0      0        1        0        0      0
+> #1000        ++          3          1          2 4294967295        5        3        4 4294967294
 ";
 
 /// Values at the ends of what a format has room for.

@@ -18,3 +18,4 @@ pub mod served_projects;
 pub mod summed;
 pub mod trees;
 pub mod turned;
+pub mod vfsold32;

@@ -107,6 +107,131 @@ same q
 put end 3653246737 0 604800 4294967295 0 2
 fill 0 2024
 holds r
+
+= flat files of 32 bytes a record have grace periods of 1 to 2^32 - 1
+file q longest
+run convertquota -f vfsold,vfsold32 q r
+status 1
+! quota: q: no room for bgrace 18446744073709551615
+same q
+absent r r.new
+writes 0
+record btime 4294967295 itime 4294967296
+file q
+run convertquota -f vfsold,vfsold32 q r
+status 1
+! quota: q: no room for igrace 4294967296
+absent r r.new
+writes 0
+use empty
+put 8 0 4294967295
+file q
+run convertquota -f vfsv1,vfsold32 q r
+status 1
+! quota: q: no room for bgrace 0
+absent r r.new
+writes 0
+record btime 4294967295 itime 4294967295
+file q
+run convertquota -f vfsold,vfsold32 q r
+same q
+put end 0 0 0 0 0 0 4294967295 4294967295
+holds r
+
+= they have timers below 2^32, and that of blocks is told first
+use six
+put 5160 0
+put 5176 1
+put 5184 0
+put 5192 0 1
+keep late
+file q late
+run convertquota -f vfsv1,vfsold32 q r
+status 1
+! quota: q: no room for btime 4294967296 of 1000
+same q
+absent r r.new
+writes 0
+use late
+put 5200 0 1
+file q
+run convertquota -f vfsv1,vfsold32 q r
+status 1
+! quota: q: no room for btime 4294967296 of 1000
+absent r r.new
+writes 0
+use late
+put 5192 4294967295 0 0 1
+file q
+run convertquota -f vfsv1,vfsold32 q r
+status 1
+! quota: q: no room for itime 4294967296 of 1000
+absent r r.new
+writes 0
+use late
+put 5192 4294967295 0 4294967295 0
+file q
+run convertquota -f vfsv1,vfsold32 q r
+same q
+at r 32000 0 1 0 0 0 0 4294967295 4294967295 end
+
+= those of identifier 0 have to fit, though they are not kept
+use late
+put 3084 0
+put 3072 4
+put 5024 0
+put 4096 5
+put 5136 0
+file q
+run convertquota -f vfsv1,vfsold32 q r
+status 1
+! quota: q: no room for btime 4294967296 of 0
+same q
+absent r r.new
+writes 0
+use q
+put 5192 4294967295 0 0 1
+file q
+run convertquota -f vfsv1,vfsold32 q r
+status 1
+! quota: q: no room for itime 4294967296 of 0
+absent r r.new
+writes 0
+use q
+put 5200 4294967295 0
+file q
+run convertquota -f vfsv1,vfsold32 q r
+same q
+put end 0 1 0 0 0 0 604800 604800
+holds r
+
+= those of a record that limits and counts nothing are in no one's way
+use late
+put 5176 0
+file q
+run convertquota -f vfsv1,vfsold32 q r
+same q
+put end 0 0 0 0 0 0 604800 604800
+holds r
+
+= a limit is told before a timer, and so is the identifier
+use late
+put 5180 1
+file q
+run convertquota -f vfsv1,vfsold32 q r
+status 1
+! quota: q: no room for bsoft 4294967297 of 1000
+absent r r.new
+writes 0
+file q empty
+run setquota 1048576 1 0 0 0 q
+changes q
+run convertquota -f vfsv1,vfsold32 q r
+status 1
+! quota: q: no room for id 1048576 of 1048576
+same q
+absent r r.new
+writes 0
 ";
 
 /// Conversions that are refused before anything is read, that are not opened, and whose calls fail.

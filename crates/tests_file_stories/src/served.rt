@@ -34,6 +34,10 @@ record btime 604800 itime 604800
 fill 0 39960
 record bhard 200 bsoft 100 blocks 4 ihard 20 isoft 10 inodes 1
 keep flat
+put end 0 0 0 0 0 0 604800 604800
+fill 0 31968
+put end 200 100 4 20 10 1 0 0
+keep flat32
 
 = a datagram without a reply counts
 file q limited
@@ -72,6 +76,25 @@ run rquotad --format vfsold --calls 1 --port 0 --export /home user q
 use told
 sent
 same q
+
+= so is one of vfsold32, whose times have 32 bits
+file q flat32
+use call
+datagram 1700000000
+run rquotad --format vfsold32 --calls 1 --port 0 --export /home user q
+use told
+sent
+same q
+use flat32
+put 32004 2
+put 32024 4294967295 1700000060
+file q
+use call
+datagram 1700000000
+run rquotad --format vfsold32 --calls 1 --port 0 --export /home user q
+hex 00000001 00000001 00000000 00000000 00000000 00000000 00000001
+hex 00000400 00000001 000000c8 00000002 00000004 00000014 0000000a 00000001 9aac0eff 0000003c
+sent
 
 = a member is told of the group, and the file of users under the same path is another one
 file q six

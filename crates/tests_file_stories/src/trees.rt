@@ -44,7 +44,8 @@ head user q 7days 7days
 ";
 
 /// What refuses a tree file, and the line of each refusal. Where the blocks 1 to 3 are free as well, the rules let any of
-/// them be named; the number here is the one that this program chooses.
+/// them be named, and where a header stands alone, each of its other blocks as one to which nothing leads; what is named here
+/// is what this program chooses.
 pub const REFUSED: &str = "\
 = a file that is too short for its blocks
 use short
@@ -97,11 +98,23 @@ file q
 run repquota q
 status 3
 ! quota: q: bad block count
-put end 3653246737 1 604800 604800 0 1048577 0 5
+put end 3653246737 1 604800 604800 0 4194305 0 0
 file q
 run repquota q
 status 1
 ! quota: q: too large
+
+= a header of as many blocks as there may be, or of fewer, without any of them
+put end 3653246737 1 604800 604800 0 4194304 0 0
+file q
+run repquota q
+status 3
+! quota: q: damaged: Short at block 0
+put end 3653246737 1 604800 604800 0 1048577 0 0
+file q
+run repquota q
+status 3
+! quota: q: damaged: Short at block 0
 
 = a file without the first bytes of a quota file
 use six

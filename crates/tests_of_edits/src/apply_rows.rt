@@ -288,6 +288,32 @@ const TWO: &[Entry] = &[
     },
 ];
 
+/// A soft limit of identifier 0.
+const SOFT_OF_ZERO: &[Entry] = &[Entry {
+    id: 0,
+    rec: Rec { bsoft: 1, ..NONE },
+}];
+
+/// Timers past 32 bits, of one who uses nothing, which stops, and of one whose inodes are over the soft limit, which runs on.
+const TIMED: &[Entry] = &[
+    Entry {
+        id: 6,
+        rec: Rec {
+            isoft: 1,
+            itime: 4_294_967_296,
+            ..NONE
+        },
+    },
+    Entry {
+        id: 7,
+        rec: Rec {
+            isoft: 1,
+            itime: 4_294_967_297,
+            ..NONE
+        },
+    },
+];
+
 const REFUSED: &[RefusedRow] = &[
     RefusedRow {
         title: "the least identifier past those of a flat file",
@@ -309,6 +335,54 @@ const REFUSED: &[RefusedRow] = &[
         now: 0,
         out: NoRoom {
             id: 9,
+            field: Field::Space,
+            value: 4_398_046_511_104,
+        },
+    },
+    RefusedRow {
+        title: "a timer past 32 bits of the least identifier",
+        list: TWO,
+        listing: b"6 1 1 5 8\n",
+        format: Format::V1R32,
+        now: 4_294_362_496,
+        out: NoRoom {
+            id: 6,
+            field: Field::Btime,
+            value: 4_294_967_296,
+        },
+    },
+    RefusedRow {
+        title: "one of identifier 0, which is not kept",
+        list: SOFT_OF_ZERO,
+        listing: b"0 1 1 5 8\n",
+        format: Format::V1R32,
+        now: 4_294_362_496,
+        out: NoRoom {
+            id: 0,
+            field: Field::Btime,
+            value: 4_294_967_296,
+        },
+    },
+    RefusedRow {
+        title: "a timer that runs past 32 bits",
+        list: TIMED,
+        listing: b"7 1 1 5 8\n7 1 1 6 0\n",
+        format: Format::V1R32,
+        now: 0,
+        out: NoRoom {
+            id: 7,
+            field: Field::Itime,
+            value: 4_294_967_297,
+        },
+    },
+    RefusedRow {
+        title: "a space past that of a flat file before a timer",
+        list: TIMED,
+        listing: b"7 1 1 5 8589934592\n7 1 1 6 0\n",
+        format: Format::V1R32,
+        now: 0,
+        out: NoRoom {
+            id: 7,
             field: Field::Space,
             value: 4_398_046_511_104,
         },

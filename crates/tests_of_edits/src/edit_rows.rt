@@ -117,6 +117,44 @@ const LIMITS_SET: &[EditRow] = &[
         }),
         after: &[],
     },
+    EditRow {
+        title: "the latest timer of 32 bits",
+        format: Format::V1R32,
+        before: &[(1000, USED)],
+        edit: SetLimits(1000, LIMITS, 4_294_362_495),
+        answer: Done,
+        after: &[(
+            1000,
+            Rec {
+                btime: 4_294_967_295,
+                ..STARTED
+            },
+        )],
+    },
+    EditRow {
+        title: "a timer past 32 bits",
+        format: Format::V1R32,
+        before: &[(1000, USED)],
+        edit: SetLimits(1000, LIMITS, 4_294_362_496),
+        answer: Lacks(NoRoom {
+            id: 1000,
+            field: Field::Btime,
+            value: 4_294_967_296,
+        }),
+        after: &[(1000, USED)],
+    },
+    EditRow {
+        title: "a timer past 32 bits, which is not kept",
+        format: Format::V1R32,
+        before: &[(0, USED)],
+        edit: SetLimits(0, LIMITS, 4_294_362_496),
+        answer: Lacks(NoRoom {
+            id: 0,
+            field: Field::Btime,
+            value: 4_294_967_296,
+        }),
+        after: &[(0, USED)],
+    },
 ];
 
 #[test]
@@ -140,6 +178,18 @@ const COPIED: &[EditRow] = &[
         edit: Copy(1000, 7, 1_700_000_000),
         answer: Done,
         after: &[(7, USED)],
+    },
+    EditRow {
+        title: "a copy starts a timer past 32 bits",
+        format: Format::V1R32,
+        before: &[(7, USED), (1000, LIMITED)],
+        edit: Copy(1000, 7, 4_294_362_496),
+        answer: Lacks(NoRoom {
+            id: 7,
+            field: Field::Btime,
+            value: 4_294_967_296,
+        }),
+        after: &[(7, USED), (1000, LIMITED)],
     },
 ];
 
@@ -217,6 +267,50 @@ const GRACE_SET: &[EditRow] = &[
         answer: Lacks(NoRoom {
             id: 0,
             field: Field::InodeGrace,
+            value: 0,
+        }),
+        after: &[(1000, USED)],
+    },
+    EditRow {
+        title: "grace periods that fit",
+        format: Format::V1R32,
+        before: &[(1000, USED)],
+        edit: SetGrace(1, 4_294_967_295),
+        answer: Done,
+        after: &[(1000, USED)],
+    },
+    EditRow {
+        title: "grace periods that don't fit",
+        format: Format::V1R32,
+        before: &[(1000, USED)],
+        edit: SetGrace(4_294_967_296, 0),
+        answer: Lacks(NoRoom {
+            id: 0,
+            field: Field::BlockGrace,
+            value: 4_294_967_296,
+        }),
+        after: &[(1000, USED)],
+    },
+    EditRow {
+        title: "grace periods that don't fit",
+        format: Format::V1R32,
+        before: &[(1000, USED)],
+        edit: SetGrace(4_294_967_295, 4_294_967_296),
+        answer: Lacks(NoRoom {
+            id: 0,
+            field: Field::InodeGrace,
+            value: 4_294_967_296,
+        }),
+        after: &[(1000, USED)],
+    },
+    EditRow {
+        title: "grace periods that don't fit",
+        format: Format::V1R32,
+        before: &[(1000, USED)],
+        edit: SetGrace(0, 1),
+        answer: Lacks(NoRoom {
+            id: 0,
+            field: Field::BlockGrace,
             value: 0,
         }),
         after: &[(1000, USED)],

@@ -1,6 +1,6 @@
 use crate::edits::Answer::*;
 use crate::edits::Edit::*;
-use crate::edits::{EditRow, expect_edits};
+use crate::edits::{Edit, EditRow, expect_edits};
 use quota_types::{Field, Format, NoRoom, Rec};
 use set_edit::TimeWord;
 
@@ -142,6 +142,26 @@ const TIMES_SET: &[EditRow] = &[
         answer: Skips,
         after: &[(1000, UNLIMITED)],
     },
+    EditRow {
+        title: "the latest times of 32 bits",
+        format: Format::V1R32,
+        before: &[(1000, MORE)],
+        edit: SetTimes(
+            1000,
+            TimeWord::Seconds(2_594_967_295),
+            TimeWord::Seconds(2_594_967_295),
+            1_700_000_000,
+        ),
+        answer: Done,
+        after: &[(
+            1000,
+            Rec {
+                btime: 4_294_967_295,
+                itime: 4_294_967_295,
+                ..MORE
+            },
+        )],
+    },
 ];
 
 #[test]
@@ -187,6 +207,82 @@ const PAST: &[EditRow] = &[
         after: &[(1000, MORE)],
     },
 ];
+
+/// A timer of blocks past 32 bits alone, and one of inodes past 64 bits.
+const NARROW_AND_WIDE: Edit = SetTimes(
+    1000,
+    TimeWord::Seconds(1),
+    TimeWord::Seconds(4_294_967_295),
+    18_446_744_069_414_584_321,
+);
+
+const PAST_32_BITS: &[EditRow] = &[
+    EditRow {
+        title: "a time of blocks",
+        format: Format::V1R32,
+        before: &[(1000, MORE)],
+        edit: SetTimes(1000, TimeWord::Seconds(2_594_967_296), HOUR, 1_700_000_000),
+        answer: Lacks(NoRoom {
+            id: 1000,
+            field: Field::Btime,
+            value: 4_294_967_296,
+        }),
+        after: &[(1000, MORE)],
+    },
+    EditRow {
+        title: "a time of inodes",
+        format: Format::V1R32,
+        before: &[(1000, MORE)],
+        edit: SetTimes(1000, HOUR, TimeWord::Seconds(2_594_967_296), 1_700_000_000),
+        answer: Lacks(NoRoom {
+            id: 1000,
+            field: Field::Itime,
+            value: 4_294_967_296,
+        }),
+        after: &[(1000, MORE)],
+    },
+    EditRow {
+        title: "a time of blocks before one of inodes that is past 64 bits",
+        format: Format::V1R32,
+        before: &[(1000, MORE)],
+        edit: NARROW_AND_WIDE,
+        answer: Lacks(NoRoom {
+            id: 1000,
+            field: Field::Btime,
+            value: 18_446_744_069_414_584_322,
+        }),
+        after: &[(1000, MORE)],
+    },
+    EditRow {
+        title: "of both, in vfsold, that of inodes",
+        format: Format::V1,
+        before: &[(1000, MORE)],
+        edit: NARROW_AND_WIDE,
+        answer: Lacks(NoRoom {
+            id: 1000,
+            field: Field::Itime,
+            value: 18_446_744_073_709_551_616,
+        }),
+        after: &[(1000, MORE)],
+    },
+    EditRow {
+        title: "a time of identifier 0, which is not kept",
+        format: Format::V1R32,
+        before: &[(0, STOPPED)],
+        edit: SetTimes(0, HOUR, TimeWord::Seconds(2_594_967_296), 1_700_000_000),
+        answer: Lacks(NoRoom {
+            id: 0,
+            field: Field::Itime,
+            value: 4_294_967_296,
+        }),
+        after: &[(0, STOPPED)],
+    },
+];
+
+#[test]
+fn a_time_past_32_bits_is_told_and_changes_nothing(rt: HostRuntime) {
+    expect_edits(&rt, rt.alloc(), PAST_32_BITS);
+}
 
 #[test]
 fn a_time_past_64_bits_is_told_and_changes_nothing(rt: HostRuntime) {
@@ -243,6 +339,14 @@ const OF_ZERO: &[EditRow] = &[
     EditRow {
         title: "a flat file",
         format: Format::V1,
+        before: &[(0, STOPPED)],
+        edit: SetTimes(0, HOUR, TimeWord::Seconds(60), 1_700_000_000),
+        answer: Done,
+        after: &[(0, STOPPED)],
+    },
+    EditRow {
+        title: "a file of vfsold32",
+        format: Format::V1R32,
         before: &[(0, STOPPED)],
         edit: SetTimes(0, HOUR, TimeWord::Seconds(60), 1_700_000_000),
         answer: Done,

@@ -61,6 +61,8 @@ pub(crate) const DOUBLED: Grace = Grace {
 pub(crate) enum Made {
     /// `LIST` in a flat file of users.
     Flat,
+    /// `LIST` in a flat file of users, of vfsold32.
+    Flat32,
     /// `LIST` and flags 5 in vfsv0, of users.
     Narrow,
     /// `LIST` and flags 5 in vfsv1, of users.
@@ -107,6 +109,9 @@ pub(crate) fn make(alloc: Global, store: &mut MemStore, made: Made) -> Result<()
             }
         }
         Made::Flat => replace_file(alloc, store, "q", Format::V1, user, PERIODS, 5, &LIST, 0),
+        Made::Flat32 => {
+            replace_file(alloc, store, "q", Format::V1R32, user, PERIODS, 5, &LIST, 0)
+        }
         Made::Narrow => replace_file(alloc, store, "q", Format::V2R0, user, PERIODS, 5, &LIST, 7),
         Made::Wide => replace_file(alloc, store, "q", Format::V2R1, user, PERIODS, 5, &LIST, 7),
         Made::OfProjects => {

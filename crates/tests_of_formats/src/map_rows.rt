@@ -28,6 +28,8 @@ const CHANGED: &[Step] = &[
 /// Which format a file has, and which flags.
 const FLAT: &[Step] = &[Step::Is(Format::V1), Step::Flags(0)];
 
+const FLAT_OF_32: &[Step] = &[Step::Is(Format::V1R32), Step::Flags(0)];
+
 const NARROW: &[Step] = &[Step::Is(Format::V2R0), Step::Flags(5)];
 
 const WIDE: &[Step] = &[Step::Is(Format::V2R1), Step::Flags(5)];
@@ -36,6 +38,8 @@ const WIDE: &[Step] = &[Step::Is(Format::V2R1), Step::Flags(5)];
 const STORIES: &[Story] = &[
     Story { title: "vfsold", made: Made::Flat, failing: &[], kind: Kind::User, format: Some(Format::V1), limit: None,
         openings: &[FLAT, WRITTEN, CHANGES, CHANGED, FLAT] },
+    Story { title: "vfsold32", made: Made::Flat32, failing: &[], kind: Kind::User, format: Some(Format::V1R32),
+        limit: None, openings: &[FLAT_OF_32, WRITTEN, CHANGES, CHANGED, FLAT_OF_32] },
     Story { title: "vfsv0", made: Made::Narrow, failing: &[], kind: Kind::User, format: Some(Format::V2R0),
         limit: None, openings: &[NARROW, WRITTEN, CHANGES, CHANGED, NARROW] },
     Story { title: "vfsv1", made: Made::Wide, failing: &[], kind: Kind::User, format: Some(Format::V2R1), limit: None,
@@ -91,10 +95,23 @@ type OpenRow = (
     Result<Format, OpenFault>,
 );
 
-/// A file of users in vfsv1 ends inside its record 179 where it is taken for a flat file.
+/// A file of users in vfsv1 ends inside its record 179 where it is taken for one of vfsold, and has whole records where it is
+/// taken for one of vfsold32; each of both flat files ends inside a record where it is taken for the other one.
 const PARTIAL: OpenFault = OpenFault::Damage(Damage {
     kind: DamageKind::PartialRecord,
     block: 179,
+    id: 0,
+});
+
+const PARTIAL_1251: OpenFault = OpenFault::Damage(Damage {
+    kind: DamageKind::PartialRecord,
+    block: 1251,
+    id: 0,
+});
+
+const PARTIAL_800: OpenFault = OpenFault::Damage(Damage {
+    kind: DamageKind::PartialRecord,
+    block: 800,
     id: 0,
 });
 
@@ -123,6 +140,14 @@ const OPENED: &[OpenRow] = &[
     (Made::Flat, "q", Kind::Group, Some(Format::V1), Ok(Format::V1)),
     (Made::Flat, "q", Kind::Project, Some(Format::V1), Ok(Format::V1)),
     (Made::Flat, "q", Kind::Project, None, Err(OpenFault::NotQuota)),
+    (Made::Wide, "q", Kind::User, Some(Format::V1R32), Ok(Format::V1R32)),
+    (Made::Wide, "r", Kind::User, Some(Format::V1R32), Err(OpenFault::NoFile)),
+    (Made::Flat, "q", Kind::User, Some(Format::V1R32), Err(PARTIAL_1251)),
+    (Made::Flat32, "q", Kind::User, Some(Format::V1), Err(PARTIAL_800)),
+    (Made::Flat32, "q", Kind::User, Some(Format::V2R1), Err(OpenFault::NotQuota)),
+    (Made::Flat32, "q", Kind::User, None, Err(OpenFault::NotQuota)),
+    (Made::Flat32, "q", Kind::Group, Some(Format::V1R32), Ok(Format::V1R32)),
+    (Made::Flat32, "q", Kind::Project, Some(Format::V1R32), Ok(Format::V1R32)),
 ];
 
 fn is_opened(alloc: Global, row: &OpenRow) -> bool {

@@ -41,6 +41,13 @@ const NUMBERS: Rec = Rec {
     ..ZEROS
 };
 
+/// The latest timers that 32 bits hold.
+const LATEST: Rec = Rec {
+    btime: 4_294_967_295,
+    itime: 4_294_967_295,
+    ..ZEROS
+};
+
 /// A record of an identifier, and the first field for which the format has no room, with its value.
 struct RangeRow {
     format: Format,
@@ -56,6 +63,19 @@ const RANGES: &[RangeRow] = &[
         want: Some((Field::Id, 1_048_576)) },
     RangeRow { format: Format::V1, id: 7, rec: Rec { space: 4_398_046_510_081, ..ZEROS },
         want: Some((Field::Space, 4_398_046_510_081)) },
+    RangeRow { format: Format::V1, id: 7, rec: Rec { btime: u64::MAX, itime: u64::MAX, ..ZEROS }, want: None },
+    RangeRow { format: Format::V1R32, id: 1_048_575, rec: Rec { space: 4_398_046_510_080, ..LATEST }, want: None },
+    RangeRow { format: Format::V1R32, id: 1_048_576, rec: NUMBERS, want: Some((Field::Id, 1_048_576)) },
+    RangeRow { format: Format::V1R32, id: 7, rec: Rec { btime: u64::MAX, ..NUMBERS },
+        want: Some((Field::Isoft, 4_294_967_296)) },
+    RangeRow { format: Format::V1R32, id: 7, rec: Rec { space: 4_398_046_510_081, btime: 4_294_967_296, ..ZEROS },
+        want: Some((Field::Space, 4_398_046_510_081)) },
+    RangeRow { format: Format::V1R32, id: 7, rec: Rec { btime: 4_294_967_296, itime: 4_294_967_297, ..ZEROS },
+        want: Some((Field::Btime, 4_294_967_296)) },
+    RangeRow { format: Format::V1R32, id: 7, rec: Rec { itime: 4_294_967_296, ..LATEST },
+        want: Some((Field::Itime, 4_294_967_296)) },
+    RangeRow { format: Format::V1R32, id: 0, rec: Rec { btime: 4_294_967_296, ..LATEST },
+        want: Some((Field::Btime, 4_294_967_296)) },
     RangeRow { format: Format::V2R0, id: 7, rec: NUMBERS, want: Some((Field::Isoft, 4_294_967_296)) },
     RangeRow { format: Format::V2R1, id: u32::MAX, rec: NUMBERS, want: None },
 ];
@@ -94,6 +114,12 @@ struct GraceRow {
 const GRACE_RANGES: &[GraceRow] = &[
     GraceRow { format: Format::V1, grace: Grace { block: 0, inode: 1 }, want: Some(Field::BlockGrace) },
     GraceRow { format: Format::V1, grace: Grace { block: u64::MAX, inode: u64::MAX }, want: None },
+    GraceRow { format: Format::V1R32, grace: Grace { block: 0, inode: 4_294_967_296 }, want: Some(Field::BlockGrace) },
+    GraceRow { format: Format::V1R32, grace: Grace { block: 1, inode: 0 }, want: Some(Field::InodeGrace) },
+    GraceRow { format: Format::V1R32, grace: Grace { block: 1, inode: 4_294_967_295 }, want: None },
+    GraceRow { format: Format::V1R32, grace: Grace { block: 4_294_967_296, inode: 0 }, want: Some(Field::BlockGrace) },
+    GraceRow { format: Format::V1R32, grace: Grace { block: 4_294_967_295, inode: 4_294_967_296 },
+        want: Some(Field::InodeGrace) },
     GraceRow { format: Format::V2R0, grace: Grace { block: 0, inode: 4_294_967_295 }, want: None },
     GraceRow { format: Format::V2R1, grace: Grace { block: 1, inode: 4_294_967_296 }, want: Some(Field::InodeGrace) },
 ];
@@ -144,36 +170,66 @@ fn a_timer_starts_runs_on_and_stops(rt: HostRuntime) {
     expect_timers(&rt, TIMERS);
 }
 
-/// An identifier's record at a moment, with grace periods of a week, and why a flat file does not keep it with its next
-/// timers.
-struct SumRow {
+/// An identifier's record at a moment, with grace periods of the file, and what a format keeps of it with its next timers, or
+/// the first field for which it has no room.
+struct NextRow {
+    format: Format,
     id: u32,
     rec: Rec,
+    grace: Grace,
     now: u64,
-    want: NoRoom,
+    want: Result<Rec, (Field, u128)>,
 }
 
-const SUMS: &[SumRow] = &[SumRow {
-    id: 1000,
-    rec: OVER,
-    now: u64::MAX,
-    want: NoRoom {
-        id: 1000,
-        field: Field::Btime,
-        value: 18_446_744_073_710_156_415,
-    },
-}];
+/// A record that is over both soft limits.
+const OVER_BOTH: Rec = Rec {
+    isoft: 1,
+    inodes: 2,
+    ..OVER
+};
 
-fn expect_sums(rt: &impl Abort, rows: &[SumRow]) {
+/// A second for blocks, and the longest period of 32 bits for inodes.
+const SHORT_AND_LONG: Grace = Grace {
+    block: 1,
+    inode: 4_294_967_295,
+};
+
+#[rattlefmt::skip]
+const NEXT: &[NextRow] = &[
+    NextRow { format: Format::V1, id: 1000, rec: OVER, grace: WEEK, now: u64::MAX,
+        want: Err((Field::Btime, 18_446_744_073_710_156_415)) },
+    NextRow { format: Format::V1, id: 1000, rec: OVER_BOTH, grace: SHORT_AND_LONG, now: 18_446_744_069_414_584_321,
+        want: Err((Field::Itime, 18_446_744_073_709_551_616)) },
+    NextRow { format: Format::V1R32, id: 1000, rec: OVER_BOTH, grace: SHORT_AND_LONG, now: 18_446_744_069_414_584_321,
+        want: Err((Field::Btime, 18_446_744_069_414_584_322)) },
+    NextRow { format: Format::V1R32, id: 1000, rec: OVER, grace: WEEK, now: 4_294_362_495,
+        want: Ok(Rec { btime: 4_294_967_295, ..OVER }) },
+    NextRow { format: Format::V1R32, id: 1000, rec: OVER, grace: WEEK, now: 4_294_362_496,
+        want: Err((Field::Btime, 4_294_967_296)) },
+    NextRow { format: Format::V1R32, id: 0, rec: OVER, grace: WEEK, now: 4_294_362_495, want: Ok(OVER) },
+    NextRow { format: Format::V1R32, id: 0, rec: OVER, grace: WEEK, now: 4_294_362_496,
+        want: Err((Field::Btime, 4_294_967_296)) },
+    NextRow { format: Format::V1R32, id: 7, rec: Rec { btime: 4_294_967_296, ..OVER }, grace: WEEK, now: 0,
+        want: Err((Field::Btime, 4_294_967_296)) },
+    NextRow { format: Format::V1R32, id: 7, rec: Rec { itime: 4_294_967_296, ..OVER }, grace: WEEK, now: 0,
+        want: Ok(Rec { btime: 604_800, ..OVER }) },
+];
+
+fn expect_next(rt: &impl Abort, rows: &[NextRow]) {
     for row in rows {
-        let found = next_kept(Format::V1, row.id, row.rec, WEEK, row.now);
-        assert!(rt; found == Err(row.want), "{}: {found:?}", row.id);
+        let found = next_kept(row.format, row.id, row.rec, row.grace, row.now);
+        let want = row.want.map_err(|(field, value)| NoRoom {
+            id: row.id,
+            field,
+            value,
+        });
+        assert!(rt; found == want, "{:?} {}: {found:?}", row.format, row.id);
     }
 }
 
 #[test]
-fn a_sum_beyond_64_bits_is_told_as_it_is(rt: HostRuntime) {
-    expect_sums(&rt, SUMS);
+fn timers_that_are_wanted_are_kept_or_told_as_they_are(rt: HostRuntime) {
+    expect_next(&rt, NEXT);
 }
 
 /// A record, and what the format keeps of it.
@@ -196,6 +252,8 @@ const TIMED: Rec = Rec {
 const KEPT: &[KeptRow] = &[
     KeptRow { format: Format::V1, id: 7, rec: TIMED, want: Rec { space: 1024, ..TIMED } },
     KeptRow { format: Format::V1, id: 0, rec: TIMED, want: Rec { space: 1024, ..ZEROS } },
+    KeptRow { format: Format::V1R32, id: 7, rec: TIMED, want: Rec { space: 1024, ..TIMED } },
+    KeptRow { format: Format::V1R32, id: 0, rec: TIMED, want: Rec { space: 1024, ..ZEROS } },
     KeptRow { format: Format::V2R1, id: 0, rec: TIMED, want: TIMED },
     KeptRow { format: Format::V2R1, id: 0, rec: Rec { itime: 1, ..ZEROS }, want: ZEROS },
 ];

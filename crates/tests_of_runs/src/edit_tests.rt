@@ -1,7 +1,7 @@
 use crate::playing::play;
 use tests_edit_stories::{
-    applied, batches, edits, ended_batches, failing_together, forms, limits, projects,
-    refused_bounds, refused_forms, refused_lines, stops, together, together_bounds,
+    applied, batches, edits, ended_batches, forms, limits, projects, refused_bounds, refused_forms,
+    refused_lines, together, together_bounds, vfsold32,
 };
 use tests_story_player::FILES;
 
@@ -130,46 +130,16 @@ fn lines_are_made_together_where_the_file_is_small(rt: HostRuntime) {
 }
 
 #[test]
-fn a_failing_call_leaves_none_of_the_lines_or_all(rt: HostRuntime) {
-    play(
-        &rt,
-        rt.alloc(),
-        &[FILES, together::FILES_OF_LINES, failing_together::FAILING],
-    );
+fn limits_are_set_in_files_of_vfsold32(rt: HostRuntime) {
+    play(&rt, rt.alloc(), &[FILES, vfsold32::SET]);
 }
 
 #[test]
-fn a_stop_leaves_none_of_the_lines_or_all(rt: HostRuntime) {
-    play(
-        &rt,
-        rt.alloc(),
-        &[FILES, together::FILES_OF_LINES, failing_together::STOPPED],
-    );
+fn times_of_vfsold32_have_32_bits(rt: HostRuntime) {
+    play(&rt, rt.alloc(), &[FILES, vfsold32::TIMES]);
 }
 
 #[test]
-fn a_stop_leaves_the_old_tree_file_or_the_changed_one(rt: HostRuntime) {
-    play(
-        &rt,
-        rt.alloc(),
-        &[FILES, stops::STOPPED_FILES, stops::STOPPED_TREES],
-    );
-}
-
-#[test]
-fn a_stop_leaves_the_old_file_of_vfsv0_or_the_changed_one(rt: HostRuntime) {
-    play(
-        &rt,
-        rt.alloc(),
-        &[FILES, stops::STOPPED_FILES, stops::STOPPED_TREES_0],
-    );
-}
-
-#[test]
-fn a_stop_leaves_the_old_flat_file_or_the_changed_one(rt: HostRuntime) {
-    play(
-        &rt,
-        rt.alloc(),
-        &[FILES, stops::STOPPED_FILES, stops::STOPPED_FLAT_FILES],
-    );
+fn lines_set_limits_in_files_of_vfsold32(rt: HostRuntime) {
+    play(&rt, rt.alloc(), &[FILES, vfsold32::BATCHES]);
 }

@@ -1,8 +1,9 @@
 use crate::playing::{QuotaCli, play};
 use std::alloc::{AllocError, Global};
 use std::process::Abort;
+use tests_edit_stories::together;
 use tests_fault_stories::damages::{COMMANDS, DAMAGED, DamageRow};
-use tests_fault_stories::{datagrams, ends, sweeps};
+use tests_fault_stories::{datagrams, ends, failing_together, stops, sweeps, vfsold32};
 use tests_story_player::{FILES, failure_of};
 
 #[test]
@@ -18,6 +19,69 @@ fn the_first_call_that_writes_fails(rt: HostRuntime) {
 #[test]
 fn datagrams_are_cut_and_too_long(rt: HostRuntime) {
     play(&rt, rt.alloc(), &[FILES, datagrams::REFUSED]);
+}
+
+#[test]
+fn a_failing_call_leaves_none_of_the_lines_or_all(rt: HostRuntime) {
+    play(
+        &rt,
+        rt.alloc(),
+        &[FILES, together::FILES_OF_LINES, failing_together::FAILING],
+    );
+}
+
+#[test]
+fn a_stop_leaves_none_of_the_lines_or_all(rt: HostRuntime) {
+    play(
+        &rt,
+        rt.alloc(),
+        &[FILES, together::FILES_OF_LINES, failing_together::STOPPED],
+    );
+}
+
+#[test]
+fn a_stop_leaves_the_old_tree_file_or_the_changed_one(rt: HostRuntime) {
+    play(
+        &rt,
+        rt.alloc(),
+        &[FILES, stops::STOPPED_FILES, stops::STOPPED_TREES],
+    );
+}
+
+#[test]
+fn a_stop_leaves_the_old_file_of_vfsv0_or_the_changed_one(rt: HostRuntime) {
+    play(
+        &rt,
+        rt.alloc(),
+        &[FILES, stops::STOPPED_FILES, stops::STOPPED_TREES_0],
+    );
+}
+
+#[test]
+fn a_stop_leaves_the_old_flat_file_or_the_changed_one(rt: HostRuntime) {
+    play(
+        &rt,
+        rt.alloc(),
+        &[FILES, stops::STOPPED_FILES, stops::STOPPED_FLAT_FILES],
+    );
+}
+
+#[test]
+fn each_call_of_a_change_of_vfsold32_fails_once(rt: HostRuntime) {
+    play(
+        &rt,
+        rt.alloc(),
+        &[FILES, vfsold32::FILES_OF_32, vfsold32::SWEPT],
+    );
+}
+
+#[test]
+fn a_stop_leaves_the_old_file_of_vfsold32_or_the_changed_one(rt: HostRuntime) {
+    play(
+        &rt,
+        rt.alloc(),
+        &[FILES, vfsold32::FILES_OF_32, vfsold32::STOPPED],
+    );
 }
 
 /// A story in which a command names a damage of the file that these lines gather.

@@ -2,6 +2,7 @@ use crate::playing::play;
 use tests_file_stories::{
     calls, checked, conversions, ended_checks, generated, names, new_files, projects,
     refused_conversions, refused_listings, reports, served, served_projects, summed, trees, turned,
+    vfsold32,
 };
 use tests_story_player::FILES;
 
@@ -143,4 +144,14 @@ fn datagrams_are_answered(rt: HostRuntime) {
 #[test]
 fn serving_ends_at_a_fault(rt: HostRuntime) {
     play(&rt, rt.alloc(), &[FILES, served::ENDED]);
+}
+
+#[test]
+fn files_of_vfsold32_are_reported(rt: HostRuntime) {
+    play(&rt, rt.alloc(), &[FILES, vfsold32::REPORTED]);
+}
+
+#[test]
+fn files_of_vfsold32_get_the_usage_of_listings(rt: HostRuntime) {
+    play(&rt, rt.alloc(), &[FILES, vfsold32::CHECKED]);
 }

@@ -10,7 +10,7 @@ use std::process::Abort;
 /// The moment of each datagram.
 const NOW: u64 = 1_700_000_000;
 
-const FORMATS: [Format; 3] = [Format::V1, Format::V2R0, Format::V2R1];
+const FORMATS: [Format; 4] = [Format::V1, Format::V1R32, Format::V2R0, Format::V2R1];
 
 /// What is exported where a row says `users`, where it says `both`, `projects` or `all`.
 const USERS: &[Told] = &[("/home", Kind::User, "q")];

@@ -48,6 +48,13 @@ const ROWS: &[Row] = &[
         answer: Ok(()),
     },
     Row {
+        title: "one of vfsold32 has none either",
+        new: Format::V1R32,
+        limit: 0,
+        failing: &[],
+        answer: Ok(()),
+    },
+    Row {
         title: "the new name is not looked at",
         new: Format::V2R1,
         limit: 6,

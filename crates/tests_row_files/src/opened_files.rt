@@ -161,7 +161,7 @@ pub fn holds_entries<F: QuotaFile<MemStore>>(
 /// The bytes of an empty file of a kind in a format, without grace periods of its own.
 fn empty_file(format: Format, kind: Kind) -> &'static [u8] {
     match (format, kind) {
-        (Format::V1, _) => b"",
+        (Format::V1 | Format::V1R32, _) => b"",
         (Format::V2R0, Kind::User) => {
             b"\x11\x1f\xc0\xd9\0\0\0\0\0\0\0\0\0\0\0\0\0\0\0\0\x02\0\0\0\0\0\0\0\0\0\0\0"
         }
