@@ -25,7 +25,7 @@ _quota_cli_names() {
 
 _quota_cli() {
     local command=${COMP_WORDS[1]-} current=${COMP_WORDS[COMP_CWORD]} previous=${COMP_WORDS[COMP_CWORD - 1]} words=''
-    local formats='vfsold vfsv0 vfsv1' valued=F one other at names='' operands=0 letters=''
+    local formats='vfsold vfsold32 vfsv0 vfsv1' valued=F one other at names='' operands=0 letters=''
     local commands='repquota setquota edquota quotacheck convertquota rquotad script generate'
     COMPREPLY=()
     # (bash parts words at `=`)
@@ -58,7 +58,7 @@ _quota_cli() {
         esac
     done
     # (flat files of projects are no words of a command)
-    if [[ $letters == *P* ]]; then formats=${formats#vfsold }; fi
+    if [[ $letters == *P* ]]; then formats='vfsv0 vfsv1'; fi
     if [ "$COMP_CWORD" = 1 ]; then
         words="$commands --help --version"
     elif [[ $previous == -F || $previous == --format ]]; then

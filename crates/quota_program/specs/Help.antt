@@ -33,6 +33,6 @@ IsUsage None text = text ≡ None
 -- the text that is told where this is asked, and none where nothing is
 abbrev pub IsTold : Option Question → Option (List ℕ) → Type 0
 IsTold (Some OfHelp) text = IsTextFrom (codes "Usage: quota_cli COMMAND ") text
-IsTold (Some OfVersion) text = text ≡ Some (codes "quota_cli 0.1.0 (vfsold, vfsv0, vfsv1)\n")
+IsTold (Some OfVersion) text = text ≡ Some (codes "quota_cli 0.1.0 (vfsold, vfsold32, vfsv0, vfsv1)\n")
 IsTold (Some (OfCommand name)) text = IsUsage (tool_of name) text
 IsTold None text = text ≡ None

@@ -55,13 +55,13 @@ Commands:
 
 -u is for users, which is the default, -g for groups and -P for projects; with
 -P the second word of a listing's line is the project, in place of the group.
-FORMAT is vfsold, vfsv0 or vfsv1; without it the file says which of the last
-two it has, and projects have no vfsold. KIND is user, group or project. Limits
-of blocks are in KiB and may end in K, M, G or T, those of inodes in k, m, g
-or t. A time is a number of seconds, or unset. --names names a file in the form
-of passwd(5) or group(5), or one with lines NAME:NUMBER of projects; without it
-NAME is a number. --input names the file that is read in place of standard
-input. --device NUMBER counts one device.
+FORMAT is vfsold, vfsold32, vfsv0 or vfsv1; without it the file says which of
+the last two it has, and projects have neither of the first two. KIND is user,
+group or project. Limits of blocks are in KiB and may end in K, M, G or T,
+those of inodes in k, m, g or t. A time is a number of seconds, or unset.
+--names names a file in the form of passwd(5) or group(5), or one with lines
+NAME:NUMBER of projects; without it NAME is a number. --input names the file
+that is read in place of standard input. --device NUMBER counts one device.
 
 Exit status: 0 done, 1 refused, 2 wrong words, 3 not a quota file that is asked
 for, or a damaged one, 4 a fault of the system, 5 want of memory.
@@ -73,7 +73,7 @@ files, and PROMISES.md, which has what is proved.
 ";
 
 /// What `--version` writes.
-const VERSION: &str = "quota_cli 0.1.0 (vfsold, vfsv0, vfsv1)
+const VERSION: &str = "quota_cli 0.1.0 (vfsold, vfsold32, vfsv0, vfsv1)
 ";
 
 /// The text that words ask for, of what the program says about itself; none where they ask for nothing of that.

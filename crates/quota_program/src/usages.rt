@@ -23,8 +23,9 @@ Options:
   --names FILE  the file of names, in the form of passwd(5) or group(5); that
                 of projects has lines NAME:NUMBER, as projid(5)
 
-FORMAT is vfsold, vfsv0 or vfsv1. Without -F the file says which of the last
-two it has; a flat file needs -F vfsold, and projects have none.
+FORMAT is vfsold, vfsold32, vfsv0 or vfsv1. Without -F the file says which of
+the last two it has; a flat file needs -F vfsold, or -F vfsold32 where its
+records have 32 bytes, and projects have none.
 
 Examples:
     quota_cli repquota -u --names /etc/passwd /home/aquota.user
@@ -65,8 +66,9 @@ Options:
 Limits of blocks are in KiB and may end in K, M, G or T, those of inodes in k,
 m, g or t; 0 is no limit.
 
-FORMAT is vfsold, vfsv0 or vfsv1. Without -F the file says which of the last
-two it has; a flat file needs -F vfsold, and projects have none.
+FORMAT is vfsold, vfsold32, vfsv0 or vfsv1. Without -F the file says which of
+the last two it has; a flat file needs -F vfsold, or -F vfsold32 where its
+records have 32 bytes, and projects have none.
 
 Examples:
     quota_cli setquota -u --names /etc/passwd alice 100M 200M 1k 2k \\
@@ -96,8 +98,9 @@ Options:
   --apply       reads the form from standard input, and sets its limits
   --input FILE  the form of --apply is read from this file
 
-FORMAT is vfsold, vfsv0 or vfsv1. Without -F the file says which of the last
-two it has; a flat file needs -F vfsold, and projects have none.
+FORMAT is vfsold, vfsold32, vfsv0 or vfsv1. Without -F the file says which of
+the last two it has; a flat file needs -F vfsold, or -F vfsold32 where its
+records have 32 bytes, and projects have none.
 
 Examples:
     quota_cli edquota --print -u --names /etc/passwd alice \\
@@ -124,9 +127,9 @@ Options:
   --device NUMBER  counts only the lines of this device
   --input FILE     the listing is read from this file
 
-FORMAT is vfsold, vfsv0 or vfsv1. Without -F the file says which of the last
-two it has, and a new one is vfsv1; a flat file needs -F vfsold, and projects
-have none.
+FORMAT is vfsold, vfsold32, vfsv0 or vfsv1. Without -F the file says which of
+the last two it has, and a new one is vfsv1; a flat file needs -F vfsold, or
+-F vfsold32 where its records have 32 bytes, and projects have none.
 
 Examples:
     find /home -xdev ! -path /home/aquota.user ! -path /home/aquota.group \\
@@ -149,7 +152,8 @@ Options:
               of projects
   -f OLD,NEW  the two formats, which may be the same
 
-OLD and NEW are vfsold, vfsv0 or vfsv1; projects have no vfsold.
+OLD and NEW are vfsold, vfsold32, vfsv0 or vfsv1; projects have neither of the
+first two, which are flat: with records of 40 bytes, and of 32.
 
 Examples:
     quota_cli convertquota -u -f vfsv0,vfsv1 /home/aquota.user \\
@@ -174,8 +178,9 @@ Options:
                            project, of which the superuser alone is told; there
                            are 1 to 16 exports
 
-FORMAT is vfsold, vfsv0 or vfsv1. Without --format each file says which of the
-last two it has; flat files need --format vfsold, and projects have none.
+FORMAT is vfsold, vfsold32, vfsv0 or vfsv1. Without --format each file says
+which of the last two it has; flat files need --format vfsold, or
+--format vfsold32 where their records have 32 bytes, and projects have none.
 
 Examples:
     quota_cli rquotad --calls 1000 --port 8750 \\
@@ -197,7 +202,7 @@ whose status is not 0 ends the script, and this is its status.
 
 It has no options. Commands that read standard input need --input there.
 
-The formats are those of its commands: vfsold, vfsv0 and vfsv1.
+The formats are those of its commands: vfsold, vfsold32, vfsv0 and vfsv1.
 
 Examples:
     quota_cli script <commands
