@@ -7,7 +7,7 @@ maker=make_tree_file.py
 . "$(dirname "${BASH_SOURCE[0]}")/measure.sh"
 mv q vfsv1
 "$top/bin/quota_cli" convertquota -f vfsv1,vfsv0 vfsv1 vfsv0
-"$program" convertquota -f vfsv1,vfsold vfsv1 vfsold
+for new in vfsold vfsold32; do "$program" convertquota -f "vfsv1,$new" vfsv1 "$new"; done
 
 # kib FILE: its size.
 kib() {
@@ -17,8 +17,8 @@ kib() {
 converted vfsv0,vfsv1 vfsv0
 cmp <("$program" repquota -v -p vfsv0 | tail -n +2) <("$program" repquota -v -p new | tail -n +2) || echo "the reports differ"
 conversion_beside_copy vfsv0,vfsv1 vfsv0
-for old in vfsold vfsv0 vfsv1; do
-    for new in vfsold vfsv0 vfsv1; do
+for old in vfsold vfsold32 vfsv0 vfsv1; do
+    for new in vfsold vfsold32 vfsv0 vfsv1; do
         rm -f new
         held=$(held "$program" convertquota -f "$old,$new" "$old" new)
         echo "memory from $old to $new: at most $held KiB, both files and 64 bytes a user $(($(kib "$old") + $(kib new) + 62500)) KiB"

@@ -7,14 +7,14 @@
 # It prints what the cases came to, the worst memory and time, and how long it took, and ends with status 1 where a case failed.
 # What failed is kept in a folder that it names. Each run is traced for what it takes, which the system has to allow (ptrace(2)).
 #
-# A file is a sound one of vfsold, vfsv0 or vfsv1, of users, groups or, but for vfsold, projects, with one to four changes: of a
-# word, a reference, a link of a list, a count, an identifier, a value or the header, two references or identifiers exchanged,
-# or another length. Its sound ones are 96, of up to some tens of identifiers, in several data blocks and tree blocks, some with
-# free blocks. The file is reported (`repquota -v -n -p`), edited (`setquota`: new limits of an identifier, known or new, or
-# none) and reported again, as a script of three lines, or, about each eighth one, by three runs. About each sixth one has an
-# undo file beside it, with an open gate, which saves what the sound file has in the blocks that are others now; most of these
-# are changed too, in their gate, head, ranges or length. Then the file is what a recovery by that makes of it, from the first
-# run on (`edit_journal/specs/Undo.antt`).
+# A file is a sound one of vfsold, vfsold32, vfsv0 or vfsv1, of users, groups or, but for flat ones, projects, with one to four
+# changes: of a word, a reference, a link of a list, a count, an identifier, a value or the header, two references or
+# identifiers exchanged, or another length. Its sound ones are 96, of up to some tens of identifiers, in several data blocks and
+# tree blocks, some with free blocks. The file is reported (`repquota -v -n -p`), edited (`setquota`: new limits of an
+# identifier, known or new, or none) and reported again, as a script of three lines, or, about each eighth one, by three runs.
+# About each sixth one has an undo file beside it, with an open gate, which saves what the sound file has in the blocks that are
+# others now; most of these are changed too, in their gate, head, ranges or length. Then the file is what a recovery by that
+# makes of it, from the first run on (`edit_journal/specs/Undo.antt`).
 # - No run is ended by a signal or takes ten seconds. None takes more memory than such runs take at most on the sound file from
 #   which it was made, but for a page of the heap (4 KiB) and the place at which the system begins a stack (8 KiB). That is the
 #   memory that the program asks for; which pages of its file and of the C library are in memory besides is left to the system.

@@ -15,12 +15,11 @@ import time
 
 from bulk import try_all
 from draws import Draws
-from hostile_files import SOUND_CASES, Sound, kinds_of
-from plain_reader import Record, Tree, flat_value
+from hostile_files import FORMATS, SOUND_CASES, Sound, kinds_of
+from plain_reader import FLAT, Record, Tree, flat_value
 from runner import STACK, Runner, Wrong, beyond, want
 from serve_client import PROGRAM, call, connected, credential, opaque, units
 
-FORMATS = ("vfsold", "vfsv0", "vfsv1")
 # What is exported, and under which paths. Flat files are none of projects.
 EXPORTS = (
     ("/home", "user"),
@@ -235,11 +234,11 @@ class Served:
                 continue
             sound = Sound(Draws(seed, SOUND_CASES + 2**20 + at + 8 * FORMATS.index(form)), form, kind)
             runner.write("q%d" % at, sound.data)
-            value = flat_value(sound.data, kind) if form == "vfsold" else Tree(sound.data, kind, form).value()
+            value = flat_value(sound.data, kind, form) if form in FLAT else Tree(sound.data, kind, form).value()
             self.values[path.encode(), kind] = value
             self.words += ["--export", path, kind, "q%d" % at]
             self.known += sound.ids
-        if form == "vfsold" or seed % 2:
+        if form in FLAT or seed % 2:
             self.words += ["--format", form]
 
 
@@ -343,7 +342,7 @@ def shard_of(program, seed, folder, form):
     if form not in shards:
         shard = Shard(program, seed, folder, form)
         first = FORMATS.index(form)
-        shard.taken = shard.serve([number for number in range(first, 3 * EACH * 1000, 3) if is_sound(number)])
+        shard.taken = shard.serve([number for number in range(first, len(FORMATS) * EACH * 1000, len(FORMATS)) if is_sound(number)])
         shards[form] = shard
     return shards[form]
 

@@ -30,6 +30,7 @@ SPANS = 12
 CASES_AT_ONCE = 200
 # The kinds of files, each with its option. Flat files are none of projects.
 LETTERS = {"user": "-u", "group": "-g", "project": "-P"}
+FORMATS = (*FLAT, *(form for form, _, _ in VERSIONS))
 
 
 # ---- Sound files
@@ -37,7 +38,7 @@ LETTERS = {"user": "-u", "group": "-g", "project": "-P"}
 
 def kinds_of(form):
     """The kinds of which there are files of a format."""
-    return [kind for kind in MAGIC if form != "vfsold" or kind != "project"]
+    return [kind for kind in MAGIC if form not in FLAT or kind != "project"]
 
 
 class Sound:
@@ -46,7 +47,7 @@ class Sound:
     def __init__(self, draws, form, kind=None):
         self.kind, self.form = kind or draws.of(kinds_of(form)), form
         self.places = collections.defaultdict(list)
-        if form == "vfsold":
+        if form in FLAT:
             self.ids = sorted({draws.below(600) for _ in range(draws.below(50))})
             self.make_flat(draws)
         else:
@@ -54,11 +55,12 @@ class Sound:
             self.make_tree(draws)
 
     def make_flat(self, draws):
-        self.data = bytearray(FLAT.size * (max(self.ids, default=-1) + 1 + draws.below(3)))
+        flat = FLAT[self.form]
+        self.data = bytearray(flat.size * (max(self.ids, default=-1) + 1 + draws.below(3)))
         for id in self.ids:
             ihard, isoft, inodes, bhard, bsoft, space, btime, itime = drawn_numbers(draws, self.form)
-            FLAT.pack_into(self.data, FLAT.size * id, bhard, bsoft, space // 1024, ihard, isoft, inodes, btime, itime)
-            self.places["value"] += range(FLAT.size * id, FLAT.size * (id + 1), 4)
+            flat.pack_into(self.data, flat.size * id, bhard, bsoft, space // 1024, ihard, isoft, inodes, btime, itime)
+            self.places["value"] += range(flat.size * id, flat.size * (id + 1), 4)
 
     def make_tree(self, draws):
         version = int(self.form == "vfsv1")
@@ -145,7 +147,8 @@ def drawn_numbers(draws, form):
     if draws.once_in(20):
         return (0,) * 8
     if draws.once_in(20):
-        bits = (64,) * 8 if form == "vfsv1" else (32,) * 5 + (42 if form == "vfsold" else 64, 64, 64)
+        times = 32 if form == "vfsold32" else 64
+        bits = (64,) * 8 if form == "vfsv1" else (32,) * 5 + (42 if form in FLAT else 64, times, times)
         return tuple(draws.of((2**most - 1, draws.below(2**most), draws.below(99))) for most in bits)
     bsoft, isoft = draws.of((0, 100, draws.below(5000))), draws.of((0, 10, draws.below(500)))
     space, inodes = draws.below(3000 * 1024), draws.below(300)
@@ -218,7 +221,7 @@ def exchange(draws, data, places):
 def change(draws, sound, data):
     """One change of a file."""
     kinds = ["word", "length", "value", "value", *sound.places]
-    if sound.form != "vfsold":
+    if sound.form not in FLAT:
         kinds += ["header", "link", "id", "exchange", "exchange ids"]
     kind = draws.of(kinds)
     if kind == "length":
@@ -299,11 +302,11 @@ class Case:
                 self.undo = changed_undo(draws, self.undo, len(self.given))
         self.data = self.given if self.undo is None else recovered(self.given, self.undo)
         # No format is asked for, or that of the sound file.
-        self.asked = sound.form if sound.form == "vfsold" or draws.once_in(2) else None
+        self.asked = sound.form if sound.form in FLAT or draws.once_in(2) else None
         self.alone = draws.once_in(8)
         known = sound.ids or [7]
         near = draws.of(known) + draws.below(300)
-        ids = (draws.of(known), draws.of(known), near, draws.below(2**32) if sound.form != "vfsold" else near)
+        ids = (draws.of(known), draws.of(known), near, draws.below(2**32) if sound.form not in FLAT else near)
         self.id = draws.of(ids) % 2**32
         self.limits = drawn_limits(draws)
 
@@ -344,7 +347,7 @@ def edited(value, id, limits, now):
         runs = getattr(new, timer)
         setattr(new, timer, (runs or now + grace) if is_exceeded(soft, used) else 0)
     refuse_unfit(value.form, id, new)
-    if value.form == "vfsold" and id == 0:
+    if value.form in FLAT and id == 0:
         new.btime = new.itime = 0
     records = dict(value.records)
     records.pop(id, None)
@@ -355,9 +358,11 @@ def edited(value, id, limits, now):
 
 def refuse_unfit(form, id, record):
     """Refuses the first value for which the format has no room."""
-    if form == "vfsold" and id > 1_048_575:
+    if form in FLAT and id > 1_048_575:
         raise Refused("no room for id %d of %d" % (id, id))
     bits = {"ihard": 32, "isoft": 32, "inodes": 32, "bhard": 32, "bsoft": 32} if form != "vfsv1" else {}
+    if form == "vfsold32":
+        bits.update(btime=32, itime=32)
     for field in ("ihard", "isoft", "inodes", "bhard", "bsoft", "btime", "itime"):
         number = getattr(record, field)
         if number >> bits.get(field, 64):
@@ -393,8 +398,8 @@ def report_of(value):
 
 def read_value(case, data):
     """What a file stands for as the case asks for it, or a refusal; the tree file too, where it is one."""
-    if case.form == "vfsold":
-        return flat_value(data, case.kind), None
+    if case.form in FLAT:
+        return flat_value(data, case.kind, case.form), None
     tree = Tree(data, case.kind, case.asked)
     try:
         return tree.value(), tree
@@ -476,7 +481,7 @@ class Judge:
     def __init__(self, program, seed, folder, kept):
         self.seed, self.kept = seed, kept
         self.runner = Runner(program, folder)
-        self.sound = [Sound(Draws(seed, SOUND_CASES + at), ("vfsold", "vfsv0", "vfsv1")[at % 3]) for at in range(SOUND)]
+        self.sound = [Sound(Draws(seed, SOUND_CASES + at), FORMATS[at % len(FORMATS)]) for at in range(SOUND)]
         self.taken = [self.taken_on(at) for at in range(SOUND)]
         self.counts, self.failed, self.most = collections.Counter(), [], (0, 0, 0, 0)
 

@@ -1,7 +1,7 @@
 #!/usr/bin/env python3
-"""Makes samples/aquota.user and samples/quota.user: the same handful of users in a tree file (vfsv1) and in a flat file
-(vfsold); and samples/aquota.project, some projects in a tree file, with a file of their names, projid, and the listing of
-which their use is the sum, projects.listing.
+"""Makes samples/aquota.user, samples/quota.user and samples/quota.user32: the same handful of users in a tree file (vfsv1) and
+in a flat file of each layout (vfsold and vfsold32); and samples/aquota.project, some projects in a tree file, with a file of their
+names, projid, and the listing of which their use is the sum, projects.listing.
 
 The layouts are in docs/FORMATS.md. Every grace period that runs is over, so the report of each file is the same on every day.
 """
@@ -58,12 +58,14 @@ PROJECTS = {
 }
 
 
-def flat_file(records_of):
-    """A record of 40 bytes for each identifier; the times of record 0 are the grace periods of the file."""
-    records = bytearray(40 * (max(records_of) + 1))
+def flat_file(records_of, time):
+    """A record for each identifier, `struct v1_disk_dqblk`, whose two times are of this type: `Q` as 64-bit x86 writes them, in
+    records of 40 bytes, or `I` as 32-bit x86 does, in records of 32. The times of record 0 are the grace periods of the file."""
+    size = struct.calcsize(f"<6I2{time}")
+    records = bytearray(size * (max(records_of) + 1))
     for number, numbers in records_of.items():
-        struct.pack_into("<6I2Q", records, 40 * number, *numbers)
-    struct.pack_into("<2Q", records, 24, *GRACE)
+        struct.pack_into(f"<6I2{time}", records, size * number, *numbers)
+    struct.pack_into(f"<2{time}", records, 24, *GRACE)
     return records
 
 
@@ -111,7 +113,8 @@ def text(lines):
 folder = os.path.dirname(os.path.abspath(__file__))
 for name, contents in (
     ("aquota.user", tree_file("user", USERS)),
-    ("quota.user", flat_file(USERS)),
+    ("quota.user", flat_file(USERS, "Q")),
+    ("quota.user32", flat_file(USERS, "I")),
     ("aquota.project", tree_file("project", projects())),
     ("projid", text(["# names of projects"] + [f"{name}:{number}" for number, (name, _) in PROJECTS.items() if name])),
     ("projects.listing", text(" ".join(map(str, line)) for line in LISTING)),

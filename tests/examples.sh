@@ -7,7 +7,7 @@
 # What cannot be run as it stands is run with these changes:
 # - /home, /root, /etc/passwd, /etc/group and /etc/projid are folders and files of this test. In /home are quota files of users, of
 #   groups and of projects, in each of which alice has limits. A display of COMMANDS is run for groups, for projects, and with flat
-#   files, too, as that page says.
+#   files of both layouts, too, as that page says.
 # - quotaoff, quotaon, mount, systemctl, lsattr and `editor` are stand-ins, which look at their words, and mail is one that keeps
 #   them.
 # - A recipe, which begins with quotaoff, is run once more with each of its commands failing.
@@ -215,7 +215,7 @@ own='quota 1024 1 2048 1024 4 4 3 1 0 0'
 # prepare KIND: makes the place anew for the text at hand: for users, groups or projects, with the file in the format from which
 # it converts, or flat.
 prepare() {
-    local kind=${1/flat/user} file
+    local kind=${1/flat*/user} file
     rm -rf "$place"
     cp -rp ready "$place"
     mkdir "$place/root"
@@ -224,8 +224,10 @@ prepare() {
     if [[ $text == *'--input /root/listing'* ]]; then echo '1000 1000 1 1 8' >"$place/root/listing"; fi
     if [[ $text == *'<commands'* ]]; then echo "repquota -u $file" >"$place/commands"; fi
     case "$1 $text" in
+        flat32*) as vfsold32 "$file" && options+=(-F vfsold32) ;;
         flat*) as vfsold "$file" && options+=(-F vfsold) ;;
         *vfsv0,vfsv1*) as vfsv0 "$file" ;;
+        *vfsold32,*) as vfsold32 "$file" && mv "$file" "${file/aquota/quota}" ;;
         *vfsold,*) as vfsold "$file" && mv "$file" "${file/aquota/quota}" ;;
     esac
     if [[ $text == *'--input form'* ]]; then
@@ -246,6 +248,7 @@ placed() {
         -e 's/\<NAME\>/1000/; s/\<PROTO\>/1001/; s/\<[BI](GRACE|TIME)\>/604800/g' <<<"$text" |
         case $1 in
             group | project) sed -E "s/ -u / ${letter_of[$1]} /g; s/passwd/${names_of[$1]}/g; s/\<(a?quota)\.user/\1.$1/g" ;;
+            flat32) sed '/quotao/!s/ -u / -u -F vfsold32 /g' ;;
             flat) sed '/quotao/!s/ -u / -u -F vfsold /g' ;;
             *) cat ;;
         esac |
@@ -259,8 +262,8 @@ placed() {
 # writes numbers alone, where it is none of the program.
 carried_out() {
     local kinds=user kind flags=-uo status limits='1024 2048 3 4'
-    if [[ $document == docs/COMMANDS.md && $text == *quota_cli* ]]; then kinds='user group project flat'; fi
-    if [[ $text == *convertquota* ]]; then kinds=${kinds% flat}; fi
+    if [[ $document == docs/COMMANDS.md && $text == *quota_cli* ]]; then kinds='user group project flat flat32'; fi
+    if [[ $text == *convertquota* ]]; then kinds=${kinds% flat flat32}; fi
     if [[ $text == *vfsold* ]]; then kinds=${kinds/ project/}; fi
     if [[ $text == *' -P '* ]]; then kinds=project; fi
     if [ "$unit_kind" = display ] && [[ $text != 'while read '* ]]; then flags=-euo; fi
@@ -283,7 +286,7 @@ carried_out() {
             cat ended_badly
             grep -vxE 'quota: (block|inode) time not set, soft limit not exceeded' faults || true
             if [ "$status" != 0 ]; then echo "status $status"; fi
-            quota_cli repquota -v "${options[@]}" "$place/home/aquota.${kind/flat/user}" 2>&1 |
+            quota_cli repquota -v "${options[@]}" "$place/home/aquota.${kind/flat*/user}" 2>&1 |
                 awk '$1 == "alice" { print $4, $5, $8, $9 }'
         } >got
         echo "$limits" >>wanted
@@ -804,7 +807,8 @@ said() {
     quota_cli repquota none
     truncate -s 41943080 large
     quota_cli repquota -F vfsold large
-    seq 1048576 | awk '{ print $1 * 256 - 1, 0, 1, $1, 8 }' | quota_cli quotacheck -c made
+    # (4,194,304 users in as many tree blocks, which are too many with the header and what is above and below them)
+    seq 4194304 | awk '{ print $1 * 256 - 1, 0, 1, $1, 8 }' | quota_cli quotacheck -c made
     quota_cli convertquota -f vfsv1,vfsv0 q q
     quota_cli setquota bob 0 0 0 0 q
     quota_cli setquota 1000 x 0 0 0 q

@@ -52,7 +52,7 @@ installed() {
         share/doc/quota-cli/examples/{make_quota_files,serve_client}.py
     printf '644 ./lib/systemd/system/%s\n' quota_cli-recover.service quota_cli-rquotad@.service \
         {quotaon,systemd-quotacheck}@.service.d/quota_cli-recover.conf
-    printf '644 ./share/doc/quota-cli/%s\n' examples/{aquota.user,quota.user,aquota.project,projid,projects.listing} \
+    printf '644 ./share/doc/quota-cli/%s\n' examples/{aquota.user,quota.user,quota.user32,aquota.project,projid,projects.listing} \
         {CHANGELOG,COMING_FROM_QUOTA_TOOLS,COMMANDS,FORMATS,PROMISES,README}.md.gz
     for name in "${names[@]}"; do
         echo "755 ./${folder_of[$name]}/$name"
@@ -335,7 +335,11 @@ fi
 formats=$("$top/bin/quota_cli" --version | sed 's/.*(//; s/).*//; s/,//g')
 same 'the formats for bash' "$(completed quota_cli repquota -F '' | tr '\n' ' ')" "$formats "
 same 'the formats for bash behind =' "$(completed quota_cli rquotad --format = vfsv | tr '\n' ' ')" 'vfsv0 vfsv1 '
-same 'pairs of formats for bash' "$(completed quota_cli convertquota -f vfsv0, | tr '\n' ' ')" 'vfsv0,vfsold vfsv0,vfsv0 vfsv0,vfsv1 '
+same 'pairs of formats for bash' "$(completed quota_cli convertquota -f vfsv0, | tr '\n' ' ')" \
+    'vfsv0,vfsold vfsv0,vfsold32 vfsv0,vfsv0 vfsv0,vfsv1 '
+same 'the formats of projects for bash' "$(completed quota_cli setquota -P -F '' | tr '\n' ' ')" 'vfsv0 vfsv1 '
+same 'pairs of formats of projects for bash' "$(completed quota_cli convertquota -P -f vfs | tr '\n' ' ')" \
+    'vfsv0,vfsv0 vfsv0,vfsv1 vfsv1,vfsv0 vfsv1,vfsv1 '
 same 'the kinds for bash' "$(completed quota_cli rquotad --export /home '' | tr '\n' ' ')" 'group project user '
 mkdir files
 touch files/aquota.user files/aquota.group
@@ -365,6 +369,16 @@ if command -v zsh >/dev/null; then
         typeset -A opt_args=(--names names)
         _quota_cli_names
         _quota_cli_files' | tr '\n' ' ')" 'alice DOM\al bob aquota.group aquota.user names dir.new '
+    same 'the formats of users, of projects, and pairs of the latter, for zsh' "$(TOP=$top zsh -f -c '
+        _describe() {}
+        compadd() { print -rl -- ${(P)2}; }
+        CURRENT=2
+        . $TOP/docs/completions/_quota_cli
+        typeset -A opt_args=(-u "")
+        _quota_cli_formats
+        opt_args=(-P "")
+        _quota_cli_formats
+        _quota_cli_formats pairs' | tr '\n' ' ')" "$formats vfsv0 vfsv1 vfsv0,vfsv0 vfsv0,vfsv1 vfsv1,vfsv0 vfsv1,vfsv1 "
     for it in $(commands_of quota_cli); do
         same "--help behind $it, and behind $it -u, for zsh" "$(for at in 3 4; do
             AT=$at IT=$it TOP=$top zsh -f -c '
@@ -377,6 +391,7 @@ if command -v zsh >/dev/null; then
 fi
 same '--help behind each command for zsh' "$(grep -cE '\<_arguments (-s )?[$]help\>' "$top/docs/completions/_quota_cli")" \
     "$(commands_of quota_cli | wc -l)"
-same 'the formats for zsh' "$(grep -c "formats='($formats)'" "$top/docs/completions/_quota_cli")" 1
+same 'the formats for zsh' "$(grep -c "formats=($formats)" "$top/docs/completions/_quota_cli")" 1
+same 'options whose value is a format, for zsh' "$(grep -c ': _quota_cli_formats' "$top/docs/completions/_quota_cli")" 6
 if [ "$failed" = 0 ]; then echo 'install: what is installed works, and is taken away whole'; fi
 exit "$failed"

@@ -3,13 +3,14 @@ whether a damage that is told of it holds."""
 import struct
 
 BLOCK = 1024
-MOST_BLOCKS = 1_048_576
-MOST_FLAT_BYTES = 41_943_040
+MOST_BLOCKS = 4_194_304
+MOST_FLAT_RECORDS = 1_048_576
 WEEK = 604_800
 MAGIC = {"user": 0xD9C01F11, "group": 0xD9C01927, "project": 0xD9C03F14}
 # Of each version of a tree file: its format, an entry, and how many a data block has.
 VERSIONS = [("vfsv0", struct.Struct("<6I3Q"), 21), ("vfsv1", struct.Struct("<2I8Q"), 14)]
-FLAT = struct.Struct("<6I2Q")
+# Of each format of a flat file: a record.
+FLAT = {"vfsold": struct.Struct("<6I2Q"), "vfsold32": struct.Struct("<8I")}
 FIELDS = ("ihard", "isoft", "inodes", "bhard", "bsoft", "space", "btime", "itime")
 
 
@@ -52,20 +53,21 @@ class Value:
         self.kind, self.form, self.grace, self.records = kind, form, grace, records
 
 
-def flat_value(data, kind):
-    """What a flat file stands for."""
-    if len(data) > MOST_FLAT_BYTES:
+def flat_value(data, kind, form):
+    """What a flat file of a format stands for."""
+    flat = FLAT[form]
+    if len(data) > MOST_FLAT_RECORDS * flat.size:
         raise Refused("too large")
-    if len(data) % FLAT.size:
-        raise Refused("damaged: PartialRecord at record %d" % (len(data) // FLAT.size))
+    if len(data) % flat.size:
+        raise Refused("damaged: PartialRecord at record %d" % (len(data) // flat.size))
     records, grace = {}, (WEEK, WEEK)
-    for id, (bhard, bsoft, kib, ihard, isoft, inodes, btime, itime) in enumerate(FLAT.iter_unpack(data)):
+    for id, (bhard, bsoft, kib, ihard, isoft, inodes, btime, itime) in enumerate(flat.iter_unpack(data)):
         if id == 0:
             grace, btime, itime = (btime or WEEK, itime or WEEK), 0, 0
         numbers = (ihard, isoft, inodes, bhard, bsoft, kib * 1024, btime, itime)
         if any(numbers):
             records[id] = Record(*numbers)
-    return Value(kind, "vfsold", grace, records)
+    return Value(kind, form, grace, records)
 
 
 class Tree:

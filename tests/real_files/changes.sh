@@ -49,26 +49,33 @@ expect 'a listing that is none' 1 '' 'quota: quota.user: long line 1' quotacheck
 expect 'a listing that is absent' 1 '' 'quota: r: no such file' quotacheck -u --input r made
 expect 'a listing that is a folder' 4 '' 'quota: store fault' quotacheck -u --input . made
 expect 'a check of an absent file' 1 '' 'quota: r: no such file' quotacheck -u r </dev/null
-expect 'no room in a flat file' 1 '' 'quota: made: no room for id 1048576 of 1048576' quotacheck -c -F vfsold made <<<'1048576 0 1 1 8'
-seq 1048576 | awk '{ print $1 * 256 - 1, 0, 1, $1, 8 }' >spread
-expect 'more blocks than a tree file may have' 1 '' 'quota: made: full: 1127589 blocks of 1048576' quotacheck -c -u --input spread made
+for format in vfsold vfsold32; do
+    expect "no room in a file of $format" 1 '' 'quota: made: no room for id 1048576 of 1048576' \
+        quotacheck -c -F "$format" made <<<'1048576 0 1 1 8'
+done
+# Each of these users takes a tree block of the lowest level alone, above which are 16,384, 64 and the root; with 299,594 data blocks
+# and the header they are 4,510,348.
+# shellcheck disable=SC2034
+patience=100
+expect 'more blocks than a tree file may have' 1 '' 'quota: made: full: 4510348 blocks of 4194304' quotacheck -c -u made \
+    < <(seq 4194304 | awk '{ print $1 * 256 - 1, 0, 1, $1, 8 }')
+patience=10
 same 'refused listings leave the file' "$(cmp made want && echo same)" same
 same 'nothing is left beside it' "$(echo *.new)" ''
-rm spread
 
 # A file is converted into each other format and back: the reports are the same but for their first line, which has the
 # name. The source stays, no file is written over, and a refusal makes none.
 rm -f q r ./*.undo
 expect 'a file to convert' 0 '' '' quotacheck -c -F vfsv0 q <<<$'1000 100 2049 12 9\n70000 100 2049 13 8'
 expect 'its limits' 0 '' '' setquota 1000 2 4294967295 3 4294967295 q
-"$run" repquota -v q >shown
+"$run" repquota -v -p q >shown
 cp q want
 from=q
-for pair in vfsv0,vfsv1 vfsv1,vfsold vfsold,vfsv0 vfsv0,vfsv0; do
+for pair in vfsv0,vfsv1 vfsv1,vfsold vfsold,vfsold32 vfsold32,vfsold vfsold,vfsv0 vfsv0,vfsv0 vfsv0,vfsold32 vfsold32,vfsv1; do
     to=${pair#*,}.converted
     rm -f "$to"
     expect "a conversion $pair" 0 '' '' convertquota -f "$pair" "$from" "$to"
-    same "the report after $pair" "$("$run" repquota -v -F "${pair#*,}" "$to" | tail -n +2)" "$(tail -n +2 shown)"
+    same "the report after $pair" "$("$run" repquota -v -p -F "${pair#*,}" "$to" | tail -n +2)" "$(tail -n +2 shown)"
     same "the file after $pair is for its owner alone" "$(stat -c %a "$to")" 600
     if [ "$pair" != vfsold,vfsv0 ]; then from=$to; else mv "$to" back; from=back; fi
 done
@@ -81,11 +88,24 @@ expect 'a conversion from another format' 3 '' 'quota: q: other format' convertq
 expect 'no room in a flat file for an identifier' 1 '' 'quota: q: no room for id 4294967295 of 4294967295' convertquota -f vfsv0,vfsold q r
 expect 'a conversion into a folder that is absent' 4 '' 'quota: store fault' convertquota -f vfsv0,vfsv1 q absent/r
 same 'refused conversions make no file' "$(echo r* absent*)" ''
+# Identifier 1000 is over its soft limit of blocks, up to the last second of 32 bits, and then up to the one behind it.
+{ head -c 40004 /dev/zero; printf '\1\0\0\0\2'; head -c 15 /dev/zero; printf '\377\377\377\377'; head -c 12 /dev/zero; } >late
+expect 'a timer of 32 bits' 0 '' '' convertquota -f vfsold,vfsold32 late flat32
+same 'its report' "$("$run" repquota -p -F vfsold32 flat32 | sed 1,4d)" \
+    '#1000        +-          2          1          0 4294967295        0        0        0      0'
+expect 'it is converted back' 0 '' '' convertquota -f vfsold32,vfsold flat32 flat
+same 'that is the same file but for its periods' "$(tail -c +41 flat | cmp - <(tail -c +41 late) && echo same)" same
+{ head -c 40024 late; printf '\0\0\0\0\1'; head -c 11 /dev/zero; } >later
+expect 'no room for a timer' 1 '' 'quota: later: no room for btime 4294967296 of 1000' convertquota -f vfsold,vfsold32 later r
+rm flat flat32 late later
+same 'no file is made where there is no room' "$(echo r*)" ''
 expect 'the last identifier of a flat file' 0 '' '' quotacheck -c r <<<'1048575 0 1 1 8'
-expect 'its conversion' 0 '' '' convertquota -f vfsv1,vfsold r flat
-same 'the size of that file' "$(stat -c %s flat)" 41943040
+for row in 'vfsold 41943040' 'vfsold32 33554432'; do
+    expect "its conversion to ${row% *}" 0 '' '' convertquota -f "vfsv1,${row% *}" r "flat.${row% *}"
+    same "the size of that file of ${row% *}" "$(stat -c %s "flat.${row% *}")" "${row#* }"
+done
 same 'nothing is left beside the files' "$(echo *.new)" ''
-rm -f q r back flat shown want ./*.converted ./*.undo
+rm -f q r back flat.* shown want ./*.converted ./*.undo
 
 # The owner and the permissions stay, and a file that was left behind is not in the way.
 : >q

@@ -27,8 +27,9 @@ helped() {
     same "the examples $of" "$(sed -n '/^Examples:$/,/^$/s/^    //p' help.txt)" "$5"
     same "the last line $of" "$(tail -n 1 help.txt)" "The manual page is the reference: man ${6-quota_cli-$1}."
 }
-any='FORMAT is vfsold, vfsv0 or vfsv1. Without -F the file says which of the last
-two it has; a flat file needs -F vfsold, and projects have none.'
+any='FORMAT is vfsold, vfsold32, vfsv0 or vfsv1. Without -F the file says which of
+the last two it has; a flat file needs -F vfsold, or -F vfsold32 where its
+records have 32 bytes, and projects have none.'
 helped repquota 'Usage: quota_cli repquota [-u|-g|-P] [-v] [-n] [-p] [-F FORMAT] [--names FILE]
                           FILE' '-u, -g, -P;-v;-n;-p;-F FORMAT;--names FILE' "$any" \
     'quota_cli repquota -u --names /etc/passwd /home/aquota.user
@@ -59,29 +60,31 @@ quota_cli edquota --apply -u --names /etc/passwd --input form alice \
     /home/aquota.user'
 helped quotacheck 'Usage: quota_cli quotacheck [-u|-g|-P] [-c] [-F FORMAT] [--device NUMBER]
                             [--input FILE] FILE' '-u, -g, -P;-c;-F FORMAT;--device NUMBER;--input FILE' \
-    'FORMAT is vfsold, vfsv0 or vfsv1. Without -F the file says which of the last
-two it has, and a new one is vfsv1; a flat file needs -F vfsold, and projects
-have none.' \
+    'FORMAT is vfsold, vfsold32, vfsv0 or vfsv1. Without -F the file says which of
+the last two it has, and a new one is vfsv1; a flat file needs -F vfsold, or
+-F vfsold32 where its records have 32 bytes, and projects have none.' \
     "find /home -xdev ! -path /home/aquota.user ! -path /home/aquota.group \\
     -printf '%U %G %D %i %b\\n' >/root/listing &&
     quota_cli quotacheck -u --device \"\$(stat -c %d /home)\" \\
         --input /root/listing /home/aquota.user
 quota_cli quotacheck -c -g --input /root/listing /home/aquota.group"
 helped convertquota 'Usage: quota_cli convertquota [-u|-g|-P] -f OLD,NEW SOURCE TARGET' '-u, -g, -P;-f OLD,NEW' \
-    'OLD and NEW are vfsold, vfsv0 or vfsv1; projects have no vfsold.' 'quota_cli convertquota -u -f vfsv0,vfsv1 /home/aquota.user \
+    'OLD and NEW are vfsold, vfsold32, vfsv0 or vfsv1; projects have neither of the
+first two, which are flat: with records of 40 bytes, and of 32.' 'quota_cli convertquota -u -f vfsv0,vfsv1 /home/aquota.user \
     /home/aquota.user.vfsv1
 quota_cli convertquota -u -f vfsold,vfsv1 /home/quota.user \
     /home/aquota.user'
 helped rquotad 'Usage: quota_cli rquotad [--format FORMAT] --calls NUMBER --port NUMBER
                          (--export PATH KIND FILE)...' \
     '--format FORMAT;--calls NUMBER;--port NUMBER;--export PATH KIND FILE' \
-    'FORMAT is vfsold, vfsv0 or vfsv1. Without --format each file says which of the
-last two it has; flat files need --format vfsold, and projects have none.' 'quota_cli rquotad --calls 1000 --port 8750 \
+    'FORMAT is vfsold, vfsold32, vfsv0 or vfsv1. Without --format each file says
+which of the last two it has; flat files need --format vfsold, or
+--format vfsold32 where their records have 32 bytes, and projects have none.' 'quota_cli rquotad --calls 1000 --port 8750 \
     --export /home user /home/aquota.user
 quota_cli rquotad --calls 1000 --port 8750 \
     --export /home user /home/aquota.user \
     --export /home group /home/aquota.group'
-helped script 'Usage: quota_cli script' '' 'The formats are those of its commands: vfsold, vfsv0 and vfsv1.' \
+helped script 'Usage: quota_cli script' '' 'The formats are those of its commands: vfsold, vfsold32, vfsv0 and vfsv1.' \
     "quota_cli script <commands
 echo 'repquota -u --names /etc/passwd /home/aquota.user' | quota_cli script" quota_cli
 helped generate 'Usage: quota_cli generate SEED COUNT FILE' '' 'The format of FILE is vfsv1.' \

@@ -47,7 +47,7 @@ one_change() {
 if command -v python3 >/dev/null && [ "$(uname -m)" = x86_64 ]; then
     # Each kind of change, stopped before each call of the system that changes files or waits for them, and each recovery
     # behind it.
-    for format in vfsold vfsv0 vfsv1; do
+    for format in vfsold vfsold32 vfsv0 vfsv1; do
         rm -f q q.*
         seq 1000 1029 | awk '{ print $1, 100, 1, $1, 8 }' >owners
         "$program" quotacheck -c -F "$format" --input owners q

@@ -12,6 +12,15 @@ expect 'the report after new limits' 0 "$head
 #1000        --          0        100        200      -        0       10       20      -" '' repquota -F vfsold -u -v q
 expect 'limits of 0 drop the record' 0 '' '' setquota -F vfsold -u 1000 0 0 0 0 q
 expect 'the report after that' 0 "$head" '' repquota -F vfsold -u -v q
+: >short
+expect 'new limits in a record of 32 bytes' 0 '' '' setquota -F vfsold32 -u 1000 100 200 10 20 short
+same 'the length of that file' "$(stat -c %s short)" 32032
+same 'its record' "$(tail -c 32 short | od -An -v -tx1 | tr -d ' \n')" \
+    "c80000006400000000000000140000000a000000$(printf '%024d' 0)"
+same 'all else in it is 0' "$(head -c 32000 short | tr -d '\0' | wc -c)" 0
+expect 'its report' 0 "${head/on q/on short}
+#1000        --          0        100        200      -        0       10       20      -" '' repquota -F vfsold32 -u -v short
+rm short short.undo
 same 'the undo file alone is left beside the file' "$(echo q.*)" q.undo
 
 # A user whose use exceeds the new soft limit gets a timer, which ends a grace period from now, by the system's clock.
@@ -23,6 +32,30 @@ same 'its report' "$(sed -n '/^#1004 /p' out.txt)" \
     '#1004        +-    7340032       1024          0  7days   310552        0        0      -'
 timer=$("$run" repquota -F vfsold -u -v -p quota.user | awk '/^#1004 / { print $6 }')
 same 'its timer is a week from now' "$(((timer >= from + 604800 && timer <= to + 604800)))" 1
+
+# The same in records of 32 bytes, whose periods and timers are below 2^32. A timer that would end later is refused, the one of
+# blocks before the one of inodes, and leaves the file.
+cp "$top/samples/quota.user32" short
+from=$(date +%s)
+expect 'a limit below the use, in 32 bits' 0 '' '' setquota -F vfsold32 -u 1004 1M 0 0 0 short
+to=$(date +%s)
+timer=$("$run" repquota -F vfsold32 -u -v -p short | awk '/^#1004 / { print $6 }')
+same 'its timer of 32 bits is a week from now' "$((timer >= from + 604800 && timer <= to + 604800))" 1
+for seconds in 0 4294967296; do
+    expect "a period of $seconds seconds" 1 '' "quota: short: no room for bgrace $seconds" setquota -F vfsold32 -t "$seconds" 60 short
+done
+expect 'the longest periods' 0 '' '' setquota -F vfsold32 -t 4294967295 4294967295 short
+same 'they stand in the file' "$(head -c 32 short | tail -c 8 | od -An -v -tx1 | tr -d ' ')" ffffffffffffffff
+cp short want
+for row in 'btime 1000 1 0 1 0' 'itime 1004 1M 0 1 0'; do
+    read -r field id limits <<<"$row"
+    got=0
+    # shellcheck disable=SC2086
+    "$run" setquota -F vfsold32 "$id" $limits short 2>err.txt || got=$?
+    same "a $field beyond 32 bits" "$got $(sed -E 's/ [0-9]{10} / N /' err.txt)" "1 quota: short: no room for $field N of $id"
+done
+same 'refused timers leave the file' "$(cmp short want && echo same)" same
+rm short short.undo want
 
 # A file of names is read from the disk: a name stands for its identifier, and a report shows it.
 printf 'root:x:0:0::/:/bin/sh\nalice:x:1000:100::/:/bin/sh\nbob:x:1001:100::/:/bin/sh\n' >names
@@ -88,7 +121,7 @@ same 'they leave the file' "$(cmp q want && echo same)" same
 # Lines before one that is refused by its edit are made by a new file, where that has at most twelve pieces of 1,024 bytes for
 # each of them, one that has nothing to do among them, and else where they stand, as a line alone is. What they leave is what
 # a single change leaves.
-for format in vfsold vfsv0; do
+for format in vfsold vfsold32 vfsv0; do
     for row in '1 12' '1 13' '2 24' '2 25'; do
         read -r made pieces <<<"$row"
         what="$made lines before a refused one in $pieces pieces of $format"
@@ -96,6 +129,7 @@ for format in vfsold vfsv0; do
         "$run" quotacheck -c -F "$format" t <<<'1 100 1 1 8'
         case $format in
             vfsold) truncate -s "$((pieces * 1024 / 40 * 40))" t ;;
+            vfsold32) truncate -s "$((pieces * 1024))" t ;;
             vfsv0) truncate -s "$((pieces * 1024))" t ;;
         esac
         same "the pieces of $format" "$((($(stat -c %s t) + 1023) / 1024))" "$pieces"

@@ -7,8 +7,19 @@ usage='quota: usage: UnknownCommand at word 0'
 expect 'an empty file' 0 "$head" '' repquota -F vfsold -u -v q
 head -c 79 /dev/zero >q
 expect 'a cut record' 3 '' 'quota: q: damaged: PartialRecord at record 1' repquota -F vfsold -u -v q
+expect 'a cut record of 32 bytes' 3 '' 'quota: q: damaged: PartialRecord at record 2' repquota -F vfsold32 -u -v q
 truncate -s 41943041 q
 expect 'a file that is too large' 1 '' 'quota: q: too large' repquota -F vfsold -u -v q
+truncate -s 33554433 q
+expect 'a file of 32 bytes a record that is too large' 1 '' 'quota: q: too large' repquota -F vfsold32 -u -v q
+expect 'a file of that length, of 40 bytes a record' 3 '' 'quota: q: damaged: PartialRecord at record 838860' repquota -F vfsold -u -v q
+# Nothing in a file tells which flat layout it has: 160 bytes are four records of 40 or five of 32. Read as the other one it
+# shows other users.
+{ head -c 128 /dev/zero; printf '\0\0\0\0\7\0\0\0\2\0\0\0\0\0\0\0\0\0\0\0\1\0\0\0'; head -c 8 /dev/zero; } >q
+expect 'a file of five records' 0 "$head
+#4           --          2          7          0      -        1        0        0      -" '' repquota -F vfsold32 -u -v q
+expect 'the same file as one of four' 0 "$head
+#3           --          0          0          0      -        0        2        7      -" '' repquota -F vfsold -u -v q
 rm q
 expect 'an absent file' 1 '' 'quota: q: no such file' repquota -F vfsold -u -v q
 mkdir q
@@ -30,7 +41,7 @@ rm g
 expect 'another one of the same seed' 0 "$made" '' generate 1 100000 g
 same 'it is the same file' "$(cmp g h && echo same)" same
 rm g h
-expect 'the version' 0 'quota_cli 0.1.0 (vfsold, vfsv0, vfsv1)' '' --version
+expect 'the version' 0 'quota_cli 0.1.0 (vfsold, vfsold32, vfsv0, vfsv1)' '' --version
 same 'the help' "$("$run" --help | head -n 1)" 'Usage: quota_cli COMMAND [OPTION]... [OPERAND]...'
 "$run" --help >help.txt 2>err.txt
 same 'the help says nothing of a fault' "$(cat err.txt)" ''
@@ -58,6 +69,9 @@ User                  used       soft       hard  grace    files     soft     ha
 #1004        --    7340032          0          0      -   310552        0        0      -
 #1005        --          0     524288    1048576      -        0     8000    10000      -' \
     '' repquota -F vfsold -u -v quota.user
+cp "$top/samples/quota.user32" quota.user32
+same 'the same users in records of 32 bytes' "$("$run" repquota -F vfsold32 -u -v -p quota.user32 | tail -n +2)" \
+    "$("$run" repquota -F vfsold -u -v -p quota.user | tail -n +2)"
 
 : >q
 got=0

@@ -4,7 +4,7 @@
 # Calls over UDP: in each format, one for each kind of answer. One datagram without a reply is among them, and counts.
 expect 'an export that is not there' 1 '' 'quota: none: no such file' rquotad --calls 1 --port 0 --export /home user none
 if command -v python3 >/dev/null; then
-    for format in vfsold vfsv0 vfsv1; do
+    for format in vfsold vfsold32 vfsv0 vfsv1; do
         rm -f users members
         printf '%s\n' '1000 1000 1 1 8' >listing
         for kind in u:users g:members; do
@@ -39,8 +39,10 @@ short sent
     # Projects are told of to the superuser alone, beside the users of the same path, and never out of a flat file.
     "$run" quotacheck -c -P projects <<<'1000 7 1 1 8'
     "$run" setquota -P 7 100 200 10 20 projects
-    expect 'flat files of projects' 2 '' 'quota: usage: Excludes at word 11' \
-        rquotad --format vfsold --calls 1 --port 0 --export /home project projects
+    for format in vfsold vfsold32; do
+        expect "files of projects in $format" 2 '' 'quota: usage: Excludes at word 11' \
+            rquotad --format "$format" --calls 1 --port 0 --export /home project projects
+    done
     expect 'projects exported as groups' 3 '' 'quota: projects: wrong kind' \
         rquotad --calls 1 --port 0 --export /home group projects
     port=$("$top/tests/serve_client.py" free)

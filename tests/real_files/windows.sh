@@ -92,20 +92,37 @@ unset -f asks_few has_limits
 unset counts
 
 # The greatest identifier and the greatest use of a flat file.
-expect 'the greatest flat file' 0 '' '' quotacheck -c -F vfsold q <<<'1048575 0 1 1 8589934590'
-same 'its size' "$(stat -c %s q)" 41943040
-same 'its line' "$("$run" repquota -F vfsold q | sed 1,4d)" \
-    '#1048575     -- 4294967295          0          0      -        1        0        0      -'
-rm q
+for row in 'vfsold 41943040' 'vfsold32 33554432'; do
+    read -r format size <<<"$row"
+    expect "the greatest file of $format" 0 '' '' quotacheck -c -F "$format" q <<<'1048575 0 1 1 8589934590'
+    same "its size in $format" "$(stat -c %s q)" "$size"
+    same "its line in $format" "$("$run" repquota -F "$format" q | sed 1,4d)" \
+        '#1048575     -- 4294967295          0          0      -        1        0        0      -'
+    rm q
+done
+
+# Lines up to it: two are made in place, and as many as pay for a file of its length together.
+for row in 'vfsold 3414 41943040' 'vfsold32 2731 33554432'; do
+    read -r format many size <<<"$row"
+    for lines in 2 "$many"; do
+        : >q
+        first=$(stat -c %i q)
+        expect "$lines lines up to the last identifier of $format" 0 '' '' setquota -F "$format" -b q \
+            < <(seq 2 "$lines" | sed 's/$/ 1 1 1 1/'; echo 1048575 1 2 3 4)
+        same "their file in $format" "$(($(stat -c %i q) == first)) $(stat -c %s q)" "$((lines == 2)) $size"
+        rm -f q q.*
+    done
+done
 
 # Each command on each format and kind. A tree file begins with its header alone, which is a file of no records.
 week='\x80\x3a\x09\x00\x80\x3a\x09\x00'
 tail='\x00\x00\x00\x00\x02\x00\x00\x00\x00\x00\x00\x00\x00\x00\x00\x00'
 for row in 'user -u vfsv1 \x11\x1f \x01 User' 'user -u vfsv0 \x11\x1f \x00 User' \
     'group -g vfsv1 \x27\x19 \x01 Group' 'group -g vfsv0 \x27\x19 \x00 Group' \
-    'project -P vfsv1 \x14\x3f \x01 Project' 'project -P vfsv0 \x14\x3f \x00 Project' 'group -g vfsold - - Group'; do
+    'project -P vfsv1 \x14\x3f \x01 Project' 'project -P vfsv0 \x14\x3f \x00 Project' 'group -g vfsold - - Group' \
+    'user -u vfsold32 - - User'; do
     read -r kind letter format magic version title <<<"$row"
-    if [ "$format" = vfsold ]; then : >t; else printf "$magic\\xc0\\xd9$version\\x00\\x00\\x00$week$tail" >t; fi
+    if [[ $format == vfsold* ]]; then : >t; else printf "$magic\\xc0\\xd9$version\\x00\\x00\\x00$week$tail" >t; fi
     expect "new limits in $format of a $kind" 0 '' '' setquota "$letter" -F "$format" 1000 100 200 10 20 t
     expect "a second identifier in $format of a $kind" 0 '' '' setquota "$letter" -F "$format" 70000 1 2 3 4 t
     expect "the report of $format of a $kind" 0 "*** Report for $kind quotas on t
