@@ -1,3 +1,5 @@
+mod AskedLemmas
 pub mod ConnectionLemmas
 pub mod HearingLemmas
+mod RunLemmas
 pub mod ServingLemmas

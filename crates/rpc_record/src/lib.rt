@@ -11,9 +11,11 @@ mod connection;
 mod heard;
 mod hearing;
 mod reply;
+mod run;
 mod serving;
 mod stream_fault;
 
+pub use run::run_stream;
 pub use serving::serve_stream;
 pub use stream_fault::StreamFault;
 
