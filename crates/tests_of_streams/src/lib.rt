@@ -6,10 +6,20 @@
 #![tactic(auto)]
 
 #[cfg(test)]
+mod calls;
+#[cfg(test)]
+mod cut_rows;
+#[cfg(test)]
 mod marker_rows;
 #[cfg(test)]
 mod parts;
 #[cfg(test)]
+mod run_rows;
+#[cfg(test)]
+mod running;
+#[cfg(test)]
 mod short_reads;
 #[cfg(test)]
 mod stream_rows;
+#[cfg(test)]
+mod word_rows;

@@ -1,11 +1,14 @@
 use memory_network::MemConns;
 use rpc_record::{ConnFault, Conns};
 
-/// Connections in memory whose reads take no more than so many bytes.
+/// Connections in memory whose reads take no more than so many bytes, and none of which takes bytes before a cut and behind
+/// it.
 #[derive(Drop)]
 pub(crate) struct ShortReads {
     pub(crate) conns: MemConns,
     pub(crate) most: usize,
+    /// How many bytes stand before the cut; 0 where there is none.
+    pub(crate) cut: usize,
 }
 
 impl Conns for ShortReads {
@@ -31,7 +34,14 @@ impl Conns for ShortReads {
 
     fn read(&mut self, buf: &mut [u8]) -> Result<usize, ConnFault> {
         let most = self.most.min(buf.len());
-        self.conns.read(&mut buf[..most])
+        let before_cut = if self.cut == 0 {
+            most
+        } else {
+            self.cut.min(most)
+        };
+        let count = self.conns.read(&mut buf[..before_cut])?;
+        self.cut = self.cut.saturating_sub(count);
+        Ok(count)
     }
 
     fn write(&mut self, bytes: &[u8]) -> Result<(), ConnFault> {

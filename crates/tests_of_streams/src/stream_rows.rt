@@ -1,66 +1,15 @@
-ghost use Rattle.std.specs.Prelude.{◌≡◌, false, IfOk};
-
-use crate::parts::bytes_of;
+use crate::calls::{
+    ANSWER, BACK, CALL, FRONT, GRACE, MIDDLE, ONE_ANSWER, ONE_CALL, TWO_ANSWERS, TWO_CALLS, Times,
+    USERS, came_as, have_written,
+};
 use crate::short_reads::ShortReads;
-use memory_network::MemConns;
 use memory_objects::MemStore;
-use quota_types::{Entry, Format, Grace, Kind, Rec};
-use rpc_record::{Conns, StreamFault, serve_stream};
+use quota_types::{Format, Kind};
+use rpc_record::{StreamFault, serve_stream};
 use rquota_serve::Exports;
 use std::alloc::{AllocError, Global};
 use std::process::Abort;
 use tests_row_files::listed;
-
-const GRACE: Grace = Grace {
-    block: 604_800,
-    inode: 604_800,
-};
-
-/// The users that are told of. The second one has a timer, which runs up to the second 1700000060.
-const USERS: &[Entry] = &[
-    Entry {
-        id: 1000,
-        rec: Rec {
-            ihard: 20,
-            isoft: 10,
-            inodes: 1,
-            bhard: 200,
-            bsoft: 100,
-            space: 4096,
-            btime: 0,
-            itime: 0,
-        },
-    },
-    Entry {
-        id: 1001,
-        rec: Rec {
-            ihard: 0,
-            isoft: 0,
-            inodes: 1,
-            bhard: 0,
-            bsoft: 1,
-            space: 2048,
-            btime: 1_700_000_060,
-            itime: 0,
-        },
-    },
-];
-
-/// A call of the first user for what is told of him under `/home`, in its first 24 bytes and the 56 behind them.
-const FRONT: &str = "00000001 00000000 00000002 000186ab 00000001 00000001";
-
-const MIDDLE: &str =
-    "00000001 00000018 00000000 00000001 68000000 000003e8 000003e8 00000000 00000000 00000000";
-
-const BACK: &str = "00000005 2f686f6d 65000000 000003e8";
-
-/// The call as a record of one fragment, and what is written of the reply to it.
-const CALL: &[&str] = &["80000050", FRONT, MIDDLE, BACK];
-
-const ANSWER: &[&str] = &[
-    "80000044 00000001 00000001 00000000 00000000 00000000 00000000 00000001",
-    "00000400 00000001 000000c8 00000064 00000004 00000014 0000000a 00000001 00000000 00000000",
-];
 
 /// A call of the second user, and what is written of the reply to it while the timer has 10 seconds left and 50.
 const TIMED_CALL: &[&str] = &[
@@ -79,9 +28,6 @@ const FIFTY_LEFT: &[&str] = &[
     "00000400 00000001 00000000 00000001 00000002 00000000 00000000 00000001 00000032 00000000",
 ];
 
-/// Texts of words, so many times one after another.
-type Times = (usize, &'static [&'static str]);
-
 /// The connections that come, by their moments and what they bring, the calls that fail, how many connections are asked for,
 /// how serving ends, and what was written on each connection.
 struct Row {
@@ -91,32 +37,6 @@ struct Row {
     connections: u32,
     ends: Result<(), StreamFault>,
     written: &'static [&'static [Times]],
-}
-
-/// The bytes that texts of words say.
-fn all_bytes(alloc: Global, texts: &[Times]) -> Result<Vec<u8>, AllocError> {
-    let mut bytes = Vec::new(alloc);
-    for (times, words) in texts {
-        for _ in 0..*times {
-            for word in *words {
-                bytes.extend_from_slice(&bytes_of(alloc, *word)?)?;
-            }
-        }
-    }
-    Ok(bytes)
-}
-
-/// The connections of a row, whose reads take at most so many bytes.
-fn conns_of(alloc: Global, row: &Row, most: usize) -> Result<ShortReads, AllocError>
-    ensures { IfOk result (λ short. ⟦<ShortReads as Conns>⟧.is_open short ≡ false) }
-{
-    let mut list = Vec::new(alloc);
-    for (moment, texts) in row.came {
-        list.push((*moment, all_bytes(alloc, *texts)?))?;
-    }
-    let failing = Vec::from_slice(alloc, row.failing)?;
-    let conns = MemConns::new(alloc, list, failing)?;
-    Ok(ShortReads { conns, most })
 }
 
 /// The users under the path `/home`, or None where they can't be exported.
@@ -132,25 +52,6 @@ fn exports_of(alloc: Global, store: &mut MemStore) -> Option<Exports> {
     }
 }
 
-/// Whether these bytes were written on the connection at a place.
-fn has_written(conns: &MemConns, place: usize, want: &[u8]) -> bool {
-    place < conns.count() && conns.written(place) == want
-}
-
-/// Whether what is wanted was written on each connection.
-fn have_written(
-    alloc: Global,
-    conns: &MemConns,
-    want: &[&'static [Times]],
-) -> Result<bool, AllocError> {
-    for (place, texts) in want.iter().enumerate() {
-        if !has_written(conns, place, &all_bytes(alloc, *texts)?) {
-            return Ok(false);
-        }
-    }
-    Ok(conns.count() == want.len())
-}
-
 /// Whether a row holds where reads take at most so many bytes.
 fn holds(alloc: Global, row: &Row, most: usize) -> Result<bool, AllocError> {
     let Some(mut store) = listed(alloc, Kind::User, Format::V2R1, GRACE, USERS) else {
@@ -159,7 +60,7 @@ fn holds(alloc: Global, row: &Row, most: usize) -> Result<bool, AllocError> {
     let Some(mut exports) = exports_of(alloc, &mut store) else {
         return Ok(false);
     };
-    let mut short = conns_of(alloc, row, most)?;
+    let mut short = came_as(alloc, row.came, row.failing, most, 0)?;
     let ends = serve_stream(&mut exports, &mut store, &mut short, row.connections);
     let is_written = have_written(alloc, &short.conns, row.written)?;
     Ok(ends == row.ends && is_written)
@@ -177,14 +78,6 @@ fn expect_all(rt: &impl Abort, alloc: Global, rows: &[Row], sizes: &[usize]) {
         }
     }
 }
-
-const ONE_CALL: &[Times] = &[(1, CALL)];
-
-const TWO_CALLS: &[Times] = &[(2, CALL)];
-
-const ONE_ANSWER: &[Times] = &[(1, ANSWER)];
-
-const TWO_ANSWERS: &[Times] = &[(2, ANSWER)];
 
 /// Rows in which no call fails, however many reads are made.
 const ROWS: &[Row] = &[
