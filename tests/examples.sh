@@ -13,7 +13,8 @@
 # - A recipe, which begins with quotaoff, is run once more with each of its commands failing.
 # - /usr/local/sbin/project_listing is the script that COMMANDS shows, and /usr/local/bin/quota_client the built program. The
 #   script that mails is given no variables but such as cron sets, and of the stand-ins it finds mail alone.
-# - 8750 is a port that is free, and --calls says 2, or 1 in a loop, which ends once its file is taken away.
+# - 8750 is a port that is free, --calls says 2, or 1 in a loop, which ends once its file is taken away, and rquotad_tcp is asked
+#   for one connection.
 # - `...` behind find stands for the words of the find of COMMANDS, and words in capitals for a file, a user, a number or `true`.
 # - A file `commands` for a script has one command, and a listing that is read is there.
 set -Eeuo pipefail
@@ -252,7 +253,8 @@ placed() {
             flat) sed '/quotao/!s/ -u / -u -F vfsold /g' ;;
             *) cat ;;
         esac |
-        sed -E -e 's|--export /home |--export @ |g' -e "s#/(home|root)\>#$place/\1#g" -e 's|--export @ |--export /home |g' \
+        sed -E -e 's|--export /home |--export @ |g; s#/home (user|group|project) /#@ \1 /#g' -e "s#/(home|root)\>#$place/\1#g" \
+            -e 's|--export @ |--export /home |g; s#@ (user|group|project) /#/home \1 /#g' \
             -e "s#/etc/(passwd|group|projid)\>#$place/\1#g" -e "s#/usr/local/sbin/(project_listing)#\1#g" -e "s/\<8750\>/$port/g"
 }
 
@@ -457,19 +459,21 @@ session() {
     cat got >>shown
 }
 
-# served: a call for each of two cases is answered, with the limits of alice, and then the command ends well.
+# served: a call for each of two cases is answered, with the limits of alice, and then the command ends well. Over TCP both
+# come in one connection.
 served() {
-    local case=typed second=2 ended
+    local case=typed second=2 ended ask=ask
+    if [[ $text == rquotad_tcp* ]]; then ask=stream; fi
     if [[ $text == *' group '* ]]; then
         case=group
         second=3
     fi
     prepare user
-    placed user | sed -E 's/--calls [0-9]+/--calls 2/' >"$place/words"
+    placed user | sed -E 's/--calls [0-9]+/--calls 2/; s/^(rquotad_tcp [0-9]+) [0-9]+/\1 1/' >"$place/words"
     : >ended_badly
     (cd "$place" && exec timeout 30 bash -eu words) </dev/null >said 2>&1 &
     ended=$!
-    "$client" ask "$port" own "$case" >got 2>&1 || true
+    "$client" "$ask" "$port" own "$case" >got 2>&1 || true
     wait "$ended" || true
     cat said ended_badly >>got
     printf '%s\n' "1 $own" "$second $own" >wanted
@@ -586,6 +590,15 @@ unit_of_mail() {
     same "$line" 'systemd does not take it'
 }
 
+# unit_of_streams: systemd has nothing to say about it, where it is there, and its words are those of the display in front of it.
+unit_of_streams() {
+    echo "${text//'/usr/local/sbin/rquotad_tcp'/$folder/built/rquotad_tcp}" >rquotad_tcp.service
+    grep -h '^rquotad_tcp ' unit.* | head -n 1 >wanted
+    sed -n 's|^ExecStart=.*/\(rquotad_tcp .*\)|\1|p' rquotad_tcp.service >got
+    if command -v systemd-analyze >/dev/null; then systemd-analyze verify ./rquotad_tcp.service >>got 2>&1 || true; fi
+    same "$line" 'it starts something else, or systemd does not take it'
+}
+
 # timer_of_mail: it begins the unit of the same name each evening, and systemd has nothing to say about it, where it is there.
 timer_of_mail() {
     echo "$text" >quota_mail.timer
@@ -694,6 +707,7 @@ display() {
         '$ '*) session ;;
         '[Unit]'*'[Timer]'*) timer_of_mail ;;
         '[Unit]'*quota_mail*) unit_of_mail ;;
+        '[Unit]'*rquotad_tcp*) unit_of_streams ;;
         'echo '*/etc/default/quota_cli*) recovered_at_boot ;;
         'WORDS=--port '*)
             text="quota_cli rquotad --calls 1000 ${text#WORDS=}"
@@ -704,7 +718,7 @@ display() {
         'number=$(dumpe2fs '*) from_image ;;
         '0 18 * * * '*) scheduled ;;
         'while quota_cli rquotad '*) looped ;;
-        'quota_cli rquotad '*) served ;;
+        'quota_cli rquotad '* | 'rquotad_tcp '*) served ;;
         'quota_client '*) told ;;
         'quota_cli '* | 'quotaoff '* | 'find '* | 'flock '* | 'while read '* | 'systemctl '*) carried_out ;;
         'echo '*' | quota_cli script'*) carried_out ;;
@@ -733,7 +747,7 @@ words() {
     fi
     case $text in
         'quota: '?* | 'quota_cli: '?* | 'not believed: '* | 'it had an open gate '* | 'touch FILE.undo') quoted '' ;;
-        'quota_cli rquotad '*) served ;;
+        'quota_cli rquotad '* | 'rquotad_tcp '*) served ;;
         'quota_cli '* | 'find '* | 'flock '* | 'mount '* | 'cp '*) carried_out ;;
         'systemd-escape '*) if command -v systemd-escape >/dev/null; then carried_out; fi ;;
         'systemctl '* | 'sed '* | 'getent '* | 'head '* | 'set -'* | 'sort '* | 'stat '* | 'ulimit '*) carried_out ;;

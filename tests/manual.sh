@@ -185,7 +185,7 @@ printf '%s\n' NAME SYNOPSIS DESCRIPTION EXAMPLES RECOVERY >wanted
 same 'the first sections of quota_cli.8'
 
 # The first example of each page, and of the help, is one of every day.
-for it in quota_cli{,-repquota,-setquota,-edquota,-quotacheck,-convertquota,-rquotad}.8 quota_client.1; do
+for it in quota_cli{,-repquota,-setquota,-edquota,-quotacheck,-convertquota,-rquotad}.8 rquotad_tcp.8 quota_client.1; do
     awk '/^\.Sh / { on = $2 == "EXAMPLES" } on && /^\.Bd / { getline; print; exit }' "$top/docs/$it"
 done >got
 awk '/^Examples:$/ { getline; sub(/^ +/, ""); print }' help >>got
@@ -197,6 +197,7 @@ quota_cli edquota --print -u --names /etc/passwd alice /home/aquota.user >form
 quotaoff -u /home &&
 quota_cli convertquota -u -f vfsv0,vfsv1 /home/aquota.user /home/aquota.user.vfsv1
 quota_cli rquotad --calls 100000 --port 8750 \e
+rquotad_tcp 8750 1000 any /home user /home/aquota.user \e
 quota_client quota 8750 1000 1000 /home
 quota_cli repquota -u --names /etc/passwd /home/aquota.user
 LINES

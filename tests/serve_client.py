@@ -1,14 +1,19 @@
 #!/usr/bin/env python3
-"""A client of `rquotad` over UDP on 127.0.0.1, with its own XDR (RFC 4506) and ONC RPC (RFC 5531).
+"""A client of `rquotad` over UDP on 127.0.0.1, and of `rquotad_tcp` over TCP, with its own XDR (RFC 4506) and ONC RPC (RFC 5531).
 
 serve_client.py free              prints a port that is free
 serve_client.py hold PORT WORD..  runs the words while this port is in use, and ends with their status
 serve_client.py ask PORT CASE..   sends the call of each case, and prints its reply in a line
+serve_client.py stream PORT CASE..
+                                  the same over one connection of TCP, in which each call is a record
 serve_client.py many PORT COUNT EACH
                                   sends so many calls, each after the reply to the one before, and prints the seconds. The
                                   users are multiples of EACH below 1,000,000 times it, which the recurrence
                                   x -> (1,664,525 x + 1,013,904,223) mod 2^32 chooses
 serve_client.py echo PORT COUNT   answers so many datagrams by themselves, to be measured beside `rquotad`
+serve_client.py many_stream PORT COUNT EACH
+                                  as many, over one connection of TCP
+serve_client.py echo_stream PORT  sends back what comes over one connection, to be measured beside `rquotad_tcp`
 """
 
 import socket
@@ -120,6 +125,49 @@ def ask(port, names):
             print(told(exchange(sock, CASES[name])))
 
 
+def opened(port):
+    """A connection to the port. One that nothing listened for is tried again, for 5 seconds."""
+    until = time.monotonic() + 5
+    while True:
+        try:
+            return socket.create_connection((HOST, port), 5)
+        except ConnectionRefusedError:
+            if time.monotonic() > until:
+                raise
+            time.sleep(0.02)
+
+
+def record(data):
+    """A record of one fragment."""
+    return units(2**31 + len(data)) + data
+
+
+def received(sock, count):
+    """So many bytes of a connection."""
+    data = b""
+    while len(data) < count:
+        piece = sock.recv(count - len(data))
+        if not piece:
+            raise EOFError("the connection ended")
+        data += piece
+    return data
+
+
+def replied(sock):
+    """The next record of a connection, which has one fragment."""
+    head, = struct.unpack(">I", received(sock, 4))
+    if head < 2**31:
+        raise ValueError("a fragment that is not the last one")
+    return received(sock, head - 2**31)
+
+
+def stream(port, names):
+    with opened(port) as sock:
+        for name in names:
+            sock.sendall(record(CASES[name]))
+            print("short sent" if name == "short" else told(replied(sock)))
+
+
 def chosen(count, each):
     """So many users, each of them a multiple."""
     x, users = 1, []
@@ -148,6 +196,35 @@ def echo(port, count):
         sock.sendto(datagram, sender)
 
 
+def many_stream(port, count, each):
+    calls = [record(own(uid)) for uid in chosen(count, each)]
+    with opened(port) as sock:
+        sock.setsockopt(socket.IPPROTO_TCP, socket.TCP_NODELAY, 1)
+        replied_to(sock, calls[0])
+        began = time.monotonic()
+        for sent in calls[1:]:
+            replied_to(sock, sent)
+        print("%.3f" % (time.monotonic() - began))
+
+
+def replied_to(sock, sent):
+    """The record that comes back for one that is sent."""
+    sock.sendall(sent)
+    return replied(sock)
+
+
+def echo_stream(port):
+    with socket.create_server((HOST, port)) as listener:
+        sock, _ = listener.accept()
+        with sock:
+            sock.setsockopt(socket.IPPROTO_TCP, socket.TCP_NODELAY, 1)
+            while True:
+                data = sock.recv(4096)
+                if not data:
+                    break
+                sock.sendall(data)
+
+
 def free():
     sock = socket.socket(socket.AF_INET, socket.SOCK_DGRAM)
     sock.bind((HOST, 0))
@@ -167,10 +244,16 @@ def main(words):
         hold(int(words[1]), words[2:])
     elif len(words) >= 3 and words[0] == "ask":
         ask(int(words[1]), words[2:])
+    elif len(words) >= 3 and words[0] == "stream":
+        stream(int(words[1]), words[2:])
     elif len(words) == 4 and words[0] == "many":
         many(*map(int, words[1:]))
     elif len(words) == 3 and words[0] == "echo":
         echo(int(words[1]), int(words[2]))
+    elif len(words) == 4 and words[0] == "many_stream":
+        many_stream(*map(int, words[1:]))
+    elif len(words) == 2 and words[0] == "echo_stream":
+        echo_stream(int(words[1]))
     else:
         sys.exit(__doc__)
 

@@ -5,13 +5,13 @@ use command_words::{UsageFault, read_words};
 use help::text_asked;
 use journal_store::JournalStore;
 use program_help::tell;
+use program_recoveries::tell_undo_files;
 use program_start::{
     add_reason, given_words, hold_closed_streams, name_in, starting_cause, stop, words_cause,
 };
 use quota_cli::run::run;
 use quota_files::{QuotaFiles, quota_files_of};
 use reasons::Reasons;
-use recoveries::tell_undo_files;
 use refusals::{Cause, UsageKind};
 use sharing::sharing_of;
 use std::alloc::{AllocError, Global};
@@ -24,7 +24,6 @@ use system_streams::{StreamSink, StreamSource, UdpLink, moment};
 mod help;
 mod quota_files;
 mod reasons;
-mod recoveries;
 mod sharing;
 mod usages;
 

@@ -1,5 +1,3 @@
-//! What is told of undo files: why one is not believed, and what came of those that were found with an open gate.
-
 ghost use Rattle.std.specs.Prelude.{◌≡◌, ◌≤◌, false};
 
 use jiff::Timestamp;
