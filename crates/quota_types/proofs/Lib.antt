@@ -1,6 +1,7 @@
 pub mod AscendsLemmas
 pub mod BytesLemmas
 pub mod DigitsLemmas
+pub mod FormatLemmas
 pub mod KeptLemmas
 pub mod KindLemmas
 pub mod ListLemmas

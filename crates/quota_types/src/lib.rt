@@ -25,7 +25,7 @@ pub use keeping::kept;
 pub use little_endian::{
     le16_at, le32_at, le64_at, set_le16_at, set_le32_at, set_le32s_at, set_le64_at, set_le64s_at,
 };
-pub use ranges::{check_grace, check_record, fits, grace_fits, with_timers};
+pub use ranges::{check_grace, check_record, fits, grace_fits};
 pub use record::{Entry, Grace, Rec};
 pub use timers::{is_exceeded, next_timers};
 pub use wanted::{kept_timed, next_kept};

@@ -97,7 +97,7 @@ fn check_time(format: Format, id: u32, field: Field, seconds: u128) -> Result<u6
 ///
 /// The first field for which the format has no room, in the order of `Field`, with its value; that of the space is in
 /// bytes.
-pub fn with_timers(
+pub(crate) fn with_timers(
     format: Format,
     id: u32,
     rec: Rec,

@@ -12,17 +12,24 @@ pub fn is_exceeded(limit: u64, used: u64) -> bool
     limit != 0 && used > limit
 }
 
+/// A timer as it is to be, in seconds since 1970; the end of one that starts may be a sum beyond 64 bits.
+pub(crate) fn wanted_timer(soft: u64, used: u64, timer: u64, grace: u64, now: u64) -> u128
+    ensures { result ≡ timer_of soft used timer grace now }
+{
+    if !is_exceeded(soft, used) {
+        0
+    } else if timer == 0 {
+        u128::from(now) + u128::from(grace)
+    } else {
+        u128::from(timer)
+    }
+}
+
 fn next_timer(soft: u64, used: u64, timer: u64, grace: u64, now: u64) -> Option<u64>
     ensures { result ≡ (if starts_past_64_bits soft used timer grace now then None
         else Some (timer_of soft used timer grace now)) }
 {
-    if !is_exceeded(soft, used) {
-        Some(0)
-    } else if timer == 0 {
-        now.checked_add(grace)
-    } else {
-        Some(timer)
-    }
+    u64::try_from(wanted_timer(soft, used, timer, grace, now)).ok()
 }
 
 /// The record with both timers as they are to be at the moment `now`, in seconds since 1970. Where a soft limit is

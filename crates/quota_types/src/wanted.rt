@@ -2,22 +2,11 @@ ghost use Rattle.std.specs.Prelude.{◌≡◌, None, Some, IfOk, IfErr, OnOk};
 ghost use Rattle.quota_types.specs.Kept.{IsKept, kept_of};
 ghost use Rattle.quota_types.specs.Range.{unfit};
 ghost use Rattle.quota_types.specs.Rec.{is_null_of};
-ghost use Rattle.quota_types.specs.Timers.{timer_of, timers_of};
+ghost use Rattle.quota_types.specs.Timers.{timers_of};
 
-use crate::{Format, Grace, NoRoom, Rec, is_exceeded, kept, with_timers};
-
-/// A timer as it is to be, in seconds since 1970; the end of one that starts may be a sum beyond 64 bits.
-fn wanted_timer(soft: u64, used: u64, timer: u64, grace: u64, now: u64) -> u128
-    ensures { result ≡ timer_of soft used timer grace now }
-{
-    if !is_exceeded(soft, used) {
-        0
-    } else if timer == 0 {
-        u128::from(now) + u128::from(grace)
-    } else {
-        u128::from(timer)
-    }
-}
+use crate::ranges::with_timers;
+use crate::timers::wanted_timer;
+use crate::{Format, Grace, NoRoom, Rec, kept};
 
 /// What the format keeps of an identifier's record with these timers, in seconds since 1970, each of which may be a sum
 /// beyond 64 bits.
