@@ -4,7 +4,7 @@ use Rattle.std.proofs.Common.{◌≡◌, ◌≢◌, ℕ, suc, ◌+◌, ◌^◌, 
 use Rattle.std.proofs.lemmas.Bool.{cases_Bool, cases_eq, cases_lt, le-leb}
 use Rattle.std.specs.FinMap.{get, insert}
 use Rattle.quota_types.specs.declared.file_kind.Format.{Format}
-use Rattle.quota_types.specs.declared.file_kind.Format.TheVariants.{V1, V1R32, V2R0, V2R1}
+use Rattle.quota_types.proofs.FormatLemmas.{by_tree}
 use Rattle.quota_types.specs.declared.record.Entry.{Entry}
 use Rattle.quota_types.specs.declared.record.Rec.{Rec}
 use Rattle.quota_types.specs.Times.{StandsIn, times}
@@ -13,6 +13,7 @@ use Rattle.file_blocks.specs.Block.{block_of, leads}
 use Rattle.quota_value.specs.QuotaValue.{Records}
 use Rattle.file_blocks.proofs.LeadsLemmas.{leads_from}
 use Rattle.entry_codec.specs.Entry.{entries_per_block}
+use Rattle.entry_codec.proofs.TreeLemmas.{places_tree}
 use Rattle.free_chains.specs.declared.heads.Heads.{Heads}
 use Rattle.quota_radix.specs.declared.tree_path.TreePath.{TreePath}
 use Rattle.quota_radix.specs.Tree.{blocks_of, ids_at, leaves, numbers_of, tree_blocks}
@@ -33,10 +34,7 @@ use Rattle.block_changes.proofs.OneLeafLemmas.{awaited_counts, ids_fewer, ids_ot
 
 -- a format with one place for an entry has more
 pub some_places : (format : Format) (place : ℕ) → place < entries_per_block format → 1 < entries_per_block format
-some_places V1 place low = absurd (omega (arith, low))
-some_places V1R32 place low = absurd (omega (arith, low))
-some_places V2R0 place low = omega arith
-some_places V2R1 place low = omega arith
+some_places format place low = by_tree (λ (format : Format). 1 < entries_per_block format) (omega arith) (omega arith) format (places_tree format place low)
 
 -- a block that uses fewer entries than it has places has room
 pub unused_left : (format : Format) (bytes : List ℕ) → length (used_ids format bytes) < entries_per_block format → has_unused format bytes ≡ true

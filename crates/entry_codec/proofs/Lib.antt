@@ -1,2 +1,3 @@
 pub mod EntryLemmas
 pub mod SpellingLemmas
+pub mod TreeLemmas

@@ -5,13 +5,15 @@ use Rattle.std.proofs.lemmas.Grind.{same_number_lists}
 use Rattle.quota_types.specs.Bytes.{byte_at, number_at}
 use Rattle.quota_types.specs.Kept.{without_marker}
 use Rattle.quota_types.specs.declared.file_kind.Format.{Format}
-use Rattle.quota_types.specs.declared.file_kind.Format.TheVariants.{V1, V1R32, V2R0, V2R1}
+use Rattle.quota_types.specs.declared.file_kind.Format.TheVariants.{V2R0, V2R1}
 use Rattle.quota_types.specs.declared.record.Rec.{Rec}
 use Rattle.quota_types.proofs.BytesLemmas.{number_at-past}
+use Rattle.quota_types.proofs.FormatLemmas.{by_tree}
 use Rattle.entry_codec.specs.Entry.{is_unused, stored_id, stored_v2r0, stored_v2r1}
 use Rattle.entry_codec.specs.Spelling.{AreBytes, IsSpelling, IsUsedBy}
 use Rattle.entry_codec.specs.Header.{HeaderNumbers, header_of}
 use Rattle.entry_codec.proofs.EntryLemmas.{zeros}
+use Rattle.entry_codec.proofs.TreeLemmas.{entry_tree}
 
 same_byte : (x y rest rest' : ℕ) → x < 256 → y < 256 → x + 256 * rest ≡ y + 256 * rest' → (x ≡ y) × (rest ≡ rest')
 same_byte x y rest rest' hx hy same = (omega arith, omega arith)
@@ -144,20 +146,26 @@ same_used xs ys id rec stored other x y not_x not_y =
 used_not_true : (xs : List ℕ) (stored : Rec) (id : ℕ) (rec : Rec) → IsUsedBy xs stored id rec → is_unused xs ≢ true
 used_not_true xs stored id rec x unused = let used = x.used in cc
 
-pub one_spelling : (format : Format) (xs ys : List ℕ) (id : ℕ) (rec : Rec) → IsSpelling format xs id rec → IsSpelling format ys id rec → xs ≡ ys
-one_spelling V1 xs ys id rec x y = absurd x.entry
-one_spelling V1R32 xs ys id rec x y = absurd x.entry
-one_spelling V2R0 xs ys id rec x y =
+one_spelling_v2r0 : (xs ys : List ℕ) (id : ℕ) (rec : Rec) → IsSpelling V2R0 xs id rec → IsSpelling V2R0 ys id rec → xs ≡ ys
+one_spelling_v2r0 xs ys id rec x y =
     let same = same_used xs ys id rec (stored_v2r0 xs) (stored_v2r0 ys) x.entry y.entry
     (not_zeros_v2r0 xs x.are_bytes x.size (used_not_true xs _ id rec x.entry))
     (not_zeros_v2r0 ys y.are_bytes y.size (used_not_true ys _ id rec y.entry)) in
     let below = same_v2r0 xs ys x.are_bytes y.are_bytes (sym x.entry.id_is ∙ y.entry.id_is) same in
     let size = x.size in
     same_number_lists xs ys (x.size ∙ sym y.size) (λ k lt. below k (omega arith))
-one_spelling V2R1 xs ys id rec x y =
+
+one_spelling_v2r1 : (xs ys : List ℕ) (id : ℕ) (rec : Rec) → IsSpelling V2R1 xs id rec → IsSpelling V2R1 ys id rec → xs ≡ ys
+one_spelling_v2r1 xs ys id rec x y =
     let same = same_used xs ys id rec (stored_v2r1 xs) (stored_v2r1 ys) x.entry y.entry
     (not_zeros_v2r1 xs x.are_bytes x.size (used_not_true xs _ id rec x.entry) x.padding)
     (not_zeros_v2r1 ys y.are_bytes y.size (used_not_true ys _ id rec y.entry) y.padding) in
     let below = same_v2r1 xs ys x.are_bytes y.are_bytes (sym x.entry.id_is ∙ y.entry.id_is) (x.padding ∙ sym y.padding) same in
     let size = x.size in
     same_number_lists xs ys (x.size ∙ sym y.size) (λ k lt. below k (omega arith))
+
+-- an entry is spelled in one way
+pub one_spelling : (format : Format) (xs ys : List ℕ) (id : ℕ) (rec : Rec) → IsSpelling format xs id rec → IsSpelling format ys id rec → xs ≡ ys
+one_spelling format xs ys id rec x y =
+    by_tree (λ (format : Format). IsSpelling format xs id rec → IsSpelling format ys id rec → xs ≡ ys)
+    (one_spelling_v2r0 xs ys id rec) (one_spelling_v2r1 xs ys id rec) format (entry_tree format xs id rec x.entry) x y

@@ -7,7 +7,7 @@ use Rattle.std.specs.List.{AllByRecursion, flat_map, range_with_len}
 use Rattle.quota_types.specs.Bytes.{byte_at}
 use Rattle.quota_types.specs.Format.{IsTreeFormat}
 use Rattle.quota_types.specs.declared.file_kind.Format.{Format}
-use Rattle.quota_types.specs.declared.file_kind.Format.TheVariants.{V1, V1R32, V2R0, V2R1}
+use Rattle.quota_types.proofs.FormatLemmas.{by_tree}
 use Rattle.quota_types.specs.declared.record.Entry.{Entry}
 use Rattle.entry_codec.specs.Entry.{entries_per_block}
 use Rattle.entry_codec.specs.Spelling.{padding_of}
@@ -60,24 +60,15 @@ times_below count n = elim (cases_lt n count) [
 -- each part but the last one is full
 full_part : (format : Format) → IsTreeFormat format → (count place : ℕ) → place < filled_blocks (entries_per_block format) count → place ≢ count / entries_per_block format
     → min (entries_per_block format) (count - entries_per_block format * place) ≡ entries_per_block format
-full_part V1 tree count place low other = absurd (true≢false tree)
-full_part V1R32 tree count place low other = absurd (true≢false tree)
-full_part V2R0 tree count place low other = omega arith
-full_part V2R1 tree count place low other = omega arith
+full_part = by_tree _ (λ count place low other. omega arith) (λ count place low other. omega arith)
 
 -- and the last one is not, where some entries are left
 last_part : (format : Format) → IsTreeFormat format → (count : ℕ) → count % entries_per_block format ≢ 0
     → (count / entries_per_block format < filled_blocks (entries_per_block format) count) × (min (entries_per_block format) (count - entries_per_block format * (count / entries_per_block format)) < entries_per_block format)
-last_part V1 tree count some = absurd (true≢false tree)
-last_part V1R32 tree count some = absurd (true≢false tree)
-last_part V2R0 tree count some = (omega arith, omega arith)
-last_part V2R1 tree count some = (omega arith, omega arith)
+last_part = by_tree _ (λ count some. (omega arith, omega arith)) (λ count some. (omega arith, omega arith))
 
 no_last : (format : Format) → IsTreeFormat format → (count place : ℕ) → count % entries_per_block format ≡ 0 → place < filled_blocks (entries_per_block format) count → place ≢ count / entries_per_block format
-no_last V1 tree count place none low = absurd (true≢false tree)
-no_last V1R32 tree count place none low = absurd (true≢false tree)
-no_last V2R0 tree count place none low = λ e. omega (arith, e)
-no_last V2R1 tree count place none low = λ e. omega (arith, e)
+no_last = by_tree _ (λ count place none low e. omega (arith, e)) (λ count place none low e. omega (arith, e))
 
 -- the first data block with room: the last one, where it is not full
 abbrev pub first_room : Format → List Entry → ℕ

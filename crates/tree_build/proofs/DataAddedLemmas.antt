@@ -6,7 +6,7 @@ use Rattle.std.proofs.lemmas.List.Concat.{flat_map-append}
 use Rattle.std.specs.List.{flat_map, range_with_len}
 use Rattle.quota_types.specs.Format.{IsTreeFormat}
 use Rattle.quota_types.specs.declared.file_kind.Format.{Format}
-use Rattle.quota_types.specs.declared.file_kind.Format.TheVariants.{V1, V1R32, V2R0, V2R1}
+use Rattle.quota_types.proofs.FormatLemmas.{by_tree}
 use Rattle.quota_types.specs.declared.record.Entry.{Entry}
 use Rattle.entry_codec.specs.Entry.{entries_per_block}
 use Rattle.quota_radix.specs.declared.tree_path.TreePath.{TreePath}
@@ -28,10 +28,7 @@ pub record HasParts (format : Format) (list : List Entry) (first : ℕ) (old fil
 -- one block more of what is left
 filled_one_more : (format : Format) → IsTreeFormat format → (left now later : ℕ) → 1 ≤ left → now ≡ min left (entries_per_block format) → later ≡ left - now
     → filled_blocks (entries_per_block format) left ≡ suc (filled_blocks (entries_per_block format) later)
-filled_one_more V1 tree left now later some is rest = absurd (true≢false tree)
-filled_one_more V1R32 tree left now later some is rest = absurd (true≢false tree)
-filled_one_more V2R0 tree left now later some is rest = omega arith
-filled_one_more V2R1 tree left now later some is rest = omega arith
+filled_one_more = by_tree _ (λ left now later some is rest. omega arith) (λ left now later some is rest. omega arith)
 
 pub parts_push : (format : Format) (list : List Entry) (first count : ℕ) → parts_of format list first (count + 1) ≡ parts_of format list first count ++ part_of format list first count ∷ []
 parts_push format list first count = ap (map (part_of format list first)) (range-suc count) ∙ map-append (part_of format list first) (range_with_len 0 count) (count ∷ [])

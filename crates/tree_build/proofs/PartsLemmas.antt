@@ -12,7 +12,7 @@ use Rattle.std.specs.FinMap.Entries.{find as find_key}
 use Rattle.std.specs.List.{AllByRecursion, flat_map, range_with_len}
 use Rattle.quota_types.specs.Format.{IsTreeFormat}
 use Rattle.quota_types.specs.declared.file_kind.Format.{Format}
-use Rattle.quota_types.specs.declared.file_kind.Format.TheVariants.{V1, V1R32, V2R0, V2R1}
+use Rattle.quota_types.proofs.FormatLemmas.{by_tree}
 use Rattle.quota_types.specs.declared.record.Entry.{Entry}
 use Rattle.quota_types.specs.declared.record.Rec.{Rec}
 use Rattle.entry_codec.specs.Entry.{entries_per_block}
@@ -55,10 +55,7 @@ first_parts format list first (suc count) =
     ∙ sym (ap (λ (k : ℕ). take k list) more ∙ take-add (per * count) per list)
 
 enough : (format : Format) → IsTreeFormat format → (count : ℕ) → count ≤ entries_per_block format * filled_blocks (entries_per_block format) count
-enough V1 tree count = absurd (true≢false tree)
-enough V1R32 tree count = absurd (true≢false tree)
-enough V2R0 tree count = omega arith
-enough V2R1 tree count = omega arith
+enough = by_tree _ (λ count. omega arith) (λ count. omega arith)
 
 pub all_parts : (format : Format) → IsTreeFormat format → (list : List Entry) (first : ℕ) → flat_map (λ (part : Part). part.entries) (parts_of format list first (parts_needed format list)) ≡ list
 all_parts format tree list first = first_parts format list first (parts_needed format list) ∙ take_all (entries_per_block format * parts_needed format list) list (enough format tree (length list))
@@ -69,10 +66,7 @@ length_part format list first place =
     length-take (entries_per_block format) (drop (entries_per_block format * place) list) ∙ ap (min (entries_per_block format)) (length-drop (entries_per_block format * place) list)
 
 some_in_part : (format : Format) → IsTreeFormat format → (count place : ℕ) → place < filled_blocks (entries_per_block format) count → 1 ≤ min (entries_per_block format) (count - entries_per_block format * place)
-some_in_part V1 tree count place low = absurd (true≢false tree)
-some_in_part V1R32 tree count place low = absurd (true≢false tree)
-some_in_part V2R0 tree count place low = omega arith
-some_in_part V2R1 tree count place low = omega arith
+some_in_part = by_tree _ (λ count place low. omega arith) (λ count place low. omega arith)
 
 pub some_entries : (format : Format) → IsTreeFormat format → (list : List Entry) (first place : ℕ) → place < parts_needed format list → 1 ≤ length (part_of format list first place).entries
 some_entries format tree list first place low = omega (arith, length_part format list first place, some_in_part format tree (length list) place low)

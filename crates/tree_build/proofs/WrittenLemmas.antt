@@ -8,7 +8,7 @@ use Rattle.quota_types.specs.Bytes.{byte_at, number_at}
 use Rattle.quota_types.proofs.BytesLemmas.{number_at-take}
 use Rattle.quota_types.specs.Format.{IsTreeFormat}
 use Rattle.quota_types.specs.declared.file_kind.Format.{Format}
-use Rattle.quota_types.specs.declared.file_kind.Format.TheVariants.{V1, V1R32, V2R0, V2R1}
+use Rattle.quota_types.proofs.FormatLemmas.{by_tree}
 use Rattle.quota_types.specs.declared.record.Entry.{Entry}
 use Rattle.quota_types.proofs.AscendsLemmas.{Ascends, Ascends-of, IsStrictlyIncreasing-of}
 use Rattle.quota_types.proofs.ListLemmas.{AllByRecursion-weaker}
@@ -54,10 +54,7 @@ first_parents ids =
 
 sum_of : (format : Format) → IsTreeFormat format → (list : List Entry)
     → blocks_needed format (ids_of list) ≡ 2 + (parts_needed format list + (beginnings 1 (ids_of list) + (beginnings 2 (ids_of list) + beginnings 3 (ids_of list))))
-sum_of V1 tree list = absurd (true≢false tree)
-sum_of V1R32 tree list = absurd (true≢false tree)
-sum_of V2R0 tree list = omega (arith, length-map list (λ (entry : Entry). entry.id))
-sum_of V2R1 tree list = omega (arith, length-map list (λ (entry : Entry). entry.id))
+sum_of = by_tree _ (λ list. omega (arith, length-map list (λ (entry : Entry). entry.id))) (λ list. omega (arith, length-map list (λ (entry : Entry). entry.id)))
 
 -- how many blocks a file needs, by its levels
 pub needed_by_levels : (format : Format) → IsTreeFormat format → (list : List Entry)

@@ -9,12 +9,13 @@ use Rattle.std.specs.FinMap.{entries, find as find_key, get, get-entries, get-in
 use Rattle.std.specs.Ordering.{nat_cmp}
 use Rattle.quota_types.specs.Times.{StandsIn, times}
 use Rattle.quota_types.specs.declared.file_kind.Format.{Format}
-use Rattle.quota_types.specs.declared.file_kind.Format.TheVariants.{V1, V1R32, V2R0, V2R1}
+use Rattle.quota_types.proofs.FormatLemmas.{by_tree}
 use Rattle.quota_types.specs.declared.record.Rec.{Rec}
 use Rattle.quota_types.proofs.TimesLemmas.{stands_right, times-cons-same, times_cases}
 use Rattle.file_blocks.specs.Block.{block_of}
 use Rattle.quota_value.specs.QuotaValue.{QuotaValue, Records}
 use Rattle.entry_codec.specs.Header.{format_of, header_of}
+use Rattle.entry_codec.proofs.TreeLemmas.{version_tree}
 use Rattle.quota_radix.specs.declared.tree_path.TreePath.{TreePath}
 use Rattle.quota_radix.specs.Tree.{leaves, numbers_of}
 use Rattle.quota_radix.specs.OnWay.{blocks_on_way}
@@ -130,30 +131,9 @@ five_on_way file blocks id small there =
 wanted_by_format : (format : Format) (file ids : List ℕ) (version : ℕ) → format_of version ≡ Some format
     → blocks_wanted format (Some file) ids ≡ blocks_with_new file (heads_of (header_of file)) (find (has_no_leaf file (header_of file).blocks) ids)
 unfolding tree_blocks_wanted
-wanted_by_format V2R0 file ids version is = refl
-wanted_by_format V2R1 file ids version is = refl
-wanted_by_format V1 file ids version is = absurd (elim (cases_eq version 0) [
-  | inl zero ↦ let no : Some V2R0 ≡ Some V1 = sym (ap format_of zero) ∙ is in cc
-  | inr more ↦ elim (cases_eq version 1) [
-    | inl one ↦ let no : Some V2R1 ≡ Some V1 = sym (ap format_of one) ∙ is in cc
-    | inr other ↦
-        let no : None ≡ Some V1 =
-        sym (ap (λ (b : Bool). if b then Some V2R0 else if version == 1 then Some V2R1 else None) (ne_eqb version 0 more)
-        ∙ ap (λ (b : Bool). if b then Some V2R1 else None) (ne_eqb version 1 other)) ∙ is in
-        cc
-  ]
-])
-wanted_by_format V1R32 file ids version is = absurd (elim (cases_eq version 0) [
-  | inl zero ↦ let no : Some V2R0 ≡ Some V1R32 = sym (ap format_of zero) ∙ is in cc
-  | inr more ↦ elim (cases_eq version 1) [
-    | inl one ↦ let no : Some V2R1 ≡ Some V1R32 = sym (ap format_of one) ∙ is in cc
-    | inr other ↦
-        let no : None ≡ Some V1R32 =
-        sym (ap (λ (b : Bool). if b then Some V2R0 else if version == 1 then Some V2R1 else None) (ne_eqb version 0 more)
-        ∙ ap (λ (b : Bool). if b then Some V2R1 else None) (ne_eqb version 1 other)) ∙ is in
-        cc
-  ]
-])
+wanted_by_format format file ids version is =
+    by_tree (λ (format : Format). blocks_wanted format (Some file) ids ≡ blocks_with_new file (heads_of (header_of file)) (find (has_no_leaf file (header_of file).blocks) ids))
+    refl refl format (version_tree format version is)
 
 wanted_is : (file ids : List ℕ) (value : QuotaValue) (found : Option ℕ) → TreeStandsFor file value → find (has_no_leaf file (header_of file).blocks) ids ≡ found
     → blocks_wanted value.format (Some file) ids ≡ blocks_with_new file (heads_of (header_of file)) found

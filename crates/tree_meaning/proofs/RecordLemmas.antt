@@ -9,30 +9,30 @@ use Rattle.quota_types.specs.Bytes.{number_at}
 use Rattle.quota_types.specs.Format.{IsTreeFormat, record_size}
 use Rattle.quota_types.specs.Kept.{without_marker}
 use Rattle.quota_types.specs.declared.file_kind.Format.{Format}
-use Rattle.quota_types.specs.declared.file_kind.Format.TheVariants.{V1, V1R32, V2R0, V2R1}
+use Rattle.quota_types.proofs.FormatLemmas.{by_tree}
 use Rattle.quota_types.specs.declared.record.Entry.{Entry}
 use Rattle.quota_types.specs.declared.record.Rec.{Rec}
 use Rattle.entry_codec.specs.Entry.{entries_per_block, is_unused, stored_id}
-use Rattle.entry_codec.specs.Spelling.{IsEntry}
+use Rattle.entry_codec.specs.Spelling.{IsEntry, IsUsedBy}
+use Rattle.entry_codec.proofs.TreeLemmas.{entry_tree}
 use Rattle.tree_meaning.specs.Entries.{entry_bytes, entry_of, stored_record, used_entries}
 use Rattle.tree_meaning.specs.EntryRecords.{record_by, used_by}
 use Rattle.tree_meaning.specs.TreeFile.{record_in}
 use Rattle.file_blocks.proofs.WordLemmas.{number_in_part}
 
+-- the bytes of an entry are used by its identifier, with the record that they store
+entry_used : (format : Format) (bytes : List ℕ) (id : ℕ) (rec : Rec) → IsEntry format bytes id rec → IsUsedBy bytes (stored_record format bytes) id rec
+entry_used format bytes id rec entry =
+    by_tree (λ (format : Format). IsEntry format bytes id rec → IsUsedBy bytes (stored_record format bytes) id rec)
+    (λ e. e) (λ e. e) format (entry_tree format bytes id rec entry) entry
+
 pub used_is : (format : Format) (bytes : List ℕ) (id : ℕ) (rec : Rec) → IsEntry format bytes id rec → (is_unused bytes ≡ false) × (entry_of format bytes ≡ Some (record { id = id; rec = rec }))
-used_is V1 bytes id rec e = absurd e
-used_is V1R32 bytes id rec e = absurd e
-used_is V2R0 bytes id rec e =
+used_is format bytes id rec entry =
+    let e : IsUsedBy bytes (stored_record format bytes) id rec = entry_used format bytes id rec entry in
     let found : ℕ → Rec → Option Entry = λ i r. Some (record { id = i; rec = r }) in (
       e.used,
-      ap (λ (b : Bool). cond b None (found (stored_id bytes) (without_marker (stored_id bytes) (stored_record V2R0 bytes)))) e.used
-          ∙ ap (λ (i : ℕ). found i (without_marker (stored_id bytes) (stored_record V2R0 bytes))) (sym e.id_is) ∙ ap (found id) (sym e.rec_is),
-    )
-used_is V2R1 bytes id rec e =
-    let found : ℕ → Rec → Option Entry = λ i r. Some (record { id = i; rec = r }) in (
-      e.used,
-      ap (λ (b : Bool). cond b None (found (stored_id bytes) (without_marker (stored_id bytes) (stored_record V2R1 bytes)))) e.used
-          ∙ ap (λ (i : ℕ). found i (without_marker (stored_id bytes) (stored_record V2R1 bytes))) (sym e.id_is) ∙ ap (found id) (sym e.rec_is),
+      ap (λ (b : Bool). cond b None (found (stored_id bytes) (without_marker (stored_id bytes) (stored_record format bytes)))) e.used
+          ∙ ap (λ (i : ℕ). found i (without_marker (stored_id bytes) (stored_record format bytes))) (sym e.id_is) ∙ ap (found id) (sym e.rec_is),
     )
 
 -- the bytes of an entry are used, and spell its identifier and its record
@@ -49,16 +49,13 @@ spelled format bytes entry is =
     ]
 
 pub is_spelled : (format : Format) (bytes : List ℕ) (entry : Entry) → IsTreeFormat format → entry_of format bytes ≡ Some entry → IsEntry format bytes entry.id entry.rec
-is_spelled V1 bytes entry tree is = absurd (true≢false tree)
-is_spelled V1R32 bytes entry tree is = absurd (true≢false tree)
-is_spelled V2R0 bytes entry tree is = let parts = spelled V2R0 bytes entry is in record { used = parts.0; id_is = parts.1; rec_is = parts.2 }
-is_spelled V2R1 bytes entry tree is = let parts = spelled V2R1 bytes entry is in record { used = parts.0; id_is = parts.1; rec_is = parts.2 }
+is_spelled format bytes entry tree is =
+    let parts = spelled format bytes entry is in
+    by_tree (λ (format : Format). IsUsedBy bytes (stored_record format bytes) entry.id entry.rec → IsEntry format bytes entry.id entry.rec)
+    (λ e. e) (λ e. e) format tree (record { used = parts.0; id_is = parts.1; rec_is = parts.2 })
 
 some_size : (format : Format) → IsTreeFormat format → 4 ≤ record_size format
-some_size V1 tree = absurd (true≢false tree)
-some_size V1R32 tree = absurd (true≢false tree)
-some_size V2R0 tree = omega arith
-some_size V2R1 tree = omega arith
+some_size = by_tree _ (omega arith) (omega arith)
 
 -- what the entry of some bytes gives to an identifier
 abbrev given_by : Format → ℕ → List ℕ → Option Rec
@@ -90,10 +87,7 @@ same_entry format block bytes id other place rec is entry same =
     ∙ ap (λ (b : Bool). cond b (Some rec) None) (eq-eqb other id same))
 
 entry_id : (format : Format) (bytes : List ℕ) (other : ℕ) (rec : Rec) → IsEntry format bytes other rec → other ≡ stored_id bytes
-entry_id V1 bytes other rec entry = absurd entry
-entry_id V1R32 bytes other rec entry = absurd entry
-entry_id V2R0 bytes other rec entry = entry.id_is
-entry_id V2R1 bytes other rec entry = entry.id_is
+entry_id format bytes other rec entry = (entry_used format bytes other rec entry).id_is
 
 -- the identifier that an entry stores is the one that uses it
 pub stored_entry : (format : Format) (block bytes : List ℕ) (id other place size stored : ℕ) (rec : Rec) → IsTreeFormat format → size ≡ record_size format
