@@ -99,7 +99,7 @@ copy_wholes() {
 
 # Eight programs at a time make 500 edits each of one file, beside two that read it: each edit is in the end file, and no
 # report shows half of a run.
-for format in vfsold vfsv0 vfsv1; do
+for format in vfsold vfsold32 vfsv0 vfsv1; do
     "${runner[@]}" quotacheck -c -F "$format" q <<<'800 100 1 1 8'
     rm -f done reports
     : >reports
@@ -128,7 +128,7 @@ for format in vfsold vfsv0 vfsv1; do
 done
 
 # A writer that is stopped blocks the others, which do their part once it goes on; one that is killed lets go of the file.
-for format in vfsold vfsv0 vfsv1; do
+for format in vfsold vfsold32 vfsv0 vfsv1; do
     for signal in CONT KILL; do
         "${runner[@]}" quotacheck -c -F "$format" q <<<'1 100 1 1 8'
         "${runner[@]}" setquota -F "$format" -b q <given &
@@ -273,7 +273,7 @@ if command -v python3 >/dev/null; then
     same 'and lets it go with its end' "$got $(flock -n -x q echo free)" '0 free'
 
     # `rquotad` tells what was so when it began, and holds no lock.
-    for format in vfsold vfsv0 vfsv1; do
+    for format in vfsold vfsold32 vfsv0 vfsv1; do
         "${runner[@]}" quotacheck -c -F "$format" served <<<'1000 1000 1 1 8'
         "${runner[@]}" setquota -F "$format" 1000 100 200 10 20 served
         timeout 20 "${runner[@]}" rquotad --format "$format" --calls 3 --port "$port" --export /home user served &
@@ -295,7 +295,7 @@ fi
 mkdir far
 ln -s far/one near
 ln -s "$shared/near" nearer
-for format in vfsold vfsv0 vfsv1; do
+for format in vfsold vfsold32 vfsv0 vfsv1; do
     "${runner[@]}" quotacheck -c -F "$format" far/one <<<'1 100 1 1 8'
     expect "new limits of $format behind a link" 0 '' '' setquota -F "$format" 1 1 2 3 4 near
     expect "more limits of $format behind two links" 0 '' '' setquota -F "$format" 2 5 6 7 8 nearer

@@ -7,7 +7,7 @@
 seq 5000 | awk '{ print $1, 100, 1, $1, 8 }' >owners
 seq 5000 | awk '{ print "user" $1 ":x:" $1 ":1::/:/bin/sh" }' >users
 printf '1 100 200 3 4\n5000 50 60 7 8\nuser70 70 70 7 7\n6000 9 0 0 0\n1 20 20 2 2\n5000 0 0 0 0\n' >few
-for format in vfsold vfsv1; do
+for format in vfsold vfsold32 vfsv1; do
     expect "5,000 owners in a $format file" 0 '' '' quotacheck -c -u -F "$format" --input owners one
     same "they are more than a window of $format" "$(($(stat -c %s one) > 65536))" 1
     cp one other
