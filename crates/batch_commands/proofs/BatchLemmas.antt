@@ -11,6 +11,7 @@ use Rattle.outside.specs.Frame.{OnlyReads}
 use Rattle.quota_value.specs.QuotaValue.{QuotaValue}
 use Rattle.outside.specs.Seen.{StoreSeen}
 use Rattle.outside.proofs.FrameLemmas.{only_reads-none}
+use Rattle.quota_map.specs.Asked.{Asked}
 use Rattle.quota_map.specs.AnyFile.{any_seen}
 use Rattle.quota_map.specs.declared.any_file.AnyFile.{AnyFile}
 use Rattle.quota_map.specs.View.{IsOpenedAs, fresh_seen}
@@ -309,12 +310,12 @@ ends_none None all = refl
 ends_none (Some refusal) all = absurd (false≢true all)
 
 -- for what the edit of a line may be refused
-line_may_of : (asked : Option Format) (file : List ℕ) (id : ℕ) (limits : FourLimits) (now : ℕ) (cause : Cause) → ChangeMayRefuse asked (limits_edit id limits now) file cause file ⊎ MayRefuseOpening asked file cause file
+line_may_of : (asked : Asked) (file : List ℕ) (id : ℕ) (limits : FourLimits) (now : ℕ) (cause : Cause) → ChangeMayRefuse asked (limits_edit id limits now) file cause file ⊎ MayRefuseOpening asked file cause file
     → LineEditMayRefuse asked file cause file
 line_may_of asked file id limits now cause (inl may) = inl (id, limits, now, may)
 line_may_of asked file id limits now cause (inr may) = inr may
 
-pub line_may_fail : {T : Type 0} (asked : Option Format) (name : List ℕ) (id : ℕ) (limits : FourLimits) (now : ℕ) (tells : Bool) (opened file : AnyFile) (before after : StoreSeen) (format : Format) (fault : EditFault)
+pub line_may_fail : {T : Type 0} (asked : Asked) (name : List ℕ) (id : ℕ) (limits : FourLimits) (now : ℕ) (tells : Bool) (opened file : AnyFile) (before after : StoreSeen) (format : Format) (fault : EditFault)
     → any_seen opened ≡ fresh_seen name format → IsOpenedAs asked format → AnyEdits {T = T} (limits_edit id limits now) tells opened file before after (Err fault)
     → LineEditMayRefuse asked name (edit_cause fault) name
 line_may_fail asked name id limits now tells opened file before after format fault was as_asked edits =

@@ -4,12 +4,12 @@ use Rattle.std.specs.Prelude.{IfSome}
 use Rattle.std.proofs.lemmas.Option.{none-some}
 use Rattle.id_names.specs.NamesFile.{NameLine}
 use Rattle.quota_types.specs.declared.field.Field.{Field}
-use Rattle.quota_types.specs.declared.file_kind.Format.{Format}
 use Rattle.quota_types.specs.declared.file_kind.Kind.{Kind}
 use Rattle.input_text.specs.InputLines.{InputLines, NoLine, LineThen, LongNext, PastNext, input_lines}
 use Rattle.quota_value.specs.QuotaValue.{QuotaValue}
 use Rattle.input_text.specs.InputLeft.{left_from}
 use Rattle.outside.specs.World.{World}
+use Rattle.quota_map.specs.Asked.{Asked, asked_of}
 use Rattle.quota_map.specs.View.{IsView}
 use Rattle.command_words.specs.declared.command.Common.{Common}
 use Rattle.refusals.specs.declared.cause.Cause.{Cause}
@@ -67,7 +67,7 @@ never_lines names place PastNext number = refl
 -- Edits of lines.
 
 -- one of these lines, and of one more before them
-one_more : (kind : Kind) (asked : Option Format) (now : ℕ) (line : LineEdit) (lines : List LineEdit) (file : Option (List ℕ)) (blocks limit : ℕ) → IsFullForOne kind asked now lines file blocks limit
+one_more : (kind : Kind) (asked : Asked) (now : ℕ) (line : LineEdit) (lines : List LineEdit) (file : Option (List ℕ)) (blocks limit : ℕ) → IsFullForOne kind asked now lines file blocks limit
     → IsFullForOne kind asked now (line ∷ lines) file blocks limit
 one_more kind asked now line lines file blocks limit one = record {
   before = line ∷ one.before;
@@ -78,12 +78,12 @@ one_more kind asked now line lines file blocks limit one = record {
 }
 
 -- the lines behind one of which the edit left this value end so that one of them has no room
-abbrev pub RestFull : Way → Kind → Option Format → List ℕ → ℕ → List LineEdit → Option Refusal → Outside → Refusal → (blocks limit : ℕ) → Type 0
+abbrev pub RestFull : Way → Kind → Asked → List ℕ → ℕ → List LineEdit → Option Refusal → Outside → Refusal → (blocks limit : ℕ) → Type 0
 RestFull way kind asked file now lines more to refusal blocks limit =
     (value : QuotaValue) (old : Outside) (acts : List Act) → IsView (old.files file) kind asked (Ok value) → EndsBy (EditsThen way file now lines value more) old acts to (Some refusal)
     → (refusal.name ≡ file) × IsFullForOne kind asked now lines (to.files file) blocks limit
 
-line_written : (way after : Way) (kind : Kind) (asked : Option Format) (file : List ℕ) (now : ℕ) (line : LineEdit) (lines : List LineEdit) (more : Option Refusal) (value new : QuotaValue) (old : Outside) (acts : List Act) (to : Outside)
+line_written : (way after : Way) (kind : Kind) (asked : Asked) (file : List ℕ) (now : ℕ) (line : LineEdit) (lines : List LineEdit) (more : Option Refusal) (value new : QuotaValue) (old : Outside) (acts : List Act) (to : Outside)
     (refusal : Refusal) (blocks limit : ℕ) → refusal.cause ≡ Full blocks limit → RestFull after kind asked file now lines more to refusal blocks limit
     → IsView (old.files file) kind asked (Ok value) → (edit_of line now).edited value ≡ Ok new
     → (idle : Bool) → (edit_of line now).is_idle value ≡ idle → (large : Bool) → is_too_large (edit_of line now) (old.files file) new ≡ large
@@ -113,7 +113,7 @@ line_written way after kind asked file now line lines more value new old acts to
     let found = rest new (record old { files = ends.1 }) ends.0 (seen_again kind asked (old.files file) (ends.1 file) value new view kinds formats ends.3.0) ends.4 in
     (found.0, one_more kind asked now line lines (to.files file) blocks limit found.1)
 
-line_full : (way after : Way) (kind : Kind) (asked : Option Format) (file : List ℕ) (now : ℕ) (line : LineEdit) (lines : List LineEdit) (more : Option Refusal) (value : QuotaValue) (old : Outside) (acts : List Act) (to : Outside)
+line_full : (way after : Way) (kind : Kind) (asked : Asked) (file : List ℕ) (now : ℕ) (line : LineEdit) (lines : List LineEdit) (more : Option Refusal) (value : QuotaValue) (old : Outside) (acts : List Act) (to : Outside)
     (refusal : Refusal) (blocks limit : ℕ) → refusal.cause ≡ Full blocks limit → RestFull after kind asked file now lines more to refusal blocks limit
     → IsView (old.files file) kind asked (Ok value) → (edited : Result QuotaValue (Field × ℕ)) → (edit_of line now).edited value ≡ edited
     → EndsBy (Then (met_at line.number (changed way file (edit_of line now) (old.files file) value edited)) (λ (done : List Act). DoingAll done (EditsThen after file now lines (value_left edited value) more))) old acts to (Some refusal)
@@ -127,7 +127,7 @@ other_end : {R : Type 0} (more : Option Refusal) (refusal : Refusal) (blocks lim
 other_end None refusal blocks limit is never same = absurd (none-some refusal (sym same))
 other_end (Some other) refusal blocks limit is never same = other_refusal refusal other blocks limit is same never
 
-pub applied_full : (way : Way) (kind : Kind) (asked : Option Format) (file : List ℕ) (now : ℕ) (lines : List LineEdit) (more : Option Refusal) (to : Outside) (refusal : Refusal) (blocks limit : ℕ)
+pub applied_full : (way : Way) (kind : Kind) (asked : Asked) (file : List ℕ) (now : ℕ) (lines : List LineEdit) (more : Option Refusal) (to : Outside) (refusal : Refusal) (blocks limit : ℕ)
     → refusal.cause ≡ Full blocks limit → IfOther more → RestFull way kind asked file now lines more to refusal blocks limit
 applied_full way kind asked file now [] more to refusal blocks limit is never = λ value old acts view ends. other_end more refusal blocks limit is never ends.ends
 applied_full way kind asked file now (line ∷ lines) more to refusal blocks limit is never = λ value old acts view ends.
@@ -135,14 +135,14 @@ applied_full way kind asked file now (line ∷ lines) more to refusal blocks lim
     line_full way after kind asked file now line lines more value old acts to refusal blocks limit is (applied_full after kind asked file now lines more to refusal blocks limit is never) view ((edit_of line now).edited value) refl ends
 
 applying_full : (common : Common) (from : Option (List ℕ)) (file : List ℕ) (invocation : Invocation) (names : List NameLine) (value : QuotaValue) (old : Outside) (acts : List Act) (new : Outside) (refusal : Refusal) (blocks limit : ℕ)
-    → refusal.cause ≡ Full blocks limit → names_seen common.kind common.names old.files ≡ Passed names → IsView (old.files file) common.kind common.format (Ok value)
+    → refusal.cause ≡ Full blocks limit → names_seen common.kind common.names old.files ≡ Passed names → IsView (old.files file) common.kind (asked_of common.format) (Ok value)
     → EndsBy (ReadSteps names from file invocation.now value) old acts new (Some refusal)
     → (refusal.name ≡ file) × IsFullForLine common from file invocation.now old new.files blocks limit
 applying_full common from file invocation names value old acts new refusal blocks limit is known view ends =
     let said = taking_passed from is_to_end (batch_step names from) (Applying file invocation.now value) old acts new refusal blocks limit is (λ bytes. tt) ends in
     let asked = said.0 in
     let never : IfOther asked.refusal = never_asked from (old.files) old.input asked said.2 in
-    let one = applied_full (way_of asked.edits) common.kind common.format file invocation.now asked.edits asked.refusal new refusal blocks limit is never value (record old { input = said.1 }) acts view said.3 in
+    let one = applied_full (way_of asked.edits) common.kind (asked_of common.format) file invocation.now asked.edits asked.refusal new refusal blocks limit is never value (record old { input = said.1 }) acts view said.3 in
     (one.0, record { names = names; asked = asked; known = known; said = said.2; one = one.1 })
   where
     of_passed : (asked other : AskedEdits) → Passed asked ≡ Passed other → IfOther asked.refusal → IfOther other.refusal
@@ -158,7 +158,7 @@ applying_full common from file invocation names value old acts new refusal block
 
 opened_full : (common : Common) (from : Option (List ℕ)) (file : List ℕ) (invocation : Invocation) (names : List NameLine) (old : Outside) (acts : List Act) (new : Outside) (refusal : Refusal) (blocks limit : ℕ)
     → refusal.cause ≡ Full blocks limit → names_seen common.kind common.names old.files ≡ Passed names
-    → EndsBy (Opening common.kind common.format file (ReadSteps names from file invocation.now)) old acts new (Some refusal)
+    → EndsBy (Opening common.kind (asked_of common.format) file (ReadSteps names from file invocation.now)) old acts new (Some refusal)
     → (refusal.name ≡ file) × IsFullForLine common from file invocation.now old new.files blocks limit
 opened_full common from file invocation names old acts new refusal blocks limit is known (inl seen) =
     applying_full common from file invocation names seen.0 old acts new refusal blocks limit is known seen.1 seen.2
@@ -168,6 +168,6 @@ pub lines_full : (common : Common) (from : Option (List ℕ)) (file : List ℕ) 
     → EndsBy (BatchSteps common from file invocation) old acts new (Some refusal) → refusal.cause ≡ Full blocks limit
     → (refusal.name ≡ file) × IsFullForLine common from file invocation.now old new.files blocks limit
 lines_full common from file invocation old acts new refusal blocks limit ends is =
-    let opens = λ (n : List NameLine). Opening common.kind common.format file (ReadSteps n from file invocation.now) in
+    let opens = λ (n : List NameLine). Opening common.kind (asked_of common.format) file (ReadSteps n from file invocation.now) in
     let named = then_passed (names_seen common.kind common.names old.files) opens old acts new refusal blocks limit is (never_names common.kind common.names old.files) ends in
     opened_full common from file invocation named.0 old acts new refusal blocks limit is named.1 named.2

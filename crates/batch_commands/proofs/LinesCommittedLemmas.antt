@@ -2,7 +2,6 @@
 use Rattle.std.proofs.Common.{◌≡◌, ◌≤◌, ⊎_elim, arith, inl, inr, Bool, true, IsTrue, ℕ, ◌+◌, List, [], ◌∷◌, ◌++◌, Option, None, Some, Result, sym, ap, subst, ◌∙◌, refl, append-nil, length-append}
 use Rattle.std.specs.Prelude.{All, IsOkAnd, ⊤}
 use Rattle.std.proofs.lemmas.List.Elements.{All-append, All-cons, All-nil, All-weaker}
-use Rattle.quota_types.specs.declared.file_kind.Format.{Format}
 use Rattle.quota_value.specs.QuotaValue.{QuotaValue}
 use Rattle.id_names.specs.NamesFile.{NameLine}
 use Rattle.outside.specs.Frame.{OnlyReads}
@@ -12,6 +11,7 @@ use Rattle.outside.specs.Seen.{Datagram, LinkSeen, SourceSeen, StoreSeen}
 use Rattle.outside.specs.World.{KeepsOthers, World, with_file}
 use Rattle.outside.proofs.WorldLemmas.{with_file-same}
 use Rattle.opened_file.specs.Committed.{CommitsOnce}
+use Rattle.quota_map.specs.Asked.{Asked}
 use Rattle.quota_map.proofs.ReplacedLemmas.{replaced-only}
 use Rattle.refusals.specs.declared.reason.Refusal.{Refusal}
 use Rattle.refusals.specs.Outcome.{Outcome, Passed}
@@ -294,12 +294,12 @@ comes_applying file now value asked old files to =
     record { done = to.done; hand = to.hand; now = to.now; begun = adds.begun old to.done to.hand to.now to.begun; there = to.there }
 
 -- lines of an input are made together where those that are read are
-abbrev pub ReadTogether : (names : List NameLine) (from : Option (List ℕ)) (format : Option Format) (file : List ℕ) (now : ℕ) (value : QuotaValue) (files : World) (input : List ℕ) → Type 0
+abbrev pub ReadTogether : (names : List NameLine) (from : Option (List ℕ)) (format : Asked) (file : List ℕ) (now : ℕ) (value : QuotaValue) (files : World) (input : List ℕ) → Type 0
 ReadTogether names from format file now value files input =
     (asked : AskedEdits) → input_said from (batch_step names from) files input ≡ Passed asked → MakeTogether format file now asked.edits files value
 
 -- an input that was read, and the edits of its lines, behind which a refusal may come
-pub applied_committed : (ended last : Bool) (names : List NameLine) (from : Option (List ℕ)) (format : Option Format) (file : List ℕ) (now : ℕ) (value : QuotaValue) (asked : AskedEdits) (old middle new : World)
+pub applied_committed : (ended last : Bool) (names : List NameLine) (from : Option (List ℕ)) (format : Asked) (file : List ℕ) (now : ℕ) (value : QuotaValue) (asked : AskedEdits) (old middle new : World)
     (input left : List ℕ) (datagrams : List Datagram) (latter commits : List World → Type 0) → middle ≡ old → (IsTrue last → IsTrue ended) → ((worlds : List World) → latter worlds → commits worlds)
     → input_said from (batch_step names from) old input ≡ Passed asked → HasTaken from (is_to_end asked) input left
     → CommitsFrom (MakeTogether format file now asked.edits middle value) ended (LineSteps (way_of asked.edits) file now asked.edits value) (ReplacesOnly file middle) middle new latter

@@ -16,6 +16,7 @@ use Rattle.batch_commands.specs.declared.batch_line.LineEdit.{LineEdit}
 use Rattle.batch_commands.specs.Batch.{Applying, AskedEdits, BatchSteps, EditsThen, ReadSteps, batch_step, edit_of, is_to_end, met_at, way_behind, way_of}
 use Rattle.edit_steps.specs.EditStep.{value_left, edit_step}
 use Rattle.batch_commands.proofs.AlikeLemmas.{line_steps_alike}
+use Rattle.quota_map.specs.Asked.{asked_of}
 
 lines_alike : (one other : World) (way : Way) (file : List ℕ) (now : ℕ) (lines : List LineEdit) (value : QuotaValue) (behind : Option Refusal) → LooksAlikeBy true one other (EditsThen way file now lines value behind)
 lines_alike one other way file now [] value behind = tt
@@ -49,11 +50,11 @@ applying_opens : (holds : Type 0) (file : List ℕ) (now : ℕ) (value : QuotaVa
 applying_opens holds file now value asked old opened opens = lines_open holds (way_of asked.edits) file now asked.edits value asked.refusal old opened opens
 
 pub batch_opens : (common : Common) (from : Option (List ℕ)) (file : List ℕ) (invocation : Invocation) (old : Outside) (opened : FileAsked) → Opens (BatchSteps common from file invocation) old opened
-    → opened ≡ record { kind = common.kind; asked = common.format; name = file }
+    → opened ≡ record { kind = common.kind; asked = asked_of common.format; name = file }
 batch_opens common from file invocation old opened opens =
-    let is = opened ≡ record { kind = common.kind; asked = common.format; name = file } in
-    let next = λ (lines : List NameLine). Opening common.kind common.format file (ReadSteps lines from file invocation.now) in
+    let is = opened ≡ record { kind = common.kind; asked = asked_of common.format; name = file } in
+    let next = λ (lines : List NameLine). Opening common.kind (asked_of common.format) file (ReadSteps lines from file invocation.now) in
     opens_naming is common.kind common.names next old opened (λ lines.
-    opens_opening is common.kind common.format file (ReadSteps lines from file invocation.now) old opened (λ same. same) (λ value.
+    opens_opening is common.kind (asked_of common.format) file (ReadSteps lines from file invocation.now) old opened (λ same. same) (λ value.
     opens_taking is from is_to_end (batch_step lines from) (Applying file invocation.now value) old opened (λ asked.
     applying_opens is file invocation.now value asked old opened))) opens

@@ -3,6 +3,7 @@ use Rattle.std.proofs.Common.{◌≡◌, ◌⊎◌, inl, inr, ℕ, Bool, true, I
 use Rattle.std.specs.Prelude.{is_none}
 use Rattle.quota_types.specs.declared.field.Field.{Field}
 use Rattle.quota_value.specs.QuotaValue.{QuotaValue}
+use Rattle.quota_map.specs.Asked.{asked_of}
 use Rattle.quota_map.specs.View.{IsView}
 use Rattle.id_names.specs.NamesFile.{NameLine}
 use Rattle.command_words.specs.declared.command.Common.{Common}
@@ -92,12 +93,12 @@ lines_sure way file now (line ∷ lines) value old fit =
 -- The file is accepted, the input is there, each of its lines has the stated form and is of names that are known, and the edits
 -- fit.
 pub batch_sure : (common : Common) (from : Option (List ℕ)) (file : List ℕ) (invocation : Invocation) (names : List NameLine) (value : QuotaValue) (asked : AskedEdits) (old : Outside)
-    → names_seen common.kind common.names old.files ≡ Passed names → IsView (old.files file) common.kind common.format (Ok value)
+    → names_seen common.kind common.names old.files ≡ Passed names → IsView (old.files file) common.kind (asked_of common.format) (Ok value)
     → input_said from (batch_step names from) old.files old.input ≡ Passed asked → asked.refusal ≡ None
     → AllFit (way_of asked.edits) file invocation.now asked.edits old.files value → IsSure (BatchSteps common from file invocation) old
 batch_sure common from file invocation names value asked old seen view said none fit =
-    sure_naming common.kind common.names (λ n. Opening common.kind common.format file (ReadSteps n from file invocation.now)) names old seen
-    (sure_opening common.kind common.format file (ReadSteps names from file invocation.now) value old view
+    sure_naming common.kind common.names (λ n. Opening common.kind (asked_of common.format) file (ReadSteps n from file invocation.now)) names old seen
+    (sure_opening common.kind (asked_of common.format) file (ReadSteps names from file invocation.now) value old view
     (sure_taking from is_to_end (batch_step names from) (Applying file invocation.now value) asked old said
     (λ left. subst (λ (r : Option Refusal). IsSure (EditsThen (way_of asked.edits) file invocation.now asked.edits value r) (record old { input = left })) (sym none)
     (lines_sure (way_of asked.edits) file invocation.now asked.edits value (record old { input = left }) fit))))

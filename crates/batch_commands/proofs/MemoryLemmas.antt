@@ -5,6 +5,7 @@ use Rattle.std.proofs.lemmas.Bool.{false≢true}
 use Rattle.std.proofs.lemmas.Option.{same_Some}
 use Rattle.opened_file.specs.declared.quota_file.OpenFault.{OpenFault}
 use Rattle.opened_file.specs.declared.quota_file.OpenFault.TheVariants.{Store as NotRead, Memory as NoMemory}
+use Rattle.quota_map.specs.Asked.{Asked}
 use Rattle.quota_map.proofs.SeenLemmas.{IsOfCall}
 use Rattle.file_in_memory.specs.OneFile.{only_file}
 use Rattle.opened_file.specs.EditsOne.{EditsOne, StaysUnlessWritten}
@@ -12,7 +13,6 @@ use Rattle.outside.specs.Count.{Rose}
 use Rattle.outside.specs.Frame.{OnlyReads}
 use Rattle.quota_value.specs.QuotaValue.{QuotaValue}
 use Rattle.quota_map.specs.View.{IsView}
-use Rattle.quota_types.specs.declared.file_kind.Format.{Format}
 use Rattle.quota_types.specs.declared.file_kind.Kind.{Kind}
 use Rattle.outside.specs.Seen.{LinkSeen, SinkSeen, SourceSeen, StoreSeen}
 use Rattle.outside.specs.World.{KeepsOthers, World}
@@ -159,7 +159,7 @@ opened_bytes text name bytes memory opened named is reads = record {
 }
 
 -- and whoever opens it sees what its bytes stand for
-pub opened_view : (text name bytes : List ℕ) (memory : StoreSeen) (kind : Kind) (asked : Option Format) (value : QuotaValue) → text ≡ name → memory ≡ fresh_file text bytes → IsView (Some bytes) kind asked (Ok value)
+pub opened_view : (text name bytes : List ℕ) (memory : StoreSeen) (kind : Kind) (asked : Asked) (value : QuotaValue) → text ≡ name → memory ≡ fresh_file text bytes → IsView (Some bytes) kind asked (Ok value)
     → IsView (memory.files name) kind asked (Ok value)
 opened_view text name bytes memory kind asked value named is view =
     subst (λ (f : Option (List ℕ)). IsView f kind asked (Ok value))

@@ -1,9 +1,10 @@
 -- What lines do rests on the file that they edit alone: as they end in one world, they end in any other that has the same file.
-use Rattle.std.proofs.Common.{◌≡◌, ℕ, Bool, true, false, List, [], ◌∷◌, Option, None, Some, Ok, Err, Result, refl, sym, ap, subst, ◌∙◌}
+use Rattle.std.proofs.Common.{◌≡◌, ℕ, Bool, true, false, List, [], ◌∷◌, Option, None, Ok, Err, Result, refl, sym, ap, subst, ◌∙◌}
 use Rattle.quota_types.specs.declared.field.Field.{Field}
 use Rattle.quota_value.specs.QuotaValue.{QuotaValue}
 use Rattle.outside.specs.World.{World, with_file}
 use Rattle.outside.proofs.WorldLemmas.{KeepsOthers-with_file, with_file-again, with_file-at, with_file-same}
+use Rattle.quota_map.specs.Asked.{InFormat}
 use Rattle.quota_map.specs.View.{IsView}
 use Rattle.set_edit.specs.Editing.{Edit}
 use Rattle.refusals.specs.declared.reason.Refusal.{Refusal}
@@ -46,7 +47,7 @@ change_over way file value next more one other new acts refusal same by =
       by.0,
       middle,
       by.2,
-      (subst (λ (b : Option (List ℕ)). IsView b value.kind (Some value.format) (Ok value)) (sym at) by.3.0, KeepsOthers-with_file other.files file (by.1 file)),
+      (subst (λ (b : Option (List ℕ)). IsView b value.kind (InFormat value.format) (Ok value)) (sym at) by.3.0, KeepsOthers-with_file other.files file (by.1 file)),
       subst (λ (w : World). EndsBy next (record other { files = middle }) by.0 (record other { files = w }) refusal) (with_file-again other.files file (by.1 file) (new.files file)) rest,
     )
 

@@ -5,12 +5,12 @@ use Rattle.std.proofs.lemmas.Bool.Decides.{nat_tests}
 use Rattle.quota_types.specs.declared.file_kind.Kind.{Kind}
 use Rattle.id_names.specs.NamesFile.{NameLine}
 use Rattle.file_blocks.specs.Block.{file_of}
-use Rattle.quota_types.specs.declared.file_kind.Format.{Format}
 use Rattle.opened_file.specs.FileSeen.{FileSeen}
 use Rattle.quota_value.specs.QuotaValue.{QuotaValue}
 use Rattle.opened_file.specs.Replace.{pieces_of}
 use Rattle.outside.specs.Seen.{StoreSeen}
 use Rattle.outside.specs.World.{World}
+use Rattle.quota_map.specs.Asked.{Asked, asked_of}
 use Rattle.quota_map.specs.AnyFile.{any_change_reads, reads_of_get}
 use Rattle.quota_map.specs.View.{IsView, opening_reads}
 use Rattle.quota_map.proofs.AnyLemmas.{any_few_gets, any_few_reads, get_few}
@@ -69,7 +69,7 @@ placed_reads file now lines value before middle after (Ok passed) way old new te
 
 -- All readings of a file that was accepted.
 
-pub within_four : (kind : Kind) (asked : Option Format) (file : List ℕ) (value : QuotaValue) (lines : List LineEdit) → IsView (Some file) kind asked (Ok value)
+pub within_four : (kind : Kind) (asked : Asked) (file : List ℕ) (value : QuotaValue) (lines : List LineEdit) → IsView (Some file) kind asked (Ok value)
     → opening_reads asked file + line_reads lines ≤ 4 + 4 * pieces_of (length file) + 17 * length lines
 within_four kind asked file value lines view =
     let opening = opening_few kind asked file value view in
@@ -77,10 +77,10 @@ within_four kind asked file value lines view =
 
 -- where there are names, or lines of a file, nothing is said
 pub batch_within : (common : Common) (from : Option (List ℕ)) (file : List ℕ) (files : World) (bytes : List ℕ) (old new : StoreSeen)
-    → (common.names ≡ None → from ≡ None → new.reads ≤ old.reads + (opening_reads common.format (file_of files file) + line_reads (input_edits [] bytes)))
+    → (common.names ≡ None → from ≡ None → new.reads ≤ old.reads + (opening_reads (asked_of common.format) (file_of files file) + line_reads (input_edits [] bytes)))
     → ReadsWithin (batch_reads common from file files bytes) old new
 batch_within common from file files bytes old new few =
-    within common.names from (opening_reads common.format (file_of files file) + line_reads (input_edits [] bytes)) few
+    within common.names from (opening_reads (asked_of common.format) (file_of files file) + line_reads (input_edits [] bytes)) few
   where
     within : (names from : Option (List ℕ)) (reads : ℕ) → (names ≡ None → from ≡ None → new.reads ≤ old.reads + reads) → ReadsWithin (if_neither names from reads) old new
     within None None reads few = few refl refl
@@ -90,11 +90,11 @@ batch_within common from file files bytes old new few =
 -- so it is of what was done once the names were read
 pub named_within : (common : Common) (from : Option (List ℕ)) (file bytes : List ℕ) (result : Result (Unit {0}) Refusal) (told input_told : Type 0) (names : List NameLine) (old middle new : StoreSeen)
     → MayBeNames common.names names → (common.names ≡ None → middle ≡ old)
-    → (from ≡ None → OnOk result (told → input_told → new.reads ≤ middle.reads + (opening_reads common.format (file_of middle.files file) + line_reads (input_edits names bytes))))
+    → (from ≡ None → OnOk result (told → input_told → new.reads ≤ middle.reads + (opening_reads (asked_of common.format) (file_of middle.files file) + line_reads (input_edits names bytes))))
     → OnOk result (told → input_told → ReadsWithin (batch_reads common from file old.files bytes) old new)
 named_within common from file bytes (Ok value) told input_told names old middle new given same few = λ is input_is.
     batch_within common from file old.files bytes old new (λ none without.
     let no_names : names ≡ [] = subst (λ (n : Option (List ℕ)). MayBeNames n names) none given in
-    subst (λ (s : StoreSeen). new.reads ≤ s.reads + (opening_reads common.format (file_of s.files file) + line_reads (input_edits [] bytes))) (same none)
-    (subst (λ (l : List NameLine). new.reads ≤ middle.reads + (opening_reads common.format (file_of middle.files file) + line_reads (input_edits l bytes))) no_names (few without is input_is)))
+    subst (λ (s : StoreSeen). new.reads ≤ s.reads + (opening_reads (asked_of common.format) (file_of s.files file) + line_reads (input_edits [] bytes))) (same none)
+    (subst (λ (l : List NameLine). new.reads ≤ middle.reads + (opening_reads (asked_of common.format) (file_of middle.files file) + line_reads (input_edits l bytes))) no_names (few without is input_is)))
 named_within common from file bytes (Err refusal) told input_told names old middle new given same few = tt

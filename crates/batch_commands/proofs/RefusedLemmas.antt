@@ -6,12 +6,12 @@ use Rattle.std.proofs.lemmas.Option.{none-some, same_Some}
 use Rattle.std.proofs.lemmas.Bool.Decides.{nat_tests}
 use Rattle.quota_types.specs.declared.field.Field.{Field}
 use Rattle.quota_types.specs.Format.{is_flat}
-use Rattle.quota_types.specs.declared.file_kind.Format.{Format}
 use Rattle.quota_types.specs.declared.file_kind.Format.TheVariants.{V1, V1R32, V2R0, V2R1}
 use Rattle.quota_types.specs.declared.file_kind.Kind.{Kind}
 use Rattle.file_in_memory.specs.OneFile.{only_file}
 use Rattle.quota_value.specs.QuotaValue.{QuotaValue}
 use Rattle.opened_file.specs.Replace.{pieces_of}
+use Rattle.quota_map.specs.Asked.{AnyTree, Asked, InFormat}
 use Rattle.quota_map.specs.View.{IsView, most_blocks, asks_tree}
 use Rattle.refusals.specs.declared.cause.Cause.{Cause}
 use Rattle.refusals.specs.declared.cause.Cause.TheVariants.{Full}
@@ -99,16 +99,16 @@ refused_never way way' name now lines value old old' new new' acts acts' refusal
 -- Files that have no room.
 
 -- a file that has no room for new limits is a tree file, and long
-pub full_long : (kind : Kind) (asked : Option Format) (line : LineEdit) (now : ℕ) (file : List ℕ) (blocks limit : ℕ) → IsFullFor kind asked (edit_of line now) (Some file) blocks limit
+pub full_long : (kind : Kind) (asked : Asked) (line : LineEdit) (now : ℕ) (file : List ℕ) (blocks limit : ℕ) → IsFullFor kind asked (edit_of line now) (Some file) blocks limit
     → IsTrue (asks_tree asked) × (1024 * most_blocks ≤ length file + 4096)
-full_long kind None line now file blocks limit full = (refl, tree_full kind None file full.value full.new blocks limit refl full.seen full.needs full.allowed full.passes)
-full_long kind (Some V2R0) line now file blocks limit full = (refl, tree_full kind (Some V2R0) file full.value full.new blocks limit refl full.seen full.needs full.allowed full.passes)
-full_long kind (Some V2R1) line now file blocks limit full = (refl, tree_full kind (Some V2R1) file full.value full.new blocks limit refl full.seen full.needs full.allowed full.passes)
-full_long kind (Some V1) line now file blocks limit full =
+full_long kind AnyTree line now file blocks limit full = (refl, tree_full kind AnyTree file full.value full.new blocks limit refl full.seen full.needs full.allowed full.passes)
+full_long kind (InFormat V2R0) line now file blocks limit full = (refl, tree_full kind (InFormat V2R0) file full.value full.new blocks limit refl full.seen full.needs full.allowed full.passes)
+full_long kind (InFormat V2R1) line now file blocks limit full = (refl, tree_full kind (InFormat V2R1) file full.value full.new blocks limit refl full.seen full.needs full.allowed full.passes)
+full_long kind (InFormat V1) line now file blocks limit full =
     let flat : is_flat full.new.format ≡ true = ap is_flat (set_format full.value full.new line.id line.limits now full.edited ∙ full.seen.0.1.format) in
     let none = flat_blocks (Some file) full.new full.new.format refl flat in
     absurd (omega (arith, none, full.needs, full.passes))
-full_long kind (Some V1R32) line now file blocks limit full =
+full_long kind (InFormat V1R32) line now file blocks limit full =
     let flat : is_flat full.new.format ≡ true = ap is_flat (set_format full.value full.new line.id line.limits now full.edited ∙ full.seen.0.1.format) in
     let none = flat_blocks (Some file) full.new full.new.format refl flat in
     absurd (omega (arith, none, full.needs, full.passes))
@@ -120,14 +120,14 @@ full_case (Full blocks limit) = inr (blocks, limit, refl)
 full_case _ = inl refl
 
 -- lines that leave room do not fill the file
-unfilled : (asked : Option Format) (count size most long : ℕ) → IsTrue (asks_tree asked) → (IsTrue (asks_tree asked) → most ≤ size + 2048 + 4096 * count) → LeaveRoom asked count size → long ≤ most
+unfilled : (asked : Asked) (count size most long : ℕ) → IsTrue (asks_tree asked) → (IsTrue (asks_tree asked) → most ≤ size + 2048 + 4096 * count) → LeaveRoom asked count size → long ≤ most
     → 1024 * most_blocks ≤ long + 4096 → ⊥
 unfilled asked count size most long tree grows room within full =
     let few = grows tree in
     let left = room tree in
     absurd (omega (arith, few, left, within, full))
 
-refused_together : (kind : Kind) (asked : Option Format) (file : List ℕ) (now others : ℕ) (lines : List LineEdit) (value : QuotaValue) (whole : Whole) (edited : Edited) (refusal : Refusal)
+refused_together : (kind : Kind) (asked : Asked) (file : List ℕ) (now others : ℕ) (lines : List LineEdit) (value : QuotaValue) (whole : Whole) (edited : Edited) (refusal : Refusal)
     → MayPay asked (length lines) whole → IsWithin whole.most (length lines) edited → IsView (Some whole.bytes.items) kind asked (Ok value)
     → IsMadeInMemory (LineSteps (Together others) file now lines value) file whole.bytes.items edited → refusal_in edited.lines.ended ≡ Some refusal
     → AreNeverDone file now lines value
@@ -147,7 +147,7 @@ refused_together kind asked file now others lines value whole edited refusal may
           absurd (unfilled asked (length lines) (length whole.bytes.items) whole.most (length edited.bytes.items) long.0 may.grows may.room within.short long.1)
     ]
 
-pub not_together : (kind : Kind) (asked : Option Format) (file : List ℕ) (now others : ℕ) (lines : List LineEdit) (value : QuotaValue) (whole : Whole) (edited : Edited)
+pub not_together : (kind : Kind) (asked : Asked) (file : List ℕ) (now others : ℕ) (lines : List LineEdit) (value : QuotaValue) (whole : Whole) (edited : Edited)
     → MayPay asked (length lines) whole → IsWithin whole.most (length lines) edited → IsView (Some whole.bytes.items) kind asked (Ok value)
     → IsMadeInMemory (LineSteps (Together others) file now lines value) file whole.bytes.items edited → IsSome (refusal_in edited.lines.ended)
     → AreNeverDone file now lines value
@@ -159,7 +159,7 @@ not_together kind asked file now others lines value whole edited may within view
     by_refusal (Some refusal) is some = refused_together kind asked file now others lines value whole edited refusal may within view made is
 
 -- Where it does not pay to replace the file by that of lines that were edited in memory, one was refused.
-pub pays_unless : (asked : Option Format) (count : ℕ) (whole : Whole) (edited : Edited) → MayPay asked count whole → IsWithin whole.most count edited
+pub pays_unless : (asked : Asked) (count : ℕ) (whole : Whole) (edited : Edited) → MayPay asked count whole → IsWithin whole.most count edited
     → (length edited.bytes.items ≤ 2 ^ 42 → 12 * edited.lines.made < pieces_of (length edited.bytes.items)) → IsSome (refusal_in edited.lines.ended)
 pays_unless asked count whole edited may within more = by_end edited.lines.ended within.all
   where
@@ -177,7 +177,7 @@ pays_unless asked count whole edited may within more = by_end edited.lines.ended
         absurd (omega (arith, least, pieces, few, all))
 
 -- Lines for which a file may be written anew reach no further than twelve pieces for each.
-pub paid_within : (asked : Option Format) (lines : List LineEdit) (size most : ℕ) → IsPaid asked lines size → (IsTrue (asks_tree asked) → most ≤ size + 2048 + 4096 * length lines)
+pub paid_within : (asked : Asked) (lines : List LineEdit) (size most : ℕ) → IsPaid asked lines size → (IsTrue (asks_tree asked) → most ≤ size + 2048 + 4096 * length lines)
     → (asks_tree asked ≡ false → IsFlatReach asked size lines most) → most ≤ 12288 * length lines
 paid_within asked lines size most paid grows room = by_test (asks_tree asked) refl
   where

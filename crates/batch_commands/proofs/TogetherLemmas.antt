@@ -14,8 +14,8 @@ use Rattle.outside.specs.ManyCalls.{ReplacesOne, replaced_files}
 use Rattle.opened_file.specs.Load.{IsLoadFault}
 use Rattle.opened_file.specs.declared.whole_file.LoadFault.{LoadFault}
 use Rattle.opened_file.specs.declared.whole_file.LoadFault.TheVariants.{Store as NotRead, NoFile, TooLarge, Memory as Wanting}
+use Rattle.quota_map.specs.Asked.{AnyTree, Asked, InFormat}
 use Rattle.quota_map.specs.View.{IsView}
-use Rattle.quota_types.specs.declared.file_kind.Format.{Format}
 use Rattle.quota_types.specs.declared.file_kind.Format.TheVariants.{V1, V1R32, V2R0, V2R1}
 use Rattle.quota_types.specs.declared.file_kind.Kind.{Kind}
 use Rattle.run_steps.specs.Causes.{load_cause}
@@ -355,14 +355,14 @@ load_reason uses old store tells None there stated TooLarge cause = λ told. abs
 load_reason uses old store tells (Some bytes) there stated TooLarge cause = λ told. let more = cause told.store in absurd (omega (arith, more))
 load_reason uses old store tells file there stated Wanting cause = tt
 
-load_may : (asked : Option Format) (file : List ℕ) (fault : LoadFault) → MayRefuseOpening asked file (load_cause fault) file
+load_may : (asked : Asked) (file : List ℕ) (fault : LoadFault) → MayRefuseOpening asked file (load_cause fault) file
 load_may asked file NotRead = tt
 load_may asked file NoFile = refl
 load_may asked file TooLarge = refl
 load_may asked file Wanting = tt
 
 -- lines whose file was not read whole
-pub unread_carried : {done : Bool} (steps : Steps) (asked : Option Format) (file : List ℕ) (tells : RunTells) (old : RunSeen) (store : StoreSeen) (fault : LoadFault) → IsOnlyRead done old.store store
+pub unread_carried : {done : Bool} (steps : Steps) (asked : Asked) (file : List ℕ) (tells : RunTells) (old : RunSeen) (store : StoreSeen) (fault : LoadFault) → IsOnlyRead done old.store store
     → (IsTrue tells.store → IsSome (old.store.files file)) → IsLoadFault old.store.faults store.faults tells.store (old.store.files file) (length (file_of old.store.files file)) fault
     → CarriesOut steps line_uses (LineEditMayRefuse asked file) tells old (with_store old store) (Err (refusal_of (load_cause fault) file))
 unread_carried steps asked file tells old store fault reads there cause =
@@ -370,16 +370,16 @@ unread_carried steps asked file tells old store fault reads there cause =
     (load_reason line_uses old store tells (old.store.files file) there _ fault cause) (inr (load_may asked file fault)) (record { line = λ no. refl; input_line = λ no. refl })
 
 -- a file that stands for a value is there
-pub view_some : (file : Option (List ℕ)) (kind : Kind) (asked : Option Format) (value : QuotaValue) → IsView file kind asked (Ok value) → IsSome file
+pub view_some : (file : Option (List ℕ)) (kind : Kind) (asked : Asked) (value : QuotaValue) → IsView file kind asked (Ok value) → IsSome file
 view_some (Some bytes) kind asked value view = refl
 view_some None kind asked value view = absurd (none_view kind asked value view)
   where
-    none_view : (kind : Kind) (asked : Option Format) (value : QuotaValue) → IsView None kind asked (Ok value) → ⊥
-    none_view kind None value view = view.0
-    none_view kind (Some V1) value view = view.0
-    none_view kind (Some V1R32) value view = view.0
-    none_view kind (Some V2R0) value view = view.0
-    none_view kind (Some V2R1) value view = view.0
+    none_view : (kind : Kind) (asked : Asked) (value : QuotaValue) → IsView None kind asked (Ok value) → ⊥
+    none_view kind AnyTree value view = view.0
+    none_view kind (InFormat V1) value view = view.0
+    none_view kind (InFormat V1R32) value view = view.0
+    none_view kind (InFormat V2R0) value view = view.0
+    none_view kind (InFormat V2R1) value view = view.0
 
 -- so it is of edits that were to be made together
 pub ended_read : {done : Bool} (attempt : Attempt) (steps : Steps) (uses : Uses) (may : Cause → List ℕ → Type 0) (tells : RunTells) (old : RunSeen) (store : StoreSeen) (new : RunSeen) → IsOnlyRead done old.store store
@@ -399,7 +399,7 @@ only_read-none old new same = record {
 }
 
 -- there was not enough memory, and nothing was done
-pub wanting_carried : {done : Bool} (steps : Steps) (asked : Option Format) (file : List ℕ) (tells : RunTells) (old : RunSeen) (store : StoreSeen) → IsOnlyRead done old.store store
+pub wanting_carried : {done : Bool} (steps : Steps) (asked : Asked) (file : List ℕ) (tells : RunTells) (old : RunSeen) (store : StoreSeen) → IsOnlyRead done old.store store
     → CarriesOut steps line_uses (LineEditMayRefuse asked file) tells old (with_store old store) (Err (refusal_of WantOfMemory file))
 wanting_carried steps asked file tells old store reads =
     none_carried steps line_uses (LineEditMayRefuse asked file) tells old store (refusal_of WantOfMemory file) (λ is. cc) reads tt (inr tt) (record { line = λ no. refl; input_line = λ no. refl })
@@ -423,7 +423,7 @@ put_carried others file now lines value bytes edited may tells old store edits m
     steps_over others file now lines value bytes edited tells old store of.1 of.0.named (takes told.store of.0) writes)
 
 -- edits that were made in memory and not put back
-pub refused_carried : (others : ℕ) (file : List ℕ) (now : ℕ) (lines : List LineEdit) (value : QuotaValue) (bytes : List ℕ) (edited : Edited) (asked : Option Format) (tells : RunTells) (old : RunSeen) (store : StoreSeen) (fault : ReplaceFault)
+pub refused_carried : (others : ℕ) (file : List ℕ) (now : ℕ) (lines : List LineEdit) (value : QuotaValue) (bytes : List ℕ) (edited : Edited) (asked : Asked) (tells : RunTells) (old : RunSeen) (store : StoreSeen) (fault : ReplaceFault)
     → (edited.writes ≡ 0 → ⊥) → (IsTrue tells.store → StandsAlone old.store.files file bytes × IsMadeInMemory (LineSteps (Together others) file now lines value) file bytes edited)
     → KeepsOthers (replacement_name file) old.store.files store.files → ReplacesOne file old.store store → store.writes ≤ old.store.writes + 12 * (1 + others)
     → IsReplaceFault old.store.faults store.faults fault → OnNoMemory fault (store ≡ old.store)

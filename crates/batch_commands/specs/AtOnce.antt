@@ -1,11 +1,11 @@
 -- When the edits of lines are made together, by one replacement of their file. Source: this project's own.
 use Rattle.std.specs.Prelude.{◌≡◌, ◌≤◌, ◌+◌, ◌*◌, ◌^◌, ℕ, All, false, IsTrue, List, Ok, Option, None, length}
 use Rattle.id_names.specs.NamesFile.{NameLine}
-use Rattle.quota_types.specs.declared.file_kind.Format.{Format}
 use Rattle.file_blocks.specs.Block.{file_of}
 use Rattle.outside.specs.Replacement.{replacement_name}
 use Rattle.outside.specs.World.{World}
 use Rattle.quota_value.specs.QuotaValue.{QuotaValue}
+use Rattle.quota_map.specs.Asked.{Asked, asked_of}
 use Rattle.quota_map.specs.View.{IsView, asks_tree}
 use Rattle.refusals.specs.Outcome.{Passed}
 use Rattle.command_words.specs.declared.command.Common.{Common}
@@ -19,7 +19,7 @@ use Rattle.batch_commands.specs.declared.batch_line.LineEdit.{LineEdit}
 -- A file of this length may be written anew for lines, in no more pieces of 1,024 bytes than twelve for each of them: a tree file of 8,192
 -- bytes for each, less 2,048 for its header and its root, since a line may add 4,096; and a flat file of 12,288 bytes for each, within
 -- which stand the records that the lines ask for, too. The lines leave room in it.
-pub record IsPaid (asked : Option Format) (lines : List LineEdit) (size : ℕ) : Type 0 where
+pub record IsPaid (asked : Asked) (lines : List LineEdit) (size : ℕ) : Type 0 where
   pub tree : IsTrue (asks_tree asked) → size + 2048 ≤ 8192 * length lines
   pub flat : asks_tree asked ≡ false → (size ≤ 12288 * length lines) × AreWithin asked lines (12288 * length lines)
   pub within : 12288 * length lines ≤ 2 ^ 42
@@ -27,7 +27,7 @@ pub record IsPaid (asked : Option Format) (lines : List LineEdit) (size : ℕ) :
 
 -- The edits of lines are made together: there are several, each of which fits, no file has the name of this one with `.new` added, and it
 -- may be written anew for so many.
-pub record MakeTogether (asked : Option Format) (file : List ℕ) (now : ℕ) (lines : List LineEdit) (files : World) (value : QuotaValue) : Type 0 where
+pub record MakeTogether (asked : Asked) (file : List ℕ) (now : ℕ) (lines : List LineEdit) (files : World) (value : QuotaValue) : Type 0 where
   pub several : 2 ≤ length lines
   pub alone : files (replacement_name file) ≡ None
   pub paid : IsPaid asked lines (length (file_of files file))
@@ -37,6 +37,6 @@ pub record MakeTogether (asked : Option Format) (file : List ℕ) (now : ℕ) (l
 abbrev pub AreMadeTogether : Common → (from : Option (List ℕ)) → (file : List ℕ) → (now : ℕ) → Outside → Type 0
 AreMadeTogether common from file now old =
     (names : List NameLine) → names_seen common.kind common.names old.files ≡ Passed names
-    → (value : QuotaValue) → IsView (old.files file) common.kind common.format (Ok value)
+    → (value : QuotaValue) → IsView (old.files file) common.kind (asked_of common.format) (Ok value)
     → (asked : AskedEdits) → input_said from (batch_step names from) old.files old.input ≡ Passed asked
-    → MakeTogether common.format file now asked.edits old.files value
+    → MakeTogether (asked_of common.format) file now asked.edits old.files value

@@ -12,6 +12,7 @@ use Rattle.input_text.specs.Words.{words_of}
 use Rattle.file_blocks.specs.Block.{file_of}
 use Rattle.opened_file.specs.Replace.{pieces_of}
 use Rattle.outside.specs.World.{World}
+use Rattle.quota_map.specs.Asked.{AnyTree, Asked, InFormat, asked_of}
 use Rattle.quota_map.specs.View.{most_blocks, opening_reads, asks_tree}
 use Rattle.set_edit.specs.Editing.{Edit}
 use Rattle.set_edit.specs.Edits.{limits_edit}
@@ -158,7 +159,7 @@ ReadSteps names from file now value = Taking from is_to_end (batch_step names fr
 abbrev pub BatchSteps : Common → Option (List ℕ) → List ℕ → Invocation → Steps
 BatchSteps common from file invocation =
     Naming common.kind common.names (λ (names : List NameLine).
-    Opening common.kind common.format file (ReadSteps names from file invocation.now))
+    Opening common.kind (asked_of common.format) file (ReadSteps names from file invocation.now))
 
 -- the edits that an input asks for
 abbrev pub input_edits : List NameLine → (bytes : List ℕ) → List LineEdit
@@ -169,14 +170,14 @@ unfoldable pub record_end : Format → ℕ → ℕ
 record_end format id = record_size format * (id + 1)
 
 -- A flat file that is asked for has room for the record of each of these lines, where it has so many bytes.
-abbrev pub AreWithin : Option Format → List LineEdit → (room : ℕ) → Type 0
-AreWithin None lines room = ⊤
-AreWithin (Some format) lines room = All (λ (line : LineEdit). record_end format line.id ≤ room) lines
+abbrev pub AreWithin : Asked → List LineEdit → (room : ℕ) → Type 0
+AreWithin AnyTree lines room = ⊤
+AreWithin (InFormat format) lines room = All (λ (line : LineEdit). record_end format line.id ≤ room) lines
 
 -- So many lines leave room in a file of this length, which is no tree file, or with 4,096 bytes for each of them, and for two more, has
 -- fewer bytes than the most blocks that it may have. (What a line needs that is refused counts as one more, and as another one what a file
 -- may lack of its header and its root.)
-abbrev pub LeaveRoom : Option Format → (count length : ℕ) → Type 0
+abbrev pub LeaveRoom : Asked → (count length : ℕ) → Type 0
 LeaveRoom asked count length = IsTrue (asks_tree asked) → length + 4096 * (2 + count) < 1024 * most_blocks
 
 -- how many calls of `read` edits of lines make at most, where all are made: seventeen each
@@ -192,7 +193,7 @@ if_neither names from reads = None
 abbrev pub batch_reads : Common → Option (List ℕ) → List ℕ → World → (bytes : List ℕ) → Option ℕ
 batch_reads common from file files bytes =
     if_neither common.names from
-    (opening_reads common.format (file_of files file) + line_reads (input_edits [] bytes))
+    (opening_reads (asked_of common.format) (file_of files file) + line_reads (input_edits [] bytes))
 
 -- edits of lines change the store, and those before a refused one stay
 abbrev pub line_uses : Uses
@@ -214,13 +215,13 @@ LineMayRefuse names place BadNumber name =
 LineMayRefuse names place _ name = ⊥
 
 -- the causes for which an edit of a line may be refused, whatever is told
-abbrev pub LineEditMayRefuse : Option Format → List ℕ → Cause → List ℕ → Type 0
+abbrev pub LineEditMayRefuse : Asked → List ℕ → Cause → List ℕ → Type 0
 LineEditMayRefuse asked file cause name =
     ((id : ℕ) × (limits : FourLimits) × (now : ℕ) × ChangeMayRefuse asked (limits_edit id limits now) file cause name)
     ⊎ MayRefuseOpening asked file cause name
 
 -- the causes for which lines may not be applied, whatever is told, where these are the names
-abbrev pub NamedBatchMayRefuse : Option Format → Option (List ℕ) → List ℕ → List NameLine → Cause → List ℕ → Type 0
+abbrev pub NamedBatchMayRefuse : Asked → Option (List ℕ) → List ℕ → List NameLine → Cause → List ℕ → Type 0
 NamedBatchMayRefuse asked from file names cause name =
     LineEditMayRefuse asked file cause name
     ⊎ (InputMayRefuse Lines from cause name
@@ -230,4 +231,4 @@ NamedBatchMayRefuse asked from file names cause name =
 abbrev pub BatchMayRefuse : Common → Option (List ℕ) → List ℕ → Cause → List ℕ → Type 0
 BatchMayRefuse common from file cause name =
     NamesMayRefuse common.names cause name
-    ⊎ ((names : List NameLine) × MayBeNames common.names names × NamedBatchMayRefuse common.format from file names cause name)
+    ⊎ ((names : List NameLine) × MayBeNames common.names names × NamedBatchMayRefuse (asked_of common.format) from file names cause name)

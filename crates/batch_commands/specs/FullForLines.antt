@@ -2,7 +2,6 @@
 -- since it would need too many blocks. Source: this project's own.
 use Rattle.std.specs.Prelude.{◌≡◌, ℕ, ⊤, List, [], ◌∷◌, ◌++◌, Option}
 use Rattle.id_names.specs.NamesFile.{NameLine}
-use Rattle.quota_types.specs.declared.file_kind.Format.{Format}
 use Rattle.quota_types.specs.declared.file_kind.Kind.{Kind}
 use Rattle.quota_value.specs.QuotaValue.{QuotaValue}
 use Rattle.outside.specs.World.{World}
@@ -16,6 +15,7 @@ use Rattle.batch_commands.specs.Batch.{AskedEdits, batch_step, edit_of, way_behi
 use Rattle.edit_steps.specs.EditStep.{edit_step}
 use Rattle.batch_commands.specs.declared.batch_line.LineEdit.{LineEdit}
 use Rattle.edit_steps.specs.Fits.{Fits, IsFullFor}
+use Rattle.quota_map.specs.Asked.{Asked, asked_of}
 
 -- edits of lines of the file of this name fit, the first of which is done in this way, each in the value, and in the file, whichever it
 -- is, that the ones before it left
@@ -27,7 +27,7 @@ AllFit way name now (line ∷ lines) files value =
     → AllFit (way_behind way ((edit_of line now).is_idle value)) name now lines left new)
 
 -- one of these lines asks for an edit for which a file has no room
-pub record IsFullForOne (kind : Kind) (asked : Option Format) (now : ℕ) (lines : List LineEdit) (file : Option (List ℕ)) (blocks limit : ℕ) : Type 0 where
+pub record IsFullForOne (kind : Kind) (asked : Asked) (now : ℕ) (lines : List LineEdit) (file : Option (List ℕ)) (blocks limit : ℕ) : Type 0 where
   pub before : List LineEdit
   pub line : LineEdit
   pub behind : List LineEdit
@@ -40,4 +40,4 @@ pub record IsFullForLine (common : Common) (from : Option (List ℕ)) (file : Li
   pub asked : AskedEdits
   pub known : names_seen common.kind common.names old.files ≡ Passed names
   pub said : input_said from (batch_step names from) old.files old.input ≡ Passed asked
-  pub one : IsFullForOne common.kind common.format now asked.edits (files file) blocks limit
+  pub one : IsFullForOne common.kind (asked_of common.format) now asked.edits (files file) blocks limit

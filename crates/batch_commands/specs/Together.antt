@@ -7,7 +7,6 @@ use Rattle.outside.specs.Replacement.{replacement_name}
 use Rattle.outside.specs.Seen.{LinkSeen, SinkSeen, SourceSeen, StoreSeen}
 use Rattle.outside.specs.Unsynced.{AddsNone}
 use Rattle.outside.specs.World.{World}
-use Rattle.quota_types.specs.declared.file_kind.Format.{Format}
 use Rattle.quota_value.specs.QuotaValue.{QuotaValue}
 use Rattle.opened_file.specs.Replace.{pieces_of}
 use Rattle.opened_file.specs.declared.quota_file.OpenFault.{OpenFault}
@@ -21,6 +20,7 @@ use Rattle.refusals.specs.Status.{status_of}
 use Rattle.run_steps.specs.Act.{Act, Way}
 use Rattle.run_steps.specs.Done.{AreDone, Outside, RunSeen, RunTells, outside_of, seen_of}
 use Rattle.run_steps.specs.Meaning.{EndsBy}
+use Rattle.quota_map.specs.Asked.{Asked}
 use Rattle.quota_map.specs.View.{asks_tree}
 use Rattle.run_steps.specs.Run.{IsPlacedBy}
 use Rattle.run_steps.specs.Steps.{Steps}
@@ -114,7 +114,7 @@ pub record IsWithin (most count : ℕ) (edited : Edited) : Type 0 where
 -- So many lines of a file that was read whole may be edited together: what they may come to make of it can replace it, in no more calls
 -- of `write` than twelve for each; and a tree file comes to have no more than 4,096 bytes for each besides, and up to 2,048 of its
 -- header and its root, of which it may lack the end. They leave room in it.
-pub record MayPay (asked : Option Format) (count : ℕ) (whole : Whole) : Type 0 where
+pub record MayPay (asked : Asked) (count : ℕ) (whole : Whole) : Type 0 where
   pub few : pieces_of whole.most ≤ 12 * count
   pub within : whole.most ≤ 2 ^ 42
   pub grows : IsTrue (asks_tree asked) → whole.most ≤ length whole.bytes.items + 2048 + 4096 * count
@@ -142,7 +142,7 @@ ReadsWhole count length before now = (now ≡ before) ⊎ ((pieces_of length ≤
 
 -- The least number of bytes in which a flat file that is asked for has room for as many as it has, and for the record of each of these
 -- lines.
-pub record IsFlatReach (asked : Option Format) (size : ℕ) (lines : List LineEdit) (most : ℕ) : Type 0 where
+pub record IsFlatReach (asked : Asked) (size : ℕ) (lines : List LineEdit) (most : ℕ) : Type 0 where
   pub reaches : size ≤ most
   pub holds : AreWithin asked lines most
   pub least : (room : ℕ) → size ≤ room → AreWithin asked lines room → most ≤ room

@@ -1,5 +1,4 @@
 ghost use Rattle.std.specs.Prelude.{ℕ, ◌+◌, ◌*◌, ◌≤◌, List, Option, None, ◌≡◌, ◌≢◌, Bool, Ok, false, IfErr, IsSome, IsTrue, OnOk, length, is_ok};
-ghost use Rattle.quota_types.specs.declared.file_kind.Format.{Format as FormatOf};
 ghost use Rattle.file_blocks.specs.Block.{file_of};
 ghost use Rattle.outside.specs.ManyCalls.{Syncs};
 ghost use Rattle.quota_value.specs.QuotaValue.{QuotaValue};
@@ -7,6 +6,7 @@ ghost use Rattle.outside.specs.Seen.{Datagram, LinkSeen, SinkSeen, SourceSeen};
 ghost use Rattle.opened_file.specs.EditsOne.{EditsOne};
 ghost use Rattle.outside.specs.Replacement.{ReplacesOnly};
 ghost use Rattle.outside.specs.World.{KeepsOthers};
+ghost use Rattle.quota_map.specs.Asked.{Asked, asked_of};
 ghost use Rattle.quota_map.specs.View.{IsOpenedAs, IsView, fresh_seen, opening_reads};
 ghost use Rattle.refusals.specs.declared.cause.Cause.TheVariants.{Memory};
 ghost use Rattle.run_steps.specs.Act.{Together, Way};
@@ -102,8 +102,8 @@ fn apply_named<S: Store, I: Source>(
     now: u64,
 ) -> Result<(), Refusal>
     ensures carries { (out err : SinkSeen) (link : LinkSeen) (out_tells err_tells link_tells : Bool)
-        → CarriesOut (Opening kind format file (ReadSteps names.now from file now))
-        (batch_uses from) (NamedBatchMayRefuse format from file names.now)
+        → CarriesOut (Opening kind (asked_of format) file (ReadSteps names.now from file now))
+        (batch_uses from) (NamedBatchMayRefuse (asked_of format) from file names.now)
         (tells_of S.tells I.tells out_tells err_tells link_tells)
         (seen_of (S.seen store.old) (I.seen input.old) out err link)
         (seen_of (S.seen store.new) (I.seen input.new) out err link) result }
@@ -112,14 +112,15 @@ fn apply_named<S: Store, I: Source>(
     ensures synced { IsTrue S.tells → Syncs (is_ok result) (S.seen store.old) (S.seen store.new) }
     ensures commits { (datagrams : List Datagram) → IsTrue S.tells → (from ≡ None → IsTrue I.tells)
         → CommitsSteps
-        ((value : QuotaValue) → IsView ((S.seen store.old).files file) kind format (Ok value) → (asked : AskedEdits)
+        ((value : QuotaValue) → IsView ((S.seen store.old).files file) kind (asked_of format) (Ok value)
+        → (asked : AskedEdits)
         → input_said from (batch_step names.now from) (S.seen store.old).files (I.seen input.old).left ≡ Passed asked
-        → MakeTogether format file now asked.edits (S.seen store.old).files value)
-        (is_ok result) (Opening kind format file (ReadSteps names.now from file now)) (ReplacesOnly file (S.seen store.old).files)
+        → MakeTogether (asked_of format) file now asked.edits (S.seen store.old).files value)
+        (is_ok result) (Opening kind (asked_of format) file (ReadSteps names.now from file now)) (ReplacesOnly file (S.seen store.old).files)
         (record { files = (S.seen store.old).files; input = (I.seen input.old).left; datagrams = datagrams }) (S.seen store.new).files
         (λ worlds. S.commits worlds store.old store.new) }
     ensures reads { from ≡ None → OnOk result (IsTrue S.tells → IsTrue I.tells → (S.seen store.new).reads ≤ (S.seen store.old).reads
-        + (opening_reads format (file_of (S.seen store.old).files file)
+        + (opening_reads (asked_of format) (file_of (S.seen store.old).files file)
         + line_reads (input_edits names.now (I.seen input.old).left))) }
     ensures untouched { IsSome from → input.new ≡ input.old }
     ensures keeps { I.keeps false input.old input.new }
@@ -146,11 +147,11 @@ fn apply_opened<S: Store, I: Source>(
     now: u64,
 ) -> Result<(), Refusal>
     requires { ⟦<AnyFile as QuotaFile<S>>⟧.seen opened ≡ fresh_seen file (⟦<AnyFile as QuotaFile<S>>⟧.seen opened).format }
-    ensures carries { IsOpenedAs format (⟦<AnyFile as QuotaFile<S>>⟧.seen opened).format
+    ensures carries { IsOpenedAs (asked_of format) (⟦<AnyFile as QuotaFile<S>>⟧.seen opened).format
         → (value : QuotaValue) → (IsTrue S.tells → ⟦<AnyFile as QuotaFile<S>>⟧.holds opened store.old value)
-        → (IsTrue S.tells → IsView ((S.seen store.old).files file) kind format (Ok value))
+        → (IsTrue S.tells → IsView ((S.seen store.old).files file) kind (asked_of format) (Ok value))
         → (out err : SinkSeen) (link : LinkSeen) (out_tells err_tells link_tells : Bool)
-        → CarriesOut (ReadSteps names.now from file now value) (batch_uses from) (NamedBatchMayRefuse format from file names.now)
+        → CarriesOut (ReadSteps names.now from file now value) (batch_uses from) (NamedBatchMayRefuse (asked_of format) from file names.now)
         (tells_of S.tells I.tells out_tells err_tells link_tells)
         (seen_of (S.seen store.old) (I.seen input.old) out err link)
         (seen_of (S.seen store.new) (I.seen input.new) out err link) result }
@@ -159,16 +160,16 @@ fn apply_opened<S: Store, I: Source>(
     ensures synced { IsTrue S.tells → Syncs (is_ok result) (S.seen store.old) (S.seen store.new) }
     ensures commits { (datagrams : List Datagram) → IsTrue S.tells → (from ≡ None → IsTrue I.tells)
         → (value : QuotaValue) → ⟦<AnyFile as QuotaFile<S>>⟧.holds opened store.old value
-        → IsView ((S.seen store.old).files file) kind format (Ok value)
+        → IsView ((S.seen store.old).files file) kind (asked_of format) (Ok value)
         → CommitsSteps
         ((asked : AskedEdits) → input_said from (batch_step names.now from) (S.seen store.old).files (I.seen input.old).left ≡ Passed asked
-        → MakeTogether format file now asked.edits (S.seen store.old).files value)
+        → MakeTogether (asked_of format) file now asked.edits (S.seen store.old).files value)
         (is_ok result) (ReadSteps names.now from file now value) (ReplacesOnly file (S.seen store.old).files)
         (record { files = (S.seen store.old).files; input = (I.seen input.old).left; datagrams = datagrams }) (S.seen store.new).files
         (λ worlds. S.commits worlds store.old store.new) }
-    ensures reads { IsOpenedAs format (⟦<AnyFile as QuotaFile<S>>⟧.seen opened).format
+    ensures reads { IsOpenedAs (asked_of format) (⟦<AnyFile as QuotaFile<S>>⟧.seen opened).format
         → (value : QuotaValue) → (IsTrue S.tells → ⟦<AnyFile as QuotaFile<S>>⟧.holds opened store.old value)
-        → (IsTrue S.tells → IsView ((S.seen store.old).files file) kind format (Ok value))
+        → (IsTrue S.tells → IsView ((S.seen store.old).files file) kind (asked_of format) (Ok value))
         → from ≡ None → OnOk result (IsTrue S.tells → IsTrue I.tells
         → (S.seen store.new).reads ≤ (S.seen store.old).reads
         + line_reads (input_edits names.now (I.seen input.old).left)) }
@@ -212,11 +213,12 @@ fn edit_lines<S: Store>(
     now: u64,
 ) -> Result<(), Refusal>
     requires { ⟦<AnyFile as QuotaFile<S>>⟧.seen opened ≡ fresh_seen file (⟦<AnyFile as QuotaFile<S>>⟧.seen opened).format }
-    ensures carries { IsOpenedAs format (⟦<AnyFile as QuotaFile<S>>⟧.seen opened).format
+    ensures carries { IsOpenedAs (asked_of format) (⟦<AnyFile as QuotaFile<S>>⟧.seen opened).format
         → (value : QuotaValue) → (IsTrue S.tells → ⟦<AnyFile as QuotaFile<S>>⟧.holds opened store.old value)
-        → (IsTrue S.tells → IsView ((S.seen store.old).files file) kind format (Ok value))
+        → (IsTrue S.tells → IsView ((S.seen store.old).files file) kind (asked_of format) (Ok value))
         → (input : SourceSeen) (out err : SinkSeen) (link : LinkSeen) (input_tells out_tells err_tells link_tells : Bool)
-        → CarriesOut (LineSteps (way_of lines.now) file now lines.now value) line_uses (LineEditMayRefuse format file)
+        → CarriesOut (LineSteps (way_of lines.now) file now lines.now value) line_uses
+        (LineEditMayRefuse (asked_of format) file)
         (tells_of S.tells input_tells out_tells err_tells link_tells)
         (seen_of (S.seen store.old) input out err link)
         (seen_of (S.seen store.new) input out err link) result }
@@ -224,12 +226,12 @@ fn edit_lines<S: Store>(
     ensures others { ReplacesOnly file (S.seen store.old).files (S.seen store.new).files }
     ensures synced { IsTrue S.tells → Syncs (is_ok result) (S.seen store.old) (S.seen store.new) }
     ensures commits { IsTrue S.tells → (value : QuotaValue) → ⟦<AnyFile as QuotaFile<S>>⟧.holds opened store.old value
-        → IsView ((S.seen store.old).files file) kind format (Ok value)
-        → CommitsFrom (MakeTogether format file now lines.now (S.seen store.old).files value) (is_ok result)
+        → IsView ((S.seen store.old).files file) kind (asked_of format) (Ok value)
+        → CommitsFrom (MakeTogether (asked_of format) file now lines.now (S.seen store.old).files value) (is_ok result)
         (LineSteps (way_of lines.now) file now lines.now value) (ReplacesOnly file (S.seen store.old).files) (S.seen store.old).files (S.seen store.new).files (λ worlds. S.commits worlds store.old store.new) }
-    ensures reads { IsOpenedAs format (⟦<AnyFile as QuotaFile<S>>⟧.seen opened).format
+    ensures reads { IsOpenedAs (asked_of format) (⟦<AnyFile as QuotaFile<S>>⟧.seen opened).format
         → (value : QuotaValue) → (IsTrue S.tells → ⟦<AnyFile as QuotaFile<S>>⟧.holds opened store.old value)
-        → (IsTrue S.tells → IsView ((S.seen store.old).files file) kind format (Ok value))
+        → (IsTrue S.tells → IsView ((S.seen store.old).files file) kind (asked_of format) (Ok value))
         → OnOk result (IsTrue S.tells → (S.seen store.new).reads ≤ (S.seen store.old).reads
         + line_reads lines.now) }
 {
@@ -261,7 +263,8 @@ pub fn edit_all<S: Store>(
     now: u64,
 ) -> EditedLines
     requires { ⟦<AnyFile as QuotaFile<S>>⟧.seen opened.old ≡ fresh_seen file (⟦<AnyFile as QuotaFile<S>>⟧.seen opened.old).format }
-    ensures carries { (way : Way) (asked : Option FormatOf) → IsOpenedAs asked (⟦<AnyFile as QuotaFile<S>>⟧.seen opened.old).format
+    ensures carries { (way : Way) (asked : Asked)
+        → IsOpenedAs asked (⟦<AnyFile as QuotaFile<S>>⟧.seen opened.old).format
         → (value : QuotaValue) → (IsTrue S.tells → ⟦<AnyFile as QuotaFile<S>>⟧.holds opened.old store.old value)
         → (input : SourceSeen) (out err : SinkSeen) (link : LinkSeen) (input_tells out_tells err_tells link_tells : Bool)
         → CarriesOut (LineSteps way file now lines.now value) line_uses (LineEditMayRefuse asked file)

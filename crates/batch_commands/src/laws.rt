@@ -7,8 +7,8 @@ ghost use Rattle.batch_commands.specs.declared.batch_line.LineEdit.{LineEdit};
 ghost use Rattle.command_words.specs.declared.command.Common.{Common};
 ghost use Rattle.quota_value.specs.QuotaValue.{QuotaValue};
 ghost use Rattle.opened_file.specs.Replace.{pieces_of};
+ghost use Rattle.quota_map.specs.Asked.{Asked};
 ghost use Rattle.quota_map.specs.View.{IsView, opening_reads};
-ghost use Rattle.quota_types.specs.declared.file_kind.Format.{Format};
 ghost use Rattle.quota_types.specs.declared.file_kind.Kind.{Kind};
 ghost use Rattle.refusals.specs.declared.cause.Cause.TheVariants.{Full};
 ghost use Rattle.refusals.specs.declared.reason.Refusal.{Refusal};
@@ -29,7 +29,7 @@ pub fn a_file_that_is_full_is_so_behind_lines()
 /// With the opening of their file lines make at most four calls of `read` for each 1,024 bytes of it, or a part of them, four more, and
 /// seventeen for each line, whichever way they are made.
 pub fn lines_read_a_file_four_times_at_most()
-    ensures reads { (kind : Kind) (asked : Option Format) (file : List ℕ) (value : QuotaValue) (lines : List LineEdit)
+    ensures reads { (kind : Kind) (asked : Asked) (file : List ℕ) (value : QuotaValue) (lines : List LineEdit)
         → IsView (Some file) kind asked (Ok value)
         → opening_reads asked file + line_reads lines ≤ 4 + 4 * pieces_of (length file) + 17 * length lines }
 {}

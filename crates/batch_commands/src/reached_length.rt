@@ -1,5 +1,6 @@
 ghost use Rattle.std.specs.Prelude.{◌≡◌, ◌+◌, ◌*◌, ◌<◌, ◌≤◌, ◌^◌, true, false, length, IfSome, IsTrue, None, Some};
 ghost use Rattle.opened_file.specs.Replace.{pieces_of};
+ghost use Rattle.quota_map.specs.Asked.{InFormat, asked_of};
 ghost use Rattle.quota_map.specs.View.{asks_tree};
 ghost use Rattle.batch_commands.specs.AtOnce.{IsPaid};
 ghost use Rattle.batch_commands.specs.Batch.{LeaveRoom, record_end};
@@ -33,13 +34,17 @@ pub fn most_bytes(format: Option<Format>, lines: &[LineEdit], size: u64) -> Opti
     ensures few { IfSome result (λ most. pieces_of most ≤ 12 * length lines.now) }
     ensures within { IfSome result (λ most. most ≤ 2 ^ 42) }
     ensures reaches { IfSome result (λ most. size ≤ most) }
-    ensures grows { IfSome result (λ most. IsTrue (asks_tree format) → most ≤ size + 2048 + 4096 * length lines.now) }
-    ensures enough { IfSome result (λ most. IsTrue (asks_tree format) → size + 4096 * length lines.now ≤ most) }
-    ensures empty { IfSome result (λ most. IsTrue (asks_tree format) → 2048 + 4096 * length lines.now ≤ most) }
-    ensures left { IfSome result (λ most. LeaveRoom format (length lines.now) size) }
-    ensures paid { result ≡ None → IsPaid format lines.now size → ⊥ }
+    ensures grows { IfSome result (λ most. IsTrue (asks_tree (asked_of format))
+        → most ≤ size + 2048 + 4096 * length lines.now) }
+    ensures enough { IfSome result (λ most. IsTrue (asks_tree (asked_of format))
+        → size + 4096 * length lines.now ≤ most) }
+    ensures empty { IfSome result (λ most. IsTrue (asks_tree (asked_of format))
+        → 2048 + 4096 * length lines.now ≤ most) }
+    ensures left { IfSome result (λ most. LeaveRoom (asked_of format) (length lines.now) size) }
+    ensures paid { result ≡ None → IsPaid (asked_of format) lines.now size → ⊥ }
     // Of a flat file it has room for the record of each line, and for no more.
-    ensures room { IfSome result (λ most. asks_tree format ≡ false → IsFlatReach format size lines.now most) }
+    ensures room { IfSome result (λ most. asks_tree (asked_of format) ≡ false
+        → IsFlatReach (asked_of format) size lines.now most) }
 {
     if !leave_room(format, lines, size) {
         return None;
@@ -55,8 +60,8 @@ pub fn most_bytes(format: Option<Format>, lines: &[LineEdit], size: u64) -> Opti
 /// Whether lines leave room in a file of this length: with as many bytes as they may add to a tree file, and with those of two more, it
 /// is no full one.
 fn leave_room(format: Option<Format>, lines: &[LineEdit], size: u64) -> bool
-    ensures room { result ≡ true → LeaveRoom format (length lines.now) size }
-    ensures none { result ≡ false → LeaveRoom format (length lines.now) size → ⊥ }
+    ensures room { result ≡ true → LeaveRoom (asked_of format) (length lines.now) size }
+    ensures none { result ≡ false → LeaveRoom (asked_of format) (length lines.now) size → ⊥ }
 {
     match format {
         Some(flat) if flat.is_flat() => true,
@@ -72,10 +77,10 @@ fn leave_room(format: Option<Format>, lines: &[LineEdit], size: u64) -> bool
 /// How many bytes the file may have once these lines are edited.
 pub fn reach(format: Option<Format>, lines: &[LineEdit], size: u64) -> u64
     ensures reaches { size ≤ result }
-    ensures grows { IsTrue (asks_tree format) → result ≤ size + 2048 + 4096 * length lines.now }
-    ensures enough { IsTrue (asks_tree format) → result ≤ 2 ^ 42 → size + 4096 * length lines.now ≤ result }
-    ensures empty { IsTrue (asks_tree format) → result ≤ 2 ^ 42 → 2048 + 4096 * length lines.now ≤ result }
-    ensures room { asks_tree format ≡ false → IsFlatReach format size lines.now result }
+    ensures grows { IsTrue (asks_tree (asked_of format)) → result ≤ size + 2048 + 4096 * length lines.now }
+    ensures enough { IsTrue (asks_tree (asked_of format)) → result ≤ 2 ^ 42 → size + 4096 * length lines.now ≤ result }
+    ensures empty { IsTrue (asks_tree (asked_of format)) → result ≤ 2 ^ 42 → 2048 + 4096 * length lines.now ≤ result }
+    ensures room { asks_tree (asked_of format) ≡ false → IsFlatReach (asked_of format) size lines.now result }
 {
     match format {
         Some(flat) if flat.is_flat() => flat_reach(flat, lines, size),
@@ -87,7 +92,7 @@ pub fn reach(format: Option<Format>, lines: &[LineEdit], size: u64) -> u64
 
 /// How many bytes a flat file of this many may have once these lines are edited: those up to the end of its last record.
 fn flat_reach(format: Format, lines: &[LineEdit], size: u64) -> u64
-    ensures { IsFlatReach (Some format) size lines.now result }
+    ensures { IsFlatReach (InFormat format) size lines.now result }
 {
     let mut most = size;
     for line in lines {

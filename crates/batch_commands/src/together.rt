@@ -7,8 +7,8 @@ ghost use Rattle.opened_file.specs.Load.{IsLoadFault};
 ghost use Rattle.quota_value.specs.QuotaValue.{QuotaValue};
 ghost use Rattle.opened_file.specs.Replace.{pieces_of};
 ghost use Rattle.outside.specs.Seen.{LinkSeen, SinkSeen, SourceSeen};
+ghost use Rattle.quota_map.specs.Asked.{Asked, asked_of};
 ghost use Rattle.quota_map.specs.View.{IsOpenedAs, IsView, asks_tree, fresh_seen};
-ghost use Rattle.quota_types.specs.declared.file_kind.Format.{Format as FormatOf};
 ghost use Rattle.refusals.specs.Status.{status_of};
 ghost use Rattle.run_steps.specs.Act.{Together};
 ghost use Rattle.run_steps.specs.Done.{IsUnwritten, seen_of, tells_of};
@@ -100,9 +100,9 @@ pub fn edit_together<S: Store>(
     store: &mut S,
     now: u64,
 ) -> Attempt
-    ensures carries { (value : QuotaValue) → (IsTrue S.tells → IsView ((S.seen store.old).files file) kind format (Ok value))
+    ensures carries { (value : QuotaValue) → (IsTrue S.tells → IsView ((S.seen store.old).files file) kind (asked_of format) (Ok value))
         → (input : SourceSeen) (out err : SinkSeen) (link : LinkSeen) (input_tells out_tells err_tells link_tells : Bool)
-        → IfEnded result (CarriesOut (LineSteps (way_of lines.now) file now lines.now value) line_uses (LineEditMayRefuse format file)
+        → IfEnded result (CarriesOut (LineSteps (way_of lines.now) file now lines.now value) line_uses (LineEditMayRefuse (asked_of format) file)
         (tells_of S.tells input_tells out_tells err_tells link_tells)
         (seen_of (S.seen store.old) input out err link) (seen_of (S.seen store.new) input out err link)) }
     ensures back { IfNotMade result (λ name. name ≡ file) }
@@ -112,19 +112,19 @@ pub fn edit_together<S: Store>(
     ensures others { ReplacesOnly file (S.seen store.old).files (S.seen store.new).files }
     ensures synced { IfEnded result (λ ended. IsTrue S.tells → Syncs (is_ok ended) (S.seen store.old) (S.seen store.new)) }
     // The files of one moment were committed, to which the steps come: of the end, where all was done; and where they were not made, none.
-    ensures commits { IsTrue S.tells → (value : QuotaValue) → IsView ((S.seen store.old).files file) kind format (Ok value)
+    ensures commits { IsTrue S.tells → (value : QuotaValue) → IsView ((S.seen store.old).files file) kind (asked_of format) (Ok value)
         → IfEnded result (λ ended. CommitsFrom ⊤ (is_ok ended) (LineSteps (way_of lines.now) file now lines.now value)
         (ReplacesOnly file (S.seen store.old).files) (S.seen store.old).files (S.seen store.new).files (λ worlds. S.commits worlds store.old store.new)) }
     ensures none_committed { IfNotMade result (λ _. S.commits [] store.old store.new) }
     // They are made wherever they are said to be made together.
-    ensures together { IfNotMade result (λ _. IsTrue S.tells → (value : QuotaValue) → IsView ((S.seen store.old).files file) kind format (Ok value)
-        → MakeTogether format file now lines.now (S.seen store.old).files value → ⊥) }
+    ensures together { IfNotMade result (λ _. IsTrue S.tells → (value : QuotaValue) → IsView ((S.seen store.old).files file) kind (asked_of format) (Ok value)
+        → MakeTogether (asked_of format) file now lines.now (S.seen store.old).files value → ⊥) }
     // Where all was done, no more was read than twelve blocks a line.
     ensures reads { IfEnded result (λ ended. OnOk ended (IsTrue S.tells
         → (S.seen store.new).reads ≤ (S.seen store.old).reads + 12 * length lines.now)) }
     // Where they were not made nothing was read, or they are never all done.
     ensures reads_more { IfNotMade result (λ _. IsTrue S.tells → (value : QuotaValue)
-        → IsView ((S.seen store.old).files file) kind format (Ok value)
+        → IsView ((S.seen store.old).files file) kind (asked_of format) (Ok value)
         → ((S.seen store.new).reads ≤ (S.seen store.old).reads) ⊎ AreNeverDone file now lines.now value) }
 {
     if lines.len() < 2 {
@@ -148,7 +148,7 @@ fn read_whole<S: Store>(
 ) -> Result<Option<Whole>, LoadFault>
     ensures whole { IfOk result (λ found. IfSome found (λ whole. IsTrue S.tells
         → StandsAlone (S.seen store.old).files name.now whole.bytes.items)) }
-    ensures pays { IfOk result (λ found. IfSome found (λ whole. IsTrue S.tells → MayPay format (length lines.now) whole)) }
+    ensures pays { IfOk result (λ found. IfSome found (λ whole. IsTrue S.tells → MayPay (asked_of format) (length lines.now) whole)) }
     ensures refused { IfErr result (IsLoadFault (S.seen store.old).faults (S.seen store.new).faults S.tells
         ((S.seen store.old).files name.now) (length (file_of (S.seen store.old).files name.now))) }
     ensures leaves { IsOnlyRead (is_ok result) (S.seen store.old) (S.seen store.new) }
@@ -157,7 +157,7 @@ fn read_whole<S: Store>(
         (S.seen store.old).reads (S.seen store.new).reads }
     ensures unread { IfOk result (λ found. found ≡ None → (S.seen store.new).reads ≡ (S.seen store.old).reads) }
     ensures there { IfOk result (λ found. found ≡ None → IsTrue S.tells → (bytes : List ℕ)
-        → StandsAlone (S.seen store.old).files name.now bytes → IsPaid format lines.now (length bytes) → ⊥) }
+        → StandsAlone (S.seen store.old).files name.now bytes → IsPaid (asked_of format) lines.now (length bytes) → ⊥) }
 {
     match size_alone(alloc, name, store)? {
         Some(size) => match most_bytes(format, lines, size) {
@@ -205,9 +205,9 @@ fn edit_bytes<S: Store>(
 ) -> Attempt
     ensures carries { (others : ℕ) → length lines.now ≡ 1 + others
         → (value : QuotaValue) → (IsTrue S.tells → StandsAlone (S.seen store.old).files file whole.bytes.items)
-        → (IsTrue S.tells → IsView (Some whole.bytes.items) kind format (Ok value))
+        → (IsTrue S.tells → IsView (Some whole.bytes.items) kind (asked_of format) (Ok value))
         → (input : SourceSeen) (out err : SinkSeen) (link : LinkSeen) (input_tells out_tells err_tells link_tells : Bool)
-        → IfEnded result (CarriesOut (LineSteps (Together others) file now lines.now value) line_uses (LineEditMayRefuse format file)
+        → IfEnded result (CarriesOut (LineSteps (Together others) file now lines.now value) line_uses (LineEditMayRefuse (asked_of format) file)
         (tells_of S.tells input_tells out_tells err_tells link_tells)
         (seen_of (S.seen store.old) input out err link) (seen_of (S.seen store.new) input out err link)) }
     ensures back { IfNotMade result (λ name. name ≡ file) }
@@ -216,16 +216,17 @@ fn edit_bytes<S: Store>(
     ensures others { ReplacesOnly file (S.seen store.old).files (S.seen store.new).files }
     ensures synced { IfEnded result (λ ended. IsTrue S.tells → Syncs (is_ok ended) (S.seen store.old) (S.seen store.new)) }
     ensures commits { IsTrue S.tells → (others : ℕ) (value : QuotaValue) → StandsAlone (S.seen store.old).files file whole.bytes.items
-        → IsView (Some whole.bytes.items) kind format (Ok value)
+        → IsView (Some whole.bytes.items) kind (asked_of format) (Ok value)
         → IfEnded result (λ ended. CommitsFrom ⊤ (is_ok ended) (LineSteps (Together others) file now lines.now value)
         (ReplacesOnly file (S.seen store.old).files) (S.seen store.old).files (S.seen store.new).files (λ worlds. S.commits worlds store.old store.new)) }
     ensures none_committed { IfNotMade result (λ _. S.commits [] store.old store.new) }
     // Where it does not pay, one of the lines is refused in every file.
-    ensures never { MayPay format (length lines.now) whole → (value : QuotaValue) → IsView (Some whole.bytes.items) kind format (Ok value)
+    ensures never { MayPay (asked_of format) (length lines.now) whole → (value : QuotaValue) → IsView (Some whole.bytes.items) kind (asked_of format) (Ok value)
         → IfNotMade result (λ _. AreNeverDone file now lines.now value) }
     // Where all of them fit it pays.
-    ensures fitting { MayPay format (length lines.now) whole → (others : ℕ) (value : QuotaValue) (files : World)
-        → files file ≡ Some whole.bytes.items → IsView (Some whole.bytes.items) kind format (Ok value)
+    ensures fitting { MayPay (asked_of format) (length lines.now) whole
+        → (others : ℕ) (value : QuotaValue) (files : World)
+        → files file ≡ Some whole.bytes.items → IsView (Some whole.bytes.items) kind (asked_of format) (Ok value)
         → AllFit (Together others) file now lines.now files value → IfNotMade result (λ _. ⊥) }
     ensures reads { (S.seen store.new).reads ≡ (S.seen store.old).reads }
 {
@@ -251,13 +252,13 @@ fn edit_in_memory(
     now: u64,
 ) -> Result<Option<Edited>, GivenUp>
     ensures made { IfOk result (λ found. IfSome found (λ edited. (others : ℕ) (value : QuotaValue)
-        → IsView (Some whole.bytes.items) kind format (Ok value)
+        → IsView (Some whole.bytes.items) kind (asked_of format) (Ok value)
         → IsMadeInMemory (LineSteps (Together others) name.now now lines.now value) name.now whole.bytes.items edited)) }
-    ensures edits { IfOk result (λ found. IfSome found (IsEditOf (LineEditMayRefuse format name.now) (length lines.now) whole.bytes.items)) }
+    ensures edits { IfOk result (λ found. IfSome found (IsEditOf (LineEditMayRefuse (asked_of format) name.now) (length lines.now) whole.bytes.items)) }
     ensures within { IfOk result (λ found. IfSome found (IsWithin whole.most (length lines.now))) }
     // A copy that was opened is given up only where a call on it failed, or where it has more bytes than it may.
     ensures given_up { IfErr result (IsGivenUp ⊤ whole.most 0) }
-    ensures opens { IfOk result (λ found. found ≡ None → (value : QuotaValue) → IsView (Some whole.bytes.items) kind format (Ok value) → ⊥) }
+    ensures opens { IfOk result (λ found. found ≡ None → (value : QuotaValue) → IsView (Some whole.bytes.items) kind (asked_of format) (Ok value) → ⊥) }
 {
     let Whole { bytes, most } = whole;
     let file = Word::copy_of(alloc, name)?;
@@ -294,7 +295,7 @@ fn edit_opened(
         → (others : ℕ) (value : QuotaValue) → ⟦<AnyFile as QuotaFile<OneFile>>⟧.holds opened memory value
         → IsMadeInMemory (LineSteps (Together others) file now lines.now value) file bytes edited) }
     ensures edits { IfOk result (λ edited. (bytes : List ℕ) → HasBytes file bytes (⟦<OneFile as Store>⟧.seen memory)
-        → (asked : Option FormatOf) → IsOpenedAs asked (⟦<AnyFile as QuotaFile<OneFile>>⟧.seen opened).format
+        → (asked : Asked) → IsOpenedAs asked (⟦<AnyFile as QuotaFile<OneFile>>⟧.seen opened).format
         → (value : QuotaValue) → ⟦<AnyFile as QuotaFile<OneFile>>⟧.holds opened memory value
         → IsEditOf (LineEditMayRefuse asked file) (length lines.now) bytes edited) }
     ensures within { IfOk result (IsWithin most (length lines.now)) }
@@ -331,7 +332,7 @@ fn is_fault(ended: &Result<(), Refusal>) -> bool
 /// Puts a file that was edited in memory in the place of the one of this name, where that pays. Where the edits of its lines wrote
 /// nothing there is nothing to be put.
 fn put_back<S: Store>(alloc: Global, file: Word, edited: Edited, store: &mut S) -> Attempt
-    ensures carries { (asked : Option FormatOf) (bytes : List ℕ) (now : ℕ) (lines : List LineEdit) (value : QuotaValue)
+    ensures carries { (asked : Asked) (bytes : List ℕ) (now : ℕ) (lines : List LineEdit) (value : QuotaValue)
         → IsEditOf (LineEditMayRefuse asked file) (length lines) bytes edited → (others : ℕ) → length lines ≡ 1 + others
         → (IsTrue S.tells → StandsAlone (S.seen store.old).files file bytes
         × IsMadeInMemory (LineSteps (Together others) file now lines value) file bytes edited)
@@ -341,7 +342,8 @@ fn put_back<S: Store>(alloc: Global, file: Word, edited: Edited, store: &mut S) 
         (seen_of (S.seen store.old) input out err link) (seen_of (S.seen store.new) input out err link)) }
     ensures back { IfNotMade result (λ name. name ≡ file) }
     ensures untouched { IfNotMade result (λ _. S.seen store.new ≡ S.seen store.old) }
-    ensures wanting { (asked : Option FormatOf) (count : ℕ) (bytes : List ℕ) → IsEditOf (LineEditMayRefuse asked file) count bytes edited
+    ensures wanting { (asked : Asked) (count : ℕ) (bytes : List ℕ)
+        → IsEditOf (LineEditMayRefuse asked file) count bytes edited
         → IfEnded result (IfWanting (IsUnwritten (S.seen store.old) (S.seen store.new))) }
     ensures others { ReplacesOnly file (S.seen store.old).files (S.seen store.new).files }
     ensures synced { IfEnded result (λ ended. IsTrue S.tells → Syncs (is_ok ended) (S.seen store.old) (S.seen store.new)) }
@@ -353,7 +355,8 @@ fn put_back<S: Store>(alloc: Global, file: Word, edited: Edited, store: &mut S) 
     // Where it is not put there it does not pay, and a line was refused.
     ensures unpaid { IfNotMade result (λ _. length edited.bytes.items ≤ 2 ^ 42
         → 12 * edited.lines.made < pieces_of (length edited.bytes.items)) }
-    ensures refused { (asked : Option FormatOf) (count : ℕ) (whole : Whole) → MayPay asked count whole → IsWithin whole.most count edited
+    ensures refused { (asked : Asked) (count : ℕ) (whole : Whole) → MayPay asked count whole
+        → IsWithin whole.most count edited
         → IfNotMade result (λ _. IsSome (refusal_in edited.lines.ended)) }
     ensures reads { (S.seen store.new).reads ≡ (S.seen store.old).reads }
 {

@@ -54,6 +54,7 @@ use Rattle.serve_command.proofs.WordLemmas.{asked_serves}
 use Rattle.command_table.specs.Description.{ChangesOnly, ChangesWithin, Description, IsLeftByEdit}
 use Rattle.command_table.specs.CarriedOut.{AreReadsTold, IsCarriedOut}
 use Rattle.command_table.specs.Table.{asked_by, described, not_here, refused, unknown_command}
+use Rattle.quota_map.specs.Asked.{AnyTree, Asked, asked_of}
 
 -- No command that was read is refused for its words.
 
@@ -69,15 +70,15 @@ spares_names : (names : Option (List ℕ)) → Spares (NamesMayRefuse names)
 spares_names None kind word said may = may
 spares_names (Some file) kind word said may = may
 
-spares_showing : (asked : Option Format) (file : List ℕ) → Spares (ShowingMayRefuse asked file)
+spares_showing : (asked : Asked) (file : List ℕ) → Spares (ShowingMayRefuse asked file)
 spares_showing asked file kind word said (inl is) = cc
 spares_showing asked file kind word said (inr may) = may
 
 spares_report : (common : Common) (file : List ℕ) → Spares (ReportMayRefuse common file)
 spares_report common file kind word said (inl may) = spares_names common.names kind word said may
-spares_report common file kind word said (inr may) = spares_showing common.format file kind word said may
+spares_report common file kind word said (inr may) = spares_showing (asked_of common.format) file kind word said may
 
-spares_file_edit : (asked : Option Format) (edit : FileEdit) (file : List ℕ) → Spares (FileEditMayRefuse asked edit file)
+spares_file_edit : (asked : Asked) (edit : FileEdit) (file : List ℕ) → Spares (FileEditMayRefuse asked edit file)
 spares_file_edit asked edit file kind word said (inl (now, may)) = may
 spares_file_edit asked edit file kind word said (inr (inl may)) = may
 spares_file_edit asked edit file kind word said (inr (inr (warns, is))) = cc
@@ -85,12 +86,12 @@ spares_file_edit asked edit file kind word said (inr (inr (warns, is))) = cc
 spares_edit : (common : Common) (words : EditWords) (file : List ℕ) → Spares (EditMayRefuse common words file)
 spares_edit common words file kind word said (inl may) = spares_names (names_wanted words common.names) kind word said may
 spares_edit common words file kind word said (inr (names, given, inl read)) = spares_word kind word said (edit_refusal names words _ read)
-spares_edit common words file kind word said (inr (names, given, inr (edit, read, may))) = spares_file_edit common.format edit file kind word said may
+spares_edit common words file kind word said (inr (names, given, inr (edit, read, may))) = spares_file_edit (asked_of common.format) edit file kind word said may
 
 spares_print : (common : Common) (name file : List ℕ) → Spares (PrintMayRefuse common name file)
 spares_print common name file kind word said (inl may) = spares_names common.names kind word said may
 spares_print common name file kind word said (inr (names, given, inl read)) = spares_word kind word said (identifier_refusal names name _ read)
-spares_print common name file kind word said (inr (names, given, inr (id, read, may))) = spares_showing common.format file kind word said may
+spares_print common name file kind word said (inr (names, given, inr (id, read, may))) = spares_showing (asked_of common.format) file kind word said may
 
 spares_batch : (common : Common) (from : Option (List ℕ)) (file : List ℕ) → Spares (BatchMayRefuse common from file)
 spares_batch common from file kind word said (inl may) = spares_names common.names kind word said may
@@ -104,7 +105,7 @@ spares_apply common from name file kind word said (inl may) = spares_names commo
 spares_apply common from name file kind word said (inr (names, given, inl read)) = spares_word kind word said (identifier_refusal names name _ read)
 spares_apply common from name file kind word said (inr (names, given, inr (id, read, inl may))) = may
 spares_apply common from name file kind word said (inr (names, given, inr (id, read, inr (limits, may)))) =
-    spares_file_edit common.format (LimitsEdit id limits) file kind word said may
+    spares_file_edit (asked_of common.format) (LimitsEdit id limits) file kind word said may
 
 spares_usage : (value : QuotaValue) (from : Option (List ℕ)) (file : List ℕ) → Spares (UsageMayRefuse value from file)
 spares_usage value from file kind word said (inl may) = may
@@ -119,14 +120,14 @@ spares_check common false from file kind word said (inr (value, asked, kept, may
 spares_convert : (kind : Kind) (old new : Format) (source target : List ℕ) → Spares (ConvertMayRefuse kind old new source target)
 spares_convert kind old new source target what word said may = may
 
-spares_exporting : (format : Option Format) (exports : List ExportOption) → Spares (ExportingMayRefuse format exports)
-spares_exporting format [] kind word said may = may
-spares_exporting format (export ∷ exports) kind word said (inl may) = may
-spares_exporting format (export ∷ exports) kind word said (inr may) = spares_exporting format exports kind word said may
+spares_exporting : (asked : Asked) (exports : List ExportOption) → Spares (ExportingMayRefuse asked exports)
+spares_exporting asked [] kind word said may = may
+spares_exporting asked (export ∷ exports) kind word said (inl may) = may
+spares_exporting asked (export ∷ exports) kind word said (inr may) = spares_exporting asked exports kind word said may
 
-spares_serve : (format : Option Format) (exports : List ExportOption) → Spares (ServeMayRefuse format exports)
-spares_serve format exports kind word said (inl may) = spares_exporting format exports kind word said may
-spares_serve format exports kind word said (inr may) = may
+spares_serve : (asked : Asked) (exports : List ExportOption) → Spares (ServeMayRefuse asked exports)
+spares_serve asked exports kind word said (inl may) = spares_exporting asked exports kind word said may
+spares_serve asked exports kind word said (inr may) = may
 
 pub spares_single : (command : Command) → (described command).uses.reads_commands ≡ false → Spares (described command).may
 spares_single (Report common options file) one = spares_report common file
@@ -139,8 +140,8 @@ spares_single (PrintForm common name file) one = spares_print common name file
 spares_single (ApplyForm common input name file) one = spares_apply common input name file
 spares_single (Check common fresh device input file) one = spares_check common fresh input file
 spares_single (Convert kind old new source target) one = spares_convert kind old new source target
-spares_single (Serve format calls port exports) one = spares_serve format exports
-spares_single (Generate seed count file) one = spares_showing None file
+spares_single (Serve format calls port exports) one = spares_serve (asked_of format) exports
+spares_single (Generate seed count file) one = spares_showing AnyTree file
 spares_single _ one = absurd (cc)
 
 -- no command that was read is refused with status 2, where it is refused for no cause of words

@@ -1,7 +1,6 @@
 -- Commands that name the file of their input: they do not use the standard input, and are not refused for a fault of it.
 use Rattle.std.proofs.Common.{◌≡◌, ℕ, Bool, true, false, List, [], ◌∷◌, Option, None, Some, Ok, Err, Result, inl, inr, refl, ap, arith}
 use Rattle.std.specs.Prelude.{is_none}
-use Rattle.quota_types.specs.declared.file_kind.Format.{Format}
 use Rattle.quota_value.specs.QuotaValue.{QuotaValue}
 use Rattle.refusals.specs.declared.cause.Cause.{Cause}
 use Rattle.refusals.specs.declared.cause.Cause.TheVariants.{SourceFault, Usage}
@@ -33,6 +32,7 @@ use Rattle.file_commands.specs.Report.{ReportMayRefuse}
 use Rattle.serve_command.specs.Serve.{ServeMayRefuse}
 use Rattle.serve_steps.specs.Exporting.{ExportingMayRefuse}
 use Rattle.command_table.specs.Table.{asked_by, described}
+use Rattle.quota_map.specs.Asked.{AnyTree, Asked, asked_of}
 
 -- What a command uses.
 
@@ -72,15 +72,15 @@ not_names : (names : Option (List ℕ)) → SparesInput (NamesMayRefuse names)
 not_names None said may = may
 not_names (Some file) said may = may
 
-not_showing : (asked : Option Format) (file : List ℕ) → SparesInput (ShowingMayRefuse asked file)
+not_showing : (asked : Asked) (file : List ℕ) → SparesInput (ShowingMayRefuse asked file)
 not_showing asked file said (inl is) = cc
 not_showing asked file said (inr may) = may
 
 not_report : (common : Common) (file : List ℕ) → SparesInput (ReportMayRefuse common file)
 not_report common file said (inl may) = not_names common.names said may
-not_report common file said (inr may) = not_showing common.format file said may
+not_report common file said (inr may) = not_showing (asked_of common.format) file said may
 
-not_file_edit : (asked : Option Format) (edit : FileEdit) (file : List ℕ) → SparesInput (FileEditMayRefuse asked edit file)
+not_file_edit : (asked : Asked) (edit : FileEdit) (file : List ℕ) → SparesInput (FileEditMayRefuse asked edit file)
 not_file_edit asked edit file said (inl (now, may)) = may
 not_file_edit asked edit file said (inr (inl may)) = may
 not_file_edit asked edit file said (inr (inr (warns, is))) = cc
@@ -88,12 +88,12 @@ not_file_edit asked edit file said (inr (inr (warns, is))) = cc
 not_edit : (common : Common) (words : EditWords) (file : List ℕ) → SparesInput (EditMayRefuse common words file)
 not_edit common words file said (inl may) = not_names (names_wanted words common.names) said may
 not_edit common words file said (inr (names, given, inl read)) = not_word said (edit_refusal names words _ read)
-not_edit common words file said (inr (names, given, inr (edit, read, may))) = not_file_edit common.format edit file said may
+not_edit common words file said (inr (names, given, inr (edit, read, may))) = not_file_edit (asked_of common.format) edit file said may
 
 not_print : (common : Common) (name file : List ℕ) → SparesInput (PrintMayRefuse common name file)
 not_print common name file said (inl may) = not_names common.names said may
 not_print common name file said (inr (names, given, inl read)) = not_word said (identifier_refusal names name _ read)
-not_print common name file said (inr (names, given, inr (id, read, may))) = not_showing common.format file said may
+not_print common name file said (inr (names, given, inr (id, read, may))) = not_showing (asked_of common.format) file said may
 
 -- a file of an input that is named is not the standard input
 not_input : (kind : InputKind) (from : Option (List ℕ)) → is_none from ≡ false → SparesInput (InputMayRefuse kind from)
@@ -112,7 +112,7 @@ not_apply common from name file named said (inl may) = not_names common.names sa
 not_apply common from name file named said (inr (names, given, inl read)) = not_word said (identifier_refusal names name _ read)
 not_apply common from name file named said (inr (names, given, inr (id, read, inl may))) = not_input AForm from named said may
 not_apply common from name file named said (inr (names, given, inr (id, read, inr (limits, may)))) =
-    not_file_edit common.format (LimitsEdit id limits) file said may
+    not_file_edit (asked_of common.format) (LimitsEdit id limits) file said may
 
 not_usage : (value : QuotaValue) (from : Option (List ℕ)) (file : List ℕ) → is_none from ≡ false → SparesInput (UsageMayRefuse value from file)
 not_usage value from file named said (inl may) = not_input AListing from named said may
@@ -124,14 +124,14 @@ not_check common true from file named said may = not_usage (new_value common.kin
 not_check common false from file named said (inl may) = may
 not_check common false from file named said (inr (value, asked, kept, may)) = not_usage value from file named said may
 
-not_exporting : (format : Option Format) (exports : List ExportOption) → SparesInput (ExportingMayRefuse format exports)
-not_exporting format [] said may = may
-not_exporting format (export ∷ exports) said (inl may) = may
-not_exporting format (export ∷ exports) said (inr may) = not_exporting format exports said may
+not_exporting : (asked : Asked) (exports : List ExportOption) → SparesInput (ExportingMayRefuse asked exports)
+not_exporting asked [] said may = may
+not_exporting asked (export ∷ exports) said (inl may) = may
+not_exporting asked (export ∷ exports) said (inr may) = not_exporting asked exports said may
 
-not_serve : (format : Option Format) (exports : List ExportOption) → SparesInput (ServeMayRefuse format exports)
-not_serve format exports said (inl may) = not_exporting format exports said may
-not_serve format exports said (inr may) = may
+not_serve : (asked : Asked) (exports : List ExportOption) → SparesInput (ServeMayRefuse asked exports)
+not_serve asked exports said (inl may) = not_exporting asked exports said may
+not_serve asked exports said (inr may) = may
 
 spares_by : (command : Command) → NamesInput command → SparesInput (described command).may
 spares_by (Report common options file) named = not_report common file
@@ -144,9 +144,9 @@ spares_by (PrintForm common name file) named = not_print common name file
 spares_by (ApplyForm common input name file) named = not_apply common input name file named
 spares_by (Check common fresh device input file) named = not_check common fresh input file named
 spares_by (Convert kind old new source target) named = λ said may. may
-spares_by (Serve format calls port exports) named = not_serve format exports
+spares_by (Serve format calls port exports) named = not_serve (asked_of format) exports
 spares_by Script named = λ said same. let cause : SourceFault ≡ Usage UnknownCommand 0 = ap (λ (r : Refusal). r.cause) same in absurd (cc (cause))
-spares_by (Generate seed count file) named = not_showing None file
+spares_by (Generate seed count file) named = not_showing AnyTree file
 
 -- words with a fault are refused for that, and not for a fault of the input
 spares_refused : (asks : Result Command Fault) → ((command : Command) → refused asks ≡ Ok command → SparesInput (described command).may) → SparesInput (asked_by described (refused asks)).may

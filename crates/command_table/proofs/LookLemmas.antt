@@ -24,6 +24,7 @@ use Rattle.serve_command.proofs.LookLemmas.{serve_alike, serve_opens}
 use Rattle.command_table.specs.Table.{described}
 use Rattle.command_table.specs.Views.{AreAlike, Looks, SameUnlessFull, edits_records, looks_of}
 use Rattle.command_table.proofs.StepLemmas.{looks_for_room}
+use Rattle.quota_map.specs.Asked.{asked_of}
 
 -- The looks of a command are alike.
 
@@ -45,7 +46,7 @@ command_alike one other (ApplyForm common input name file) invocation reads = ap
 command_alike one other (Check common true device input file) invocation reads = check_alike one other common true device input file invocation reads.input
 command_alike one other (Check common false device input file) invocation reads = check_alike one other common false device input file invocation reads.input
 command_alike one other (Convert kind old new source target) invocation reads = convert_alike one other kind old new source target invocation reads.target
-command_alike one other (Serve format calls port exports) invocation reads = serve_alike one other format calls port exports invocation
+command_alike one other (Serve format calls port exports) invocation reads = serve_alike one other (asked_of format) calls port exports invocation
 command_alike one other Script invocation reads = tt
 command_alike one other (Generate seed count file) invocation reads = generate_alike one other seed count file invocation.now
 
@@ -67,7 +68,7 @@ command_opens (ApplyForm common input name file) invocation old opened opens = o
 command_opens (Check common true device input file) invocation old opened opens = fresh_opens _ common device input file invocation old opened opens
 command_opens (Check common false device input file) invocation old opened opens = only_one _ opened (check_opens common device input file invocation old opened opens)
 command_opens (Convert kind old_format new_format source target) invocation old opened opens = only_one _ opened (convert_opens kind old_format new_format source target invocation old opened opens)
-command_opens (Serve format calls port exports) invocation old opened opens = serve_opens format calls port exports invocation old opened opens
+command_opens (Serve format calls port exports) invocation old opened opens = serve_opens (asked_of format) calls port exports invocation old opened opens
 command_opens Script invocation old opened opens = absurd opens
 command_opens (Generate seed count file) invocation old opened opens = generate_opens _ seed count file invocation.now old opened opens
 

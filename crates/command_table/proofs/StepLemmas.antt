@@ -17,6 +17,7 @@ use Rattle.serve_command.specs.Serve.{AnsweringSteps}
 use Rattle.serve_command.proofs.StepLemmas.{looks_answering, looks_opening_all}
 use Rattle.command_table.specs.Table.{described}
 use Rattle.command_table.specs.Views.{edits_records}
+use Rattle.quota_map.specs.Asked.{asked_of}
 
 -- only one that reads edits looks for room behind a change
 pub command_looks : (command : Command) (invocation : Invocation) → LooksFirstBy (described command).uses.reads_edits true true ((described command).steps invocation)
@@ -31,7 +32,7 @@ command_looks (ApplyForm common input name file) invocation = apply_looks common
 command_looks (Check common fresh device input file) invocation = check_looks common fresh device input file invocation
 command_looks (Convert kind old new source target) invocation = convert_looks kind old new source target invocation
 command_looks (Serve format calls port exports) invocation =
-    looks_opening_all true format exports nothing_exported (λ (exported : ExportedValues). Starting port (AnsweringSteps exported calls)) (λ exported. looks_answering true exported calls)
+    looks_opening_all true (asked_of format) exports nothing_exported (λ (exported : ExportedValues). Starting port (AnsweringSteps exported calls)) (λ exported. looks_answering true exported calls)
 command_looks Script invocation = tt
 command_looks (Generate seed count file) invocation = generate_looks seed count file invocation.now
 

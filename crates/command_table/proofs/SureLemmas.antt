@@ -21,6 +21,7 @@ use Rattle.serve_command.proofs.StepLemmas.{sure_answering, sure_opening_all}
 use Rattle.command_table.specs.Conditions.{CanEdit}
 use Rattle.command_table.specs.Description.{Description}
 use Rattle.command_table.specs.Table.{asked_by, described}
+use Rattle.quota_map.specs.Asked.{asked_of}
 
 can_edit : (common : Common) (words : EditWords) (file : List ℕ) (invocation : Invocation) (old : Outside) → CanEdit common words file invocation old → IsSure (EditSteps common words file invocation) old
 can_edit common words file invocation old (names, edit, value, new, known, read, view, fits) = edit_sure common words file invocation names edit value new old known read view fits
@@ -41,7 +42,7 @@ command_sure (Check common fresh device input file) invocation old (value, usage
 command_sure (Convert kind before after source target) invocation old (value, new, apart, none, view, fits, few) =
     convert_sure kind before after source target invocation value new old apart none view fits few
 command_sure (Serve format calls port exports) invocation old (exported, are) =
-    sure_opening_all format exports nothing_exported exported (λ (e : ExportedValues). Starting port (AnsweringSteps e calls)) old are (sure_answering exported calls old)
+    sure_opening_all (asked_of format) exports nothing_exported exported (λ (e : ExportedValues). Starting port (AnsweringSteps e calls)) old are (sure_answering exported calls old)
 command_sure Script invocation old can = absurd can
 command_sure (Generate seed count file) invocation old can = generate_sure seed count file invocation.now old can
 

@@ -1,9 +1,10 @@
 -- Which conditions make no step of a command refused: the files that are named are there, the names are known, the words are well
 -- formed, the files that are opened are accepted, the inputs have the stated form, and what is written fits and has room.
-use Rattle.std.specs.Prelude.{◌≡◌, ◌≢◌, ◌≤◌, ℕ, Bool, List, Option, None, Some, Ok}
+use Rattle.std.specs.Prelude.{◌≡◌, ◌≢◌, ◌≤◌, ℕ, Bool, List, Option, None, Ok}
 use Rattle.quota_types.specs.declared.file_kind.Format.{Format}
 use Rattle.quota_types.specs.declared.file_kind.Kind.{Kind}
 use Rattle.quota_value.specs.QuotaValue.{QuotaValue}
+use Rattle.quota_map.specs.Asked.{InFormat, asked_of}
 use Rattle.quota_map.specs.View.{IsView, most_blocks}
 use Rattle.convert.specs.Conversion.{converted}
 use Rattle.id_names.specs.NamesFile.{NameLine}
@@ -31,20 +32,20 @@ use Rattle.file_commands.specs.Check.{IsToBeChecked, checked, scan_step}
 abbrev pub CanReport : Common → List ℕ → Outside → Type 0
 CanReport common file old =
     (names : List NameLine) × (value : QuotaValue) × (names_seen common.kind common.names old.files ≡ Passed names)
-    × IsView (old.files file) common.kind common.format (Ok value)
+    × IsView (old.files file) common.kind (asked_of common.format) (Ok value)
 
 -- a form of an identifier: its word is known besides
 abbrev pub CanPrint : Common → (word file : List ℕ) → Outside → Type 0
 CanPrint common word file old =
     (names : List NameLine) × (id : ℕ) × (value : QuotaValue) × (names_seen common.kind common.names old.files ≡ Passed names)
-    × (identifier_of names word ≡ Passed id) × IsView (old.files file) common.kind common.format (Ok value)
+    × (identifier_of names word ≡ Passed id) × IsView (old.files file) common.kind (asked_of common.format) (Ok value)
 
 -- an edit: the words are known and well formed, the file is accepted, and the edit fits in it
 abbrev pub CanEdit : Common → EditWords → List ℕ → Invocation → Outside → Type 0
 CanEdit common words file invocation old =
     (names : List NameLine) × (edit : FileEdit) × (value : QuotaValue) × (new : QuotaValue)
     × (names_seen common.kind (names_wanted words common.names) old.files ≡ Passed names) × (edit_read names words ≡ Passed edit)
-    × IsView (old.files file) common.kind common.format (Ok value) × Fits (edit_meant edit invocation.now) (old.files file) value new
+    × IsView (old.files file) common.kind (asked_of common.format) (Ok value) × Fits (edit_meant edit invocation.now) (old.files file) value new
 
 -- a form that is applied: the word is known, the form is that of the identifier, the file is accepted, and its limits fit
 abbrev pub CanApply : Common → Option (List ℕ) → (word file : List ℕ) → Invocation → Outside → Type 0
@@ -52,13 +53,13 @@ CanApply common from word file invocation old =
     (names : List NameLine) × (id : ℕ) × (limits : FourLimits) × (value : QuotaValue) × (new : QuotaValue)
     × (names_seen common.kind common.names old.files ≡ Passed names) × (identifier_of names word ≡ Passed id)
     × (input_said from (form_step common.kind names file id from) old.files old.input ≡ Passed limits)
-    × IsView (old.files file) common.kind common.format (Ok value) × Fits (limits_edit id limits invocation.now) (old.files file) value new
+    × IsView (old.files file) common.kind (asked_of common.format) (Ok value) × Fits (limits_edit id limits invocation.now) (old.files file) value new
 
 -- edits of lines: the file is accepted, the lines are of the stated form and of names that are known, and the edits fit
 abbrev pub CanEditLines : Common → Option (List ℕ) → List ℕ → Invocation → Outside → Type 0
 CanEditLines common from file invocation old =
     (names : List NameLine) × (value : QuotaValue) × (asked : AskedEdits)
-    × (names_seen common.kind common.names old.files ≡ Passed names) × IsView (old.files file) common.kind common.format (Ok value)
+    × (names_seen common.kind common.names old.files ≡ Passed names) × IsView (old.files file) common.kind (asked_of common.format) (Ok value)
     × (input_said from (batch_step names from) old.files old.input ≡ Passed asked) × (asked.refusal ≡ None)
     × AllFit (way_of asked.edits) file invocation.now asked.edits old.files value
 
@@ -73,4 +74,4 @@ CanCheck common fresh device from file invocation old =
 abbrev pub CanConvert : Kind → (before after : Format) → (source target : List ℕ) → Outside → Type 0
 CanConvert kind before after source target old =
     (value : QuotaValue) × (new : QuotaValue) × (source ≢ target) × (old.files target ≡ None)
-    × IsView (old.files source) kind (Some before) (Ok value) × (converted after value ≡ Ok new) × (blocks_of new ≤ most_blocks)
+    × IsView (old.files source) kind (InFormat before) (Ok value) × (converted after value ≡ Ok new) × (blocks_of new ≤ most_blocks)

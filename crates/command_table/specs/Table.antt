@@ -41,6 +41,7 @@ use Rattle.serve_command.specs.Serve.{ServeMayRefuse, ServeSteps, serving_reads}
 use Rattle.serve_steps.specs.Exporting.{AreExported, MayExport, serve_uses}
 use Rattle.command_table.specs.Conditions.{CanApply, CanCheck, CanConvert, CanEdit, CanEditLines, CanPrint, CanReport}
 use Rattle.command_table.specs.Description.{Description, links_as}
+use Rattle.quota_map.specs.Asked.{Asked, asked_of}
 
 -- A description of each command.
 
@@ -151,13 +152,13 @@ converting kind old new source target = record (row (ConvertSteps kind old new s
 
 -- Calls that are answered out of exported files. One call is to be answered at least, and the files may be exported one after another:
 -- no words ask for anything else. The link is said to have failed only where fewer datagrams were taken, or the last reply was not sent.
-abbrev pub serving : Option Format → (calls port : ℕ) → List ExportOption → Description
-serving format calls port exports = record (row (ServeSteps format calls port exports) serve_uses (ServeMayRefuse format exports)) {
-  most_reads = λ (old : Outside). Some (serving_reads format calls exports old.files);
+abbrev pub serving : Asked → (calls port : ℕ) → List ExportOption → Description
+serving asked calls port exports = record (row (ServeSteps asked calls port exports) serve_uses (ServeMayRefuse asked exports)) {
+  most_reads = λ (old : Outside). Some (serving_reads asked calls exports old.files);
   known = (0 < calls) × MayExport [] exports;
   unfinished = λ (invocation : Invocation) (tells : RunTells) (old new : RunSeen). IsTrue tells.link
-      → Stopped (λ (exported : ExportedValues). IsTrue tells.store × AreExported format old.store.files exports nothing_exported exported) calls old.link new.link;
-  suffices = λ (invocation : Invocation) (old : Outside). (exported : ExportedValues) × AreExported format old.files exports nothing_exported exported;
+      → Stopped (λ (exported : ExportedValues). IsTrue tells.store × AreExported asked old.store.files exports nothing_exported exported) calls old.link new.link;
+  suffices = λ (invocation : Invocation) (old : Outside). (exported : ExportedValues) × AreExported asked old.files exports nothing_exported exported;
 }
 
 -- A file out of a listing that is made, and a line on it. A count is one of 32 bits: no words ask for another one.
@@ -198,7 +199,7 @@ described (PrintForm common name file) = printing common name file
 described (ApplyForm common input name file) = applying common input name file
 described (Check common fresh device input file) = checking common fresh device input file
 described (Convert kind old new source target) = converting kind old new source target
-described (Serve format calls port exports) = serving format calls port exports
+described (Serve format calls port exports) = serving (asked_of format) calls port exports
 described Script = not_here
 described (Generate seed count file) = generating seed count file
 

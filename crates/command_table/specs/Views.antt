@@ -1,6 +1,5 @@
 -- What a command looks at, and which worlds are alike for it: those in which it sees the same.
 use Rattle.std.specs.Prelude.{◌≡◌, ℕ, Bool, true, false, List, [], ◌∷◌, map, Option, Some, None}
-use Rattle.quota_types.specs.declared.file_kind.Format.{Format}
 use Rattle.refusals.specs.declared.reason.Refusal.{Refusal}
 use Rattle.option_words.specs.declared.export_option.ExportOption.{ExportOption}
 use Rattle.command_words.specs.declared.command.Command.{Command}
@@ -11,6 +10,7 @@ use Rattle.run_steps.specs.OneCommand.{UnlessOneFull}
 use Rattle.run_steps.specs.SameViews.{FileAsked, IsFileAlike, IsSameFile, IsThereAlike, Opens}
 use Rattle.run_steps.specs.declared.invocation.Invocation.{Invocation}
 use Rattle.command_table.specs.Table.{described}
+use Rattle.quota_map.specs.Asked.{Asked, InFormat, asked_of}
 
 -- What a command looks at.
 
@@ -25,15 +25,15 @@ pub record Looks : Type 0 where
 -- it opens one file, and reads the names and the input of these files, where there are such
 abbrev pub looks_at : Common → (names input : Option (List ℕ)) → (file : List ℕ) → Looks
 looks_at common names input file =
-    record { opens = record { kind = common.kind; asked = common.format; name = file } ∷ []; names = names; input = input; target = None }
+    record { opens = record { kind = common.kind; asked = asked_of common.format; name = file } ∷ []; names = names; input = input; target = None }
 
 -- it opens no file, and reads the input of this one, where there is one
 abbrev pub looks_at_input : Option (List ℕ) → Looks
 looks_at_input input = record { opens = []; names = None; input = input; target = None }
 
 -- the file of an export
-abbrev pub file_of : Option Format → ExportOption → FileAsked
-file_of format export = record { kind = export.kind; asked = format; name = export.file }
+abbrev pub file_of : Asked → ExportOption → FileAsked
+file_of asked export = record { kind = export.kind; asked = asked; name = export.file }
 
 -- What each command looks at. For new grace periods no names are read, since they are no identifier's; a new file is made without
 -- opening the one of its name; and what stands for no command here looks at nothing.
@@ -49,8 +49,8 @@ looks_of (ApplyForm common input name file) = looks_at common common.names input
 looks_of (Check common true device input file) = looks_at_input input
 looks_of (Check common false device input file) = looks_at common None input file
 looks_of (Convert kind old new source target) =
-    record { opens = record { kind = kind; asked = Some old; name = source } ∷ []; names = None; input = None; target = Some target }
-looks_of (Serve format calls port exports) = record { opens = map (file_of format) exports; names = None; input = None; target = None }
+    record { opens = record { kind = kind; asked = InFormat old; name = source } ∷ []; names = None; input = None; target = Some target }
+looks_of (Serve format calls port exports) = record { opens = map (file_of (asked_of format)) exports; names = None; input = None; target = None }
 looks_of Script = looks_at_input None
 looks_of (Generate seed count file) = looks_at_input None
 

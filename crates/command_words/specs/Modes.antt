@@ -54,7 +54,8 @@ abbrev pub is_flat_conversion : Option Conversion → Bool
 is_flat_conversion None = false
 is_flat_conversion (Some formats) = is_flat formats.old || is_flat formats.new
 
--- Flat files of projects are asked for. Their format is older than project quotas, and nothing in such a file tells its kind.
+-- Flat files of projects are asked for. Both flat formats, vfsold and vfsold32, are of quotas of users and groups alone, and nothing in a
+-- file of either tells its kind.
 abbrev pub are_flat_projects : GivenOptions → Bool
 are_flat_projects told = are_projects told && (is_flat_format told.format || is_flat_conversion told.conversion)
 

@@ -52,7 +52,7 @@ fn are_two_kinds(flags: &Flags) -> bool
     (flags.users && (flags.groups || flags.projects)) || (flags.groups && flags.projects)
 }
 
-/// Whether flat files of projects are asked for, whose format is older than project quotas.
+/// Whether flat files of projects are asked for. Both flat formats are of quotas of users and groups alone.
 fn are_flat_projects(given: &Given<'_>) -> bool
     ensures { result ≡ are_flat_projects (given_options given.now) }
 {

@@ -20,6 +20,7 @@ use Rattle.opened_file.specs.declared.quota_file.OpenFault.TheVariants.{Store, N
 use Rattle.opened_file.specs.declared.replacement.ReplaceFault.{ReplaceFault}
 use Rattle.opened_file.specs.declared.replacement.ReplaceFault.TheVariants.{Store as MakingFailed, Full as NoBlocks, Memory as NoMemoryToMake}
 use Rattle.outside.proofs.CountLemmas.{Rose-since}
+use Rattle.quota_map.specs.Asked.{InFormat}
 use Rattle.quota_map.specs.Size.{blocks_needed, ids_in}
 use Rattle.quota_map.specs.Replacing.{IsReplaceFileFault, IsReplacedBy, built_size, flags_in}
 use Rattle.quota_map.specs.View.{IsOpenFault, IsView, most_blocks}
@@ -65,7 +66,7 @@ source_refused tells asked old between new (Open fault) free same later cause = 
   absent = with_store (IsTrue tells → old.files asked.to ≡ None) fault free.absent;
   cause =
       open_since old.faults between.faults new.faults tells (old.files asked.from) asked.kind asked.old fault later
-      (subst (λ (files : World). IsOpenFault between.faults new.faults tells (files asked.from) asked.kind (Some asked.old) fault) same cause);
+      (subst (λ (files : World). IsOpenFault between.faults new.faults tells (files asked.from) asked.kind (InFormat asked.old) fault) same cause);
 }
 source_refused tells asked old between new (File fault) free same later cause = (free, reading_since old.faults between.faults new.faults tells asked.old fault later cause)
 source_refused tells asked old between new (NoRoom out) free same later cause = absurd cause
@@ -136,7 +137,7 @@ module _ (tells : Bool) (asked : AskedConversion) (old between new : StoreSeen) 
 
   pub made_of : between.files ≡ old.files → blocks_needed asked.new (ids_of entries) ≤ asked.limit
       → (IsTrue tells → IsReplacedBy asked.to (value_of asked.kind asked.new grace (flags_in asked.new 0) entries) (ids_of entries) (built_size asked.new (ids_of entries)) between.files new.files)
-      → (IsTrue tells → asked.limit ≤ most_blocks → IsView (new.files asked.to) asked.kind (Some asked.new) (Ok (value_of asked.kind asked.new grace (flags_in asked.new 0) entries)))
+      → (IsTrue tells → asked.limit ≤ most_blocks → IsView (new.files asked.to) asked.kind (InFormat asked.new) (Ok (value_of asked.kind asked.new grace (flags_in asked.new 0) entries)))
       → IsMade tells asked old new
   made_of same few replaced seen = record {
     free = free;
@@ -149,17 +150,17 @@ module _ (tells : Bool) (asked : AskedConversion) (old between new : StoreSeen) 
         (subst (λ (f : ℕ). IsReplacedBy asked.to (value_of asked.kind asked.new grace f entries) (ids_of entries) (built_size asked.new (ids_of entries)) between.files new.files)
         (no_flags asked.new) (replaced told)));
     seen = λ told most.
-        subst (λ (f : ℕ). IsView (new.files asked.to) asked.kind (Some asked.new) (Ok (value_of asked.kind asked.new grace f entries))) (no_flags asked.new) (seen told most);
+        subst (λ (f : ℕ). IsView (new.files asked.to) asked.kind (InFormat asked.new) (Ok (value_of asked.kind asked.new grace f entries))) (no_flags asked.new) (seen told most);
   }
 
   -- the bytes of a file that was committed
   pub committed_of : (bytes : List ℕ) → blocks_needed asked.new (ids_of entries) ≤ asked.limit
-      → (asked.limit ≤ most_blocks → IsView (Some bytes) asked.kind (Some asked.new) (Ok (value_of asked.kind asked.new grace (flags_in asked.new 0) entries)))
+      → (asked.limit ≤ most_blocks → IsView (Some bytes) asked.kind (InFormat asked.new) (Ok (value_of asked.kind asked.new grace (flags_in asked.new 0) entries)))
       → IsMadeOf tells asked old.files bytes
   committed_of bytes few seen = record {
     free = free;
     made = made;
     converts = converts;
     few = subst (λ (ids : List ℕ). blocks_needed asked.new ids ≤ asked.limit) (sym listed) few;
-    seen = λ most. subst (λ (f : ℕ). IsView (Some bytes) asked.kind (Some asked.new) (Ok (value_of asked.kind asked.new grace f entries))) (no_flags asked.new) (seen most);
+    seen = λ most. subst (λ (f : ℕ). IsView (Some bytes) asked.kind (InFormat asked.new) (Ok (value_of asked.kind asked.new grace f entries))) (no_flags asked.new) (seen most);
   }

@@ -9,6 +9,7 @@ use Rattle.outside.specs.World.{World}
 use Rattle.opened_file.specs.declared.quota_file.OpenFault.{OpenFault}
 use Rattle.opened_file.specs.declared.quota_file.OpenFault.TheVariants.{Store, NoFile, TooLarge, Memory, NotQuota, WrongKind, UnknownVersion, BadBlockCount, FormatMismatch, Damage}
 use Rattle.opened_file.specs.declared.replacement.ReplaceFault.{ReplaceFault}
+use Rattle.quota_map.specs.Asked.{InFormat}
 use Rattle.quota_map.specs.Size.{ids_in, blocks_of, size_of}
 use Rattle.quota_map.specs.Replacing.{IsReplaceFileFault, IsReplacedBy, UnlessStore}
 use Rattle.quota_map.specs.View.{IsOpenFault, IsView, most_blocks}
@@ -50,7 +51,7 @@ pub record IsMade (tells : Bool) (asked : AskedConversion) (old new : StoreSeen)
   pub converts : IsConverted tells asked old.files made
   pub few : blocks_of made ≤ asked.limit
   pub replaced : IsTrue tells → IsReplacedBy asked.to made (ids_in made.records) (size_of made) old.files new.files
-  pub seen : IsTrue tells → asked.limit ≤ most_blocks → IsView (new.files asked.to) asked.kind (Some asked.new) (Ok made)
+  pub seen : IsTrue tells → asked.limit ≤ most_blocks → IsView (new.files asked.to) asked.kind (InFormat asked.new) (Ok made)
 
 -- What a new file is made of: there was none of its name, and it is one of the converted value. Whoever opens it sees that value,
 -- unless it may have more blocks than an opened file.
@@ -59,7 +60,7 @@ pub record IsMadeOf (tells : Bool) (asked : AskedConversion) (old : World) (byte
   pub made : QuotaValue
   pub converts : IsConverted tells asked old made
   pub few : blocks_of made ≤ asked.limit
-  pub seen : asked.limit ≤ most_blocks → IsView (Some bytes) asked.kind (Some asked.new) (Ok made)
+  pub seen : asked.limit ≤ most_blocks → IsView (Some bytes) asked.kind (InFormat asked.new) (Ok made)
 
 -- Why it was refused.
 
@@ -81,7 +82,7 @@ UnlessFaultOfStore (Damage _) P = P
 pub record IsNotOpened (tells : Bool) (asked : AskedConversion) (old new : StoreSeen) (fault : OpenFault) : Type 0 where
   pub apart : asked.from ≢ asked.to
   pub absent : UnlessFaultOfStore fault (IsTrue tells → old.files asked.to ≡ None)
-  pub cause : IsOpenFault old.faults new.faults tells (old.files asked.from) asked.kind (Some asked.old) fault
+  pub cause : IsOpenFault old.faults new.faults tells (old.files asked.from) asked.kind (InFormat asked.old) fault
 
 -- the new format has no room for what was read, first of all for this value
 pub record IsUnfit (tells : Bool) (asked : AskedConversion) (files : World) (out : NoRoom) : Type 0 where

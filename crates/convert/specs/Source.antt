@@ -1,5 +1,5 @@
 -- The file that is converted: what is read of it, and why it could not be read.
-use Rattle.std.specs.Prelude.{◌≡◌, ℕ, Bool, IsTrue, List, Option, Some, None, IfSome, Ok, ⊤}
+use Rattle.std.specs.Prelude.{◌≡◌, ℕ, Bool, IsTrue, List, Option, None, IfSome, Ok, ⊤}
 use Rattle.std.specs.FinMap.{get}
 use Rattle.quota_types.specs.declared.file_kind.Format.{Format}
 use Rattle.quota_types.specs.declared.file_kind.Kind.{Kind}
@@ -9,6 +9,7 @@ use Rattle.outside.specs.Count.{Rose}
 use Rattle.quota_value.specs.QuotaValue.{QuotaValue}
 use Rattle.opened_file.specs.declared.quota_file.FileFault.{FileFault}
 use Rattle.opened_file.specs.declared.quota_file.FileFault.TheVariants.{Store, Damage, Full, Memory}
+use Rattle.quota_map.specs.Asked.{InFormat}
 use Rattle.quota_map.specs.AnyFile.{MayRefuse}
 use Rattle.quota_map.specs.View.{IsOpenFault, IsView}
 use Rattle.convert.specs.declared.convert_fault.ConvertFault.{ConvertFault}
@@ -17,8 +18,8 @@ use Rattle.convert.specs.declared.convert_fault.ConvertFault.TheVariants.{Open, 
 -- A value was read of a file: where the store tells, the one that is seen of it, and whatever it tells, one of the kind and the
 -- format, which has room for the grace periods and for each record, and keeps it as it is.
 pub record HasRead (tells : Bool) (named : Option (List ℕ)) (kind : Kind) (format : Format) (value : QuotaValue) : Type 0 where
-  pub seen : IsTrue tells → IsView named kind (Some format) (Ok value)
-  pub alone : IsTrue tells → (other : QuotaValue) → IsView named kind (Some format) (Ok other) → other ≡ value
+  pub seen : IsTrue tells → IsView named kind (InFormat format) (Ok value)
+  pub alone : IsTrue tells → (other : QuotaValue) → IsView named kind (InFormat format) (Ok other) → other ≡ value
   pub kind_is : value.kind ≡ kind
   pub format_is : value.format ≡ format
   pub grace : grace_unfit format value.grace ≡ None
@@ -34,6 +35,6 @@ IsReadingFault before now tells format Memory = ⊤
 
 -- a file could not be opened, or not be read
 abbrev pub IsSourceFault : (before now : ℕ) → Bool → Option (List ℕ) → Kind → Format → ConvertFault → Type 0
-IsSourceFault before now tells named kind format (Open fault) = IsOpenFault before now tells named kind (Some format) fault
+IsSourceFault before now tells named kind format (Open fault) = IsOpenFault before now tells named kind (InFormat format) fault
 IsSourceFault before now tells named kind format (File fault) = IsReadingFault before now tells format fault
 IsSourceFault before now tells named kind format _ = ⊥

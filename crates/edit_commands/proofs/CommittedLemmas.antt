@@ -2,13 +2,13 @@
 use Rattle.std.proofs.Common.{◌≡◌, ⊎_elim, ℕ, Bool, true, false, List, [], ◌∷◌, ◌++◌, Option, Ok, refl, subst}
 use Rattle.std.specs.Prelude.{⊤}
 use Rattle.std.proofs.lemmas.Bool.{false≢true}
-use Rattle.quota_types.specs.declared.file_kind.Format.{Format}
 use Rattle.quota_types.specs.declared.file_kind.Kind.{Kind}
 use Rattle.id_names.specs.NamesFile.{NameLine}
 use Rattle.outside.specs.Seen.{Datagram}
 use Rattle.outside.specs.World.{KeepsOthers, World}
 use Rattle.opened_file.specs.Committed.{CommitsOnce}
 use Rattle.quota_value.specs.QuotaValue.{QuotaValue}
+use Rattle.quota_map.specs.Asked.{Asked}
 use Rattle.quota_map.specs.View.{IsView}
 use Rattle.refusals.specs.Outcome.{Outcome, Passed}
 use Rattle.run_steps.specs.Act.{Act, Change, InPlace}
@@ -33,7 +33,7 @@ comes_named kind names lines next old files is to =
     comes_looked (λ (files : World). Then (names_seen kind names files) next) old files (comes_passed (names_seen kind names old.files) lines next old files is to)
 
 -- those behind an edit of an opened file, where a step of it made them or they are as they were
-pub comes_stepped : (kind : Kind) (asked : Option Format) (edit : FileEdit) (file : List ℕ) (invocation : Invocation) (old : Outside) (middle new : World) (value : QuotaValue) → middle ≡ old.files
+pub comes_stepped : (kind : Kind) (asked : Asked) (edit : FileEdit) (file : List ℕ) (invocation : Invocation) (old : Outside) (middle new : World) (value : QuotaValue) → middle ≡ old.files
     → IsView (old.files file) kind asked (Ok value) → IsStepped InPlace file (edit_meant edit invocation.now) value middle new → ComesTo (FileEditSteps kind asked edit file invocation) old new
 comes_stepped kind asked edit file invocation old middle new value same view stepped =
     let next : List Act → Steps = λ acts. DoingAll (acts ++ said_acts (warnings invocation.line (skipped_by edit value))) Finish in

@@ -1,6 +1,6 @@
 -- From an edit that words or a form ask for to what a command says of the file: its format, how it is left, and the times that are
 -- skipped.
-use Rattle.std.proofs.Common.{◌⊎◌, inl, inr, ◌≡◌, ◌≢◌, ℕ, Bool, true, false, IsTrue, List, Option, Ok, Err, Result, if◌then◌else◌, refl, sym}
+use Rattle.std.proofs.Common.{◌⊎◌, inl, inr, ◌≡◌, ◌≢◌, ℕ, Bool, true, false, IsTrue, List, Ok, Err, Result, if◌then◌else◌, refl, sym}
 use Rattle.std.specs.Prelude.{IsOk}
 use Rattle.std.proofs.lemmas.Bool.{false≢true}
 use Rattle.quota_types.specs.Kept.{kept_of}
@@ -11,6 +11,7 @@ use Rattle.quota_types.specs.declared.record.Rec.{Rec}
 use Rattle.quota_value.specs.QuotaValue.{QuotaValue}
 use Rattle.outside.specs.Seen.{StoreSeen}
 use Rattle.opened_file.specs.declared.quota_file.FileFault.TheVariants.{Store, Damage, Full, Memory}
+use Rattle.quota_map.specs.Asked.{Asked}
 use Rattle.quota_map.specs.AnyFile.{HoldsAny, any_seen}
 use Rattle.quota_map.specs.declared.any_file.AnyFile.{AnyFile}
 use Rattle.quota_map.specs.View.{fresh_seen}
@@ -95,7 +96,7 @@ skips_warn (Times id block inode) skipped may some = refl
 skips_warn _ skipped may some = absurd (some may)
 
 -- for what the edit of a file may be refused, by the edit at a moment
-pub file_edit_may : (asked : Option Format) (edit : FileEdit) (file : List ℕ) (now : ℕ) (cause : Cause) (said : List ℕ)
+pub file_edit_may : (asked : Asked) (edit : FileEdit) (file : List ℕ) (now : ℕ) (cause : Cause) (said : List ℕ)
     → ChangeMayRefuse asked (edit_meant edit now) file cause said ⊎ MayRefuseOpening asked file cause said → FileEditMayRefuse asked edit file cause said
 file_edit_may asked edit file now cause said (inl may) = inl (now, may)
 file_edit_may asked edit file now cause said (inr may) = inr (inl may)

@@ -6,6 +6,7 @@ use Rattle.opened_file.specs.FileSeen.{FileSeen}
 use Rattle.quota_value.specs.QuotaValue.{QuotaValue}
 use Rattle.outside.specs.Seen.{StoreSeen}
 use Rattle.outside.specs.World.{World}
+use Rattle.quota_map.specs.Asked.{asked_of}
 use Rattle.quota_map.specs.AnyFile.{HoldsAny, any_seen}
 use Rattle.quota_map.specs.AnyChange.{AnyMakes}
 use Rattle.quota_map.specs.View.{fresh_seen}
@@ -32,9 +33,9 @@ makes_opened file tells edit opened after first old new value format told was sa
 
 -- the edit that words ask for, once the names were read
 pub words_made : (common : Common) (words : EditWords) (file : List ℕ) (now : ℕ) (old middle new : World) (names : List NameLine) → names_seen common.kind (names_wanted words common.names) old ≡ Passed names
-    → middle ≡ old → MakesNamed names common.kind common.format words file now middle new → MakesWords common words file now old new
+    → middle ≡ old → MakesNamed names common.kind (asked_of common.format) words file now middle new → MakesWords common words file now old new
 words_made common words file now old middle new names known same made = record {
   names = names;
   known = known;
-  made = subst (λ (w : World). MakesNamed names common.kind common.format words file now w new) same made;
+  made = subst (λ (w : World). MakesNamed names common.kind (asked_of common.format) words file now w new) same made;
 }

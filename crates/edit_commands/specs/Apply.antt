@@ -3,7 +3,6 @@ use Rattle.std.specs.Prelude.{◌≡◌, ◌⊎◌, ℕ, true, false, List, Opti
 use Rattle.id_names.specs.FirstMatch.{first_name}
 use Rattle.id_names.specs.NamesFile.{NameLine}
 use Rattle.input_text.specs.declared.line_reader.LineFault.TheVariants.{Source, Long, TooLarge as PastTotal}
-use Rattle.quota_types.specs.declared.file_kind.Format.{Format}
 use Rattle.quota_types.specs.declared.file_kind.Kind.{Kind}
 use Rattle.report_text.specs.Report.{shown_name}
 use Rattle.set_edit.specs.FormReading.{form_read}
@@ -24,6 +23,7 @@ use Rattle.run_steps.specs.declared.invocation.Invocation.{Invocation}
 use Rattle.edit_commands.specs.Edits.{FileEditMayRefuse, FileEditSteps}
 use Rattle.run_steps.specs.Changing.{edit_uses}
 use Rattle.run_steps.specs.Numbers.{identifier_of}
+use Rattle.quota_map.specs.Asked.{Asked, asked_of}
 
 -- what is said of a form that gives no limits, where this is said of what it is read from
 abbrev pub form_cause : Cause → FormFault → Cause
@@ -43,17 +43,17 @@ form_step kind names file id from bytes =
     form_outcome (input_name from) (form_read kind (shown_name (first_name names) id) id file bytes)
 
 -- the form of an identifier is read, the file is opened, and the limits are set
-abbrev pub FormSteps : Kind → Option Format → List NameLine → Option (List ℕ) → ℕ → List ℕ → Invocation → Steps
-FormSteps kind format names from id file invocation =
+abbrev pub FormSteps : Kind → Asked → List NameLine → Option (List ℕ) → ℕ → List ℕ → Invocation → Steps
+FormSteps kind asked names from id file invocation =
     Taking from (λ limits. true) (form_step kind names file id from) (λ (limits : FourLimits).
-    FileEditSteps kind format (Limits id limits) file invocation)
+    FileEditSteps kind asked (Limits id limits) file invocation)
 
 -- the names are read, then the word for the identifier, and then the form, which has to be the one that is printed for it
 abbrev pub ApplySteps : Common → Option (List ℕ) → List ℕ → List ℕ → Invocation → Steps
 ApplySteps common from word file invocation =
     Naming common.kind common.names (λ (names : List NameLine).
     Then (identifier_of names word) (λ (id : ℕ).
-    FormSteps common.kind common.format names from id file invocation))
+    FormSteps common.kind (asked_of common.format) names from id file invocation))
 
 -- a form is read from an input, and changes the store as other edits do
 abbrev pub apply_uses : Option (List ℕ) → Uses
@@ -64,13 +64,13 @@ abbrev pub FormMayRefuse : Option (List ℕ) → Cause → List ℕ → Type 0
 FormMayRefuse = InputMayRefuse AForm
 
 -- the causes for which the form of an identifier may not be applied, whatever is told
-abbrev pub FormEditMayRefuse : Option Format → Option (List ℕ) → ℕ → List ℕ → Cause → List ℕ → Type 0
+abbrev pub FormEditMayRefuse : Asked → Option (List ℕ) → ℕ → List ℕ → Cause → List ℕ → Type 0
 FormEditMayRefuse asked from id file cause name =
     FormMayRefuse from cause name
     ⊎ ((limits : FourLimits) × FileEditMayRefuse asked (Limits id limits) file cause name)
 
 -- the causes for which a form of the word for an identifier may not be applied, where these are the names
-abbrev pub NamedApplyMayRefuse : Option Format → Option (List ℕ) → List ℕ → List ℕ → List NameLine → Cause → List ℕ → Type 0
+abbrev pub NamedApplyMayRefuse : Asked → Option (List ℕ) → List ℕ → List ℕ → List NameLine → Cause → List ℕ → Type 0
 NamedApplyMayRefuse asked from word file names cause name =
     (identifier_of names word ≡ Refused (refusal_of cause name))
     ⊎ ((id : ℕ) × (identifier_of names word ≡ Passed id) × FormEditMayRefuse asked from id file cause name)
@@ -79,4 +79,4 @@ NamedApplyMayRefuse asked from word file names cause name =
 abbrev pub ApplyMayRefuse : Common → Option (List ℕ) → List ℕ → List ℕ → Cause → List ℕ → Type 0
 ApplyMayRefuse common from word file cause name =
     NamesMayRefuse common.names cause name
-    ⊎ ((names : List NameLine) × MayBeNames common.names names × NamedApplyMayRefuse common.format from word file names cause name)
+    ⊎ ((names : List NameLine) × MayBeNames common.names names × NamedApplyMayRefuse (asked_of common.format) from word file names cause name)

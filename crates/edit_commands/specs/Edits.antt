@@ -5,7 +5,6 @@ use Rattle.id_names.specs.NamesFile.{NameLine}
 use Rattle.quota_value.specs.QuotaValue.{QuotaValue}
 use Rattle.outside.specs.World.{World}
 use Rattle.set_edit.specs.declared.skipped.Skipped.{Skipped}
-use Rattle.quota_types.specs.declared.file_kind.Format.{Format}
 use Rattle.quota_types.specs.declared.file_kind.Kind.{Kind}
 use Rattle.refusals.specs.declared.cause.Cause.{Cause}
 use Rattle.refusals.specs.declared.cause.Cause.TheVariants.{SinkFault}
@@ -23,6 +22,7 @@ use Rattle.run_steps.specs.Steps.{DoingAll, Finish, Looking, Naming, Opening, St
 use Rattle.run_steps.specs.declared.invocation.Invocation.{Invocation}
 use Rattle.edit_commands.specs.EditWords.{edit_meant, edit_read, edit_warns, names_wanted, skipped_by}
 use Rattle.edit_steps.specs.EditStep.{edit_step, ChangeMayRefuse}
+use Rattle.quota_map.specs.Asked.{Asked, asked_of}
 
 -- The warnings.
 
@@ -47,7 +47,7 @@ said_acts lines = map ToErr lines
 -- The steps.
 
 -- the file is opened and edited as it is then, and what was skipped is warned of
-abbrev pub FileEditSteps : Kind → Option Format → FileEdit → List ℕ → Invocation → Steps
+abbrev pub FileEditSteps : Kind → Asked → FileEdit → List ℕ → Invocation → Steps
 FileEditSteps kind asked edit file invocation =
     Opening kind asked file (λ (value : QuotaValue).
     Looking (λ (files : World).
@@ -59,21 +59,21 @@ abbrev pub EditSteps : Common → EditWords → List ℕ → Invocation → Step
 EditSteps common words file invocation =
     Naming common.kind (names_wanted words common.names) (λ (names : List NameLine).
     Then (edit_read names words) (λ (edit : FileEdit).
-    FileEditSteps common.kind common.format edit file invocation))
+    FileEditSteps common.kind (asked_of common.format) edit file invocation))
 
 -- the refusal of the first faulty word, where it rests on no file of names
 abbrev pub faulty_edit : Common → EditWords → Option Refusal
 faulty_edit common words = if is_none (names_wanted words common.names) then refusal_in (edit_read [] words) else None
 
 -- the causes for which the edit of a file may be refused, whatever is told
-abbrev pub FileEditMayRefuse : Option Format → FileEdit → List ℕ → Cause → List ℕ → Type 0
+abbrev pub FileEditMayRefuse : Asked → FileEdit → List ℕ → Cause → List ℕ → Type 0
 FileEditMayRefuse asked edit file cause name =
     ((now : ℕ) × ChangeMayRefuse asked (edit_meant edit now) file cause name)
     ⊎ (MayRefuseOpening asked file cause name
     ⊎ (IsTrue (edit_warns edit) × (cause ≡ SinkFault)))
 
 -- the causes for which what words ask for may be refused, where these are the names
-abbrev pub NamedEditMayRefuse : Option Format → EditWords → List ℕ → List NameLine → Cause → List ℕ → Type 0
+abbrev pub NamedEditMayRefuse : Asked → EditWords → List ℕ → List NameLine → Cause → List ℕ → Type 0
 NamedEditMayRefuse asked words file names cause name =
     (edit_read names words ≡ Refused (refusal_of cause name))
     ⊎ ((edit : FileEdit) × (edit_read names words ≡ Passed edit) × FileEditMayRefuse asked edit file cause name)
@@ -82,4 +82,4 @@ NamedEditMayRefuse asked words file names cause name =
 abbrev pub EditMayRefuse : Common → EditWords → List ℕ → Cause → List ℕ → Type 0
 EditMayRefuse common words file cause name =
     NamesMayRefuse (names_wanted words common.names) cause name
-    ⊎ ((names : List NameLine) × MayBeNames (names_wanted words common.names) names × NamedEditMayRefuse common.format words file names cause name)
+    ⊎ ((names : List NameLine) × MayBeNames (names_wanted words common.names) names × NamedEditMayRefuse (asked_of common.format) words file names cause name)

@@ -15,6 +15,7 @@ use Rattle.edit_commands.specs.EditWords.{edit_meant, edit_read, names_wanted}
 use Rattle.edit_commands.specs.declared.edit.EditWords.{EditWords}
 use Rattle.edit_commands.specs.declared.edit.FileEdit.{FileEdit}
 use Rattle.edit_steps.specs.Fits.{IsFullFor}
+use Rattle.quota_map.specs.Asked.{asked_of}
 
 -- The files have no room for the edit that words ask for: its words were read with the names that the files had at the start.
 pub record IsFullForWords (common : Common) (words : EditWords) (file : List ℕ) (now : ℕ) (old : Outside) (files : World) (blocks limit : ℕ) : Type 0 where
@@ -22,7 +23,7 @@ pub record IsFullForWords (common : Common) (words : EditWords) (file : List ℕ
   pub edit : FileEdit
   pub known : names_seen common.kind (names_wanted words common.names) old.files ≡ Passed names
   pub read : edit_read names words ≡ Passed edit
-  pub full : IsFullFor common.kind common.format (edit_meant edit now) (files file) blocks limit
+  pub full : IsFullFor common.kind (asked_of common.format) (edit_meant edit now) (files file) blocks limit
 
 -- The files have no room for the limits of a form: its word and its input were read with the names that the files had at the start.
 pub record IsFullForForm (common : Common) (from : Option (List ℕ)) (word file : List ℕ) (now : ℕ) (old : Outside) (files : World) (blocks limit : ℕ) : Type 0 where
@@ -32,4 +33,4 @@ pub record IsFullForForm (common : Common) (from : Option (List ℕ)) (word file
   pub known : names_seen common.kind common.names old.files ≡ Passed names
   pub read : identifier_of names word ≡ Passed id
   pub said : input_said from (form_step common.kind names file id from) old.files old.input ≡ Passed limits
-  pub full : IsFullFor common.kind common.format (limits_edit id limits now) (files file) blocks limit
+  pub full : IsFullFor common.kind (asked_of common.format) (limits_edit id limits now) (files file) blocks limit

@@ -2,7 +2,6 @@
 use Rattle.std.specs.Prelude.{◌≡◌, ◌⊎◌, ℕ, List, [], Option, None, is_none, if◌then◌else◌}
 use Rattle.id_names.specs.FirstMatch.{first_name}
 use Rattle.id_names.specs.NamesFile.{NameLine}
-use Rattle.quota_types.specs.declared.file_kind.Format.{Format}
 use Rattle.quota_types.specs.declared.file_kind.Kind.{Kind}
 use Rattle.quota_value.specs.QuotaValue.{QuotaValue}
 use Rattle.report_text.specs.Report.{shown_name}
@@ -18,6 +17,7 @@ use Rattle.run_steps.specs.Steps.{Naming, Steps, Then}
 use Rattle.run_steps.specs.declared.invocation.Invocation.{Invocation}
 use Rattle.run_steps.specs.Showing.{ShowingMayRefuse, ShowingSteps}
 use Rattle.run_steps.specs.Numbers.{identifier_of}
+use Rattle.quota_map.specs.Asked.{Asked, asked_of}
 
 -- the form of an identifier in a file of this name: of its record, or of one of zeros
 abbrev pub form_on : Kind → List NameLine → List ℕ → ℕ → QuotaValue → List ℕ
@@ -28,14 +28,14 @@ abbrev pub PrintSteps : Common → List ℕ → List ℕ → Invocation → Step
 PrintSteps common word file invocation =
     Naming common.kind common.names (λ (names : List NameLine).
     Then (identifier_of names word) (λ (id : ℕ).
-    ShowingSteps common.kind common.format file (form_on common.kind names file id)))
+    ShowingSteps common.kind (asked_of common.format) file (form_on common.kind names file id)))
 
 -- the refusal of the word for the identifier, where it rests on no file of names
 abbrev pub faulty_print : Common → List ℕ → Option Refusal
 faulty_print common word = if is_none common.names then refusal_in (identifier_of [] word) else None
 
 -- the causes for which a form may not be shown, whatever is told, where these are the names
-abbrev pub NamedPrintMayRefuse : Option Format → List ℕ → List ℕ → List NameLine → Cause → List ℕ → Type 0
+abbrev pub NamedPrintMayRefuse : Asked → List ℕ → List ℕ → List NameLine → Cause → List ℕ → Type 0
 NamedPrintMayRefuse asked word file names cause name =
     (identifier_of names word ≡ Refused (refusal_of cause name))
     ⊎ ((id : ℕ) × (identifier_of names word ≡ Passed id) × ShowingMayRefuse asked file cause name)
@@ -44,4 +44,4 @@ NamedPrintMayRefuse asked word file names cause name =
 abbrev pub PrintMayRefuse : Common → List ℕ → List ℕ → Cause → List ℕ → Type 0
 PrintMayRefuse common word file cause name =
     NamesMayRefuse common.names cause name
-    ⊎ ((names : List NameLine) × MayBeNames common.names names × NamedPrintMayRefuse common.format word file names cause name)
+    ⊎ ((names : List NameLine) × MayBeNames common.names names × NamedPrintMayRefuse (asked_of common.format) word file names cause name)

@@ -12,6 +12,7 @@ ghost use Rattle.edit_commands.specs.Apply.{ApplyMayRefuse, ApplySteps, FormEdit
 ghost use Rattle.edit_commands.specs.EditsInPart.{IsLeftFor};
 ghost use Rattle.edit_commands.specs.Print.{faulty_print};
 ghost use Rattle.run_steps.specs.Numbers.{identifier_of};
+ghost use Rattle.quota_map.specs.Asked.{asked_of};
 
 use crate::edit::FileEdit;
 use crate::edits::edit_file;
@@ -94,8 +95,8 @@ fn apply_named<S: Store, I: Source, E: Sink>(
     invocation: Invocation,
 ) -> Result<(), Refusal>
     ensures carries { (out : SinkSeen) (link : LinkSeen) (out_tells link_tells : Bool)
-        → CarriesOut (Then (identifier_of names.now word) (λ (id : ℕ). FormSteps kind format names.now from id file invocation))
-        (apply_uses from) (NamedApplyMayRefuse format from word file names.now)
+        → CarriesOut (Then (identifier_of names.now word) (λ (id : ℕ). FormSteps kind (asked_of format) names.now from id file invocation))
+        (apply_uses from) (NamedApplyMayRefuse (asked_of format) from word file names.now)
         (tells_of S.tells I.tells out_tells E.tells link_tells)
         (seen_of (S.seen store.old) (I.seen input.old) out (E.seen err.old) link)
         (seen_of (S.seen store.new) (I.seen input.new) out (E.seen err.new) link) result }
@@ -106,7 +107,7 @@ fn apply_named<S: Store, I: Source, E: Sink>(
     ensures alone { EditsAlone file (S.seen store.old) (S.seen store.new) }
     ensures synced { IsTrue S.tells → Syncs (is_ok result) (S.seen store.old) (S.seen store.new) }
     ensures commits { (datagrams : List Datagram) → IsTrue S.tells → (from ≡ None → IsTrue I.tells)
-        → CommitsSteps ⊤ (is_ok result) (Then (identifier_of names.now word) (λ (id : ℕ). FormSteps kind format names.now from id file invocation))
+        → CommitsSteps ⊤ (is_ok result) (Then (identifier_of names.now word) (λ (id : ℕ). FormSteps kind (asked_of format) names.now from id file invocation))
         (KeepsOthers file (S.seen store.old).files)
         (record { files = (S.seen store.old).files; input = (I.seen input.old).left; datagrams = datagrams }) (S.seen store.new).files
         (λ worlds. S.commits worlds store.old store.new) }
@@ -137,7 +138,7 @@ fn apply_form<S: Store, I: Source, E: Sink>(
     invocation: Invocation,
 ) -> Result<(), Refusal>
     ensures carries { (out : SinkSeen) (link : LinkSeen) (out_tells link_tells : Bool)
-        → CarriesOut (FormSteps kind format names.now from id file invocation) (apply_uses from) (FormEditMayRefuse format from id file)
+        → CarriesOut (FormSteps kind (asked_of format) names.now from id file invocation) (apply_uses from) (FormEditMayRefuse (asked_of format) from id file)
         (tells_of S.tells I.tells out_tells E.tells link_tells)
         (seen_of (S.seen store.old) (I.seen input.old) out (E.seen err.old) link)
         (seen_of (S.seen store.new) (I.seen input.new) out (E.seen err.new) link) result }
@@ -146,7 +147,7 @@ fn apply_form<S: Store, I: Source, E: Sink>(
     ensures alone { EditsAlone file (S.seen store.old) (S.seen store.new) }
     ensures synced { IsTrue S.tells → Syncs (is_ok result) (S.seen store.old) (S.seen store.new) }
     ensures commits { (datagrams : List Datagram) → IsTrue S.tells → (from ≡ None → IsTrue I.tells)
-        → CommitsSteps ⊤ (is_ok result) (FormSteps kind format names.now from id file invocation)
+        → CommitsSteps ⊤ (is_ok result) (FormSteps kind (asked_of format) names.now from id file invocation)
         (KeepsOthers file (S.seen store.old).files)
         (record { files = (S.seen store.old).files; input = (I.seen input.old).left; datagrams = datagrams }) (S.seen store.new).files
         (λ worlds. S.commits worlds store.old store.new) }

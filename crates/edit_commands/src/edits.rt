@@ -4,6 +4,7 @@ ghost use Rattle.quota_value.specs.QuotaValue.{QuotaValue};
 ghost use Rattle.outside.specs.Seen.{Datagram, LinkSeen, SinkSeen, SourceSeen};
 ghost use Rattle.outside.specs.World.{KeepsOthers};
 ghost use Rattle.opened_file.specs.Committed.{CommitsOnce};
+ghost use Rattle.quota_map.specs.Asked.{asked_of};
 ghost use Rattle.quota_map.specs.AnyFile.{HoldsAny, any_at, any_laws, any_seen};
 ghost use Rattle.quota_map.specs.StandsFor.{StandsForAs};
 ghost use Rattle.set_edit.specs.EditCalls.{Edits, StandsEdited};
@@ -105,8 +106,8 @@ fn edit_named<S: Store, E: Sink>(
     invocation: Invocation,
 ) -> Result<(), Refusal>
     ensures carries { (input : SourceSeen) (out : SinkSeen) (link : LinkSeen) (input_tells out_tells link_tells : Bool)
-        → CarriesOut (Then (edit_read names.now words) (λ (edit : FileEditOf). FileEditSteps kind format edit file invocation))
-        (edit_uses (words_warn words)) (NamedEditMayRefuse format words file names.now)
+        → CarriesOut (Then (edit_read names.now words) (λ (edit : FileEditOf). FileEditSteps kind (asked_of format) edit file invocation))
+        (edit_uses (words_warn words)) (NamedEditMayRefuse (asked_of format) words file names.now)
         (tells_of S.tells input_tells out_tells E.tells link_tells)
         (seen_of (S.seen store.old) input out (E.seen err.old) link)
         (seen_of (S.seen store.new) input out (E.seen err.new) link) result }
@@ -117,10 +118,10 @@ fn edit_named<S: Store, E: Sink>(
         → IsLeftFor refusal.cause ((S.seen store.old).files file) ((S.seen store.new).files file)) }
     ensures alone { EditsAlone file (S.seen store.old) (S.seen store.new) }
     ensures made { OnOk result (IsTrue S.tells
-        → MakesNamed names.now kind format words file invocation.now (S.seen store.old).files (S.seen store.new).files) }
+        → MakesNamed names.now kind (asked_of format) words file invocation.now (S.seen store.old).files (S.seen store.new).files) }
     ensures synced { IsTrue S.tells → Syncs (is_ok result) (S.seen store.old) (S.seen store.new) }
     ensures commits { (input : List ℕ) (datagrams : List Datagram) → IsTrue S.tells
-        → CommitsSteps ⊤ (is_ok result) (Then (edit_read names.now words) (λ (edit : FileEditOf). FileEditSteps kind format edit file invocation))
+        → CommitsSteps ⊤ (is_ok result) (Then (edit_read names.now words) (λ (edit : FileEditOf). FileEditSteps kind (asked_of format) edit file invocation))
         (KeepsOthers file (S.seen store.old).files)
         (record { files = (S.seen store.old).files; input = input; datagrams = datagrams }) (S.seen store.new).files
         (λ worlds. S.commits worlds store.old store.new) }
@@ -148,7 +149,7 @@ pub fn edit_file<S: Store, E: Sink>(
     invocation: Invocation,
 ) -> Result<(), Refusal>
     ensures carries { (input : SourceSeen) (out : SinkSeen) (link : LinkSeen) (input_tells out_tells link_tells : Bool)
-        → CarriesOut (FileEditSteps kind format edit.now file invocation) (edit_uses (edit_warns edit.now)) (FileEditMayRefuse format edit.now file)
+        → CarriesOut (FileEditSteps kind (asked_of format) edit.now file invocation) (edit_uses (edit_warns edit.now)) (FileEditMayRefuse (asked_of format) edit.now file)
         (tells_of S.tells input_tells out_tells E.tells link_tells)
         (seen_of (S.seen store.old) input out (E.seen err.old) link)
         (seen_of (S.seen store.new) input out (E.seen err.new) link) result }
@@ -156,10 +157,10 @@ pub fn edit_file<S: Store, E: Sink>(
         → IsLeftFor refusal.cause ((S.seen store.old).files file) ((S.seen store.new).files file)) }
     ensures alone { EditsAlone file (S.seen store.old) (S.seen store.new) }
     ensures made { OnOk result (IsTrue S.tells
-        → MakesEdit kind format (edit_meant edit.now invocation.now) file (S.seen store.old).files (S.seen store.new).files) }
+        → MakesEdit kind (asked_of format) (edit_meant edit.now invocation.now) file (S.seen store.old).files (S.seen store.new).files) }
     ensures synced { IsTrue S.tells → Syncs (is_ok result) (S.seen store.old) (S.seen store.new) }
     ensures commits { (input : List ℕ) (datagrams : List Datagram) → IsTrue S.tells
-        → CommitsSteps ⊤ (is_ok result) (FileEditSteps kind format edit.now file invocation)
+        → CommitsSteps ⊤ (is_ok result) (FileEditSteps kind (asked_of format) edit.now file invocation)
         (KeepsOthers file (S.seen store.old).files)
         (record { files = (S.seen store.old).files; input = input; datagrams = datagrams }) (S.seen store.new).files
         (λ worlds. S.commits worlds store.old store.new) }

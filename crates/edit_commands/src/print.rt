@@ -15,6 +15,7 @@ ghost use Rattle.run_steps.specs.Steps.{Then};
 ghost use Rattle.edit_commands.specs.Print.{NamedPrintMayRefuse, PrintMayRefuse, PrintSteps, faulty_print, form_on};
 ghost use Rattle.run_steps.specs.Showing.{ShowingMayRefuse, ShowingSteps, showing_uses};
 ghost use Rattle.run_steps.specs.Numbers.{identifier_of};
+ghost use Rattle.quota_map.specs.Asked.{asked_of};
 
 use arrayvec::ArrayVec;
 use command_words::Common;
@@ -78,8 +79,8 @@ fn print_named<S: Store, O: Sink>(
     out: &mut O,
 ) -> Result<(), Refusal>
     ensures carries { (input : SourceSeen) (err : SinkSeen) (link : LinkSeen) (input_tells err_tells link_tells : Bool)
-        → CarriesOut (Then (identifier_of names.now word) (λ (id : ℕ). ShowingSteps kind format file (form_on kind names.now file id)))
-        showing_uses (NamedPrintMayRefuse format word file names.now)
+        → CarriesOut (Then (identifier_of names.now word) (λ (id : ℕ). ShowingSteps kind (asked_of format) file (form_on kind names.now file id)))
+        showing_uses (NamedPrintMayRefuse (asked_of format) word file names.now)
         (tells_of S.tells input_tells O.tells err_tells link_tells)
         (seen_of (S.seen store.old) input (O.seen out.old) err link)
         (seen_of (S.seen store.new) input (O.seen out.new) err link) result }
@@ -106,7 +107,7 @@ fn print_opened<S: Store, O: Sink>(
     out: &mut O,
 ) -> Result<(), Refusal>
     ensures carries { (input : SourceSeen) (err : SinkSeen) (link : LinkSeen) (input_tells err_tells link_tells : Bool)
-        → CarriesOut (ShowingSteps kind format file (form_on kind names.now file id)) showing_uses (ShowingMayRefuse format file)
+        → CarriesOut (ShowingSteps kind (asked_of format) file (form_on kind names.now file id)) showing_uses (ShowingMayRefuse (asked_of format) file)
         (tells_of S.tells input_tells O.tells err_tells link_tells)
         (seen_of (S.seen store.old) input (O.seen out.old) err link)
         (seen_of (S.seen store.new) input (O.seen out.new) err link) result }

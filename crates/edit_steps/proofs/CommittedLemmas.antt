@@ -1,5 +1,5 @@
 -- What an edit of a file that was just opened has made of the files, where the file stands for the edited value then: nothing, or its step.
-use Rattle.std.proofs.Common.{◌⊎◌, inl, inr, ◌≡◌, ℕ, Bool, true, false, IsTrue, List, [], ◌∷◌, Option, Some, Ok, Err, Result, refl, ap, subst, ◌∙◌}
+use Rattle.std.proofs.Common.{◌⊎◌, inl, inr, ◌≡◌, ℕ, Bool, true, false, IsTrue, List, [], ◌∷◌, Option, Ok, Err, Result, refl, ap, subst, ◌∙◌}
 use Rattle.std.specs.Prelude.{IsOkAnd, IsSomeAnd}
 use Rattle.quota_types.specs.declared.field.Field.{Field}
 use Rattle.quota_types.specs.declared.file_kind.Format.{Format}
@@ -7,6 +7,7 @@ use Rattle.outside.specs.Seen.{StoreSeen}
 use Rattle.outside.specs.World.{KeepsOthers, World}
 use Rattle.opened_file.specs.FileSeen.{FileSeen}
 use Rattle.quota_value.specs.QuotaValue.{QuotaValue}
+use Rattle.quota_map.specs.Asked.{InFormat}
 use Rattle.quota_map.specs.AnyFile.{HoldsAny, any_seen}
 use Rattle.quota_map.specs.Size.{blocks_after}
 use Rattle.quota_map.specs.StandsFor.{StandsForAs}
@@ -43,7 +44,7 @@ record IsSeenOrSame (name : List ℕ) (edit : Edit) (value : QuotaValue) (edited
   pub idle : IsTrue (edit.is_idle value) → new ≡ old
   pub full : (one : QuotaValue) → edited ≡ Ok one → edit.is_idle value ≡ false → IsTrue (is_too_large edit (old name) one) → new ≡ old
   pub unfit : (out : Field × ℕ) → edited ≡ Err out → new ≡ old
-  pub seen : (one : QuotaValue) → edited ≡ Ok one → IsView (new name) one.kind (Some one.format) (Ok one)
+  pub seen : (one : QuotaValue) → edited ≡ Ok one → IsView (new name) one.kind (InFormat one.format) (Ok one)
   pub others : KeepsOthers name old new
 
 -- it has made its step, or nothing
@@ -85,8 +86,8 @@ pub refused_stepped : {T : Type 0} (way : Way) (name : List ℕ) (edit : Edit) (
 refused_stepped {T} way name edit tells opened file before after format value fault keeps was is held edits stands =
     let refused = any_refused {T = T} name edit tells opened file before after format value fault keeps was (λ _. held) edits in
     let formats : value.format ≡ format = held_format tells before.files opened value held ∙ ap (λ (s : FileSeen). s.format) was in
-    let view : IsView (before.files name) value.kind (Some format) (Ok value) =
-    subst (λ (f : Format). IsView (before.files name) value.kind (Some f) (Ok value)) formats (any_held_seen tells before.files opened value name format was held) in
+    let view : IsView (before.files name) value.kind (InFormat format) (Ok value) =
+    subst (λ (f : Format). IsView (before.files name) value.kind (InFormat f) (Ok value)) formats (any_held_seen tells before.files opened value name format was held) in
     let whole : IsSomeAnd (after.files name) (λ bytes. IsOkAnd (edit.edited value) (StandsForAs format bytes)) =
     subst (λ (s : FileSeen). IsSomeAnd (after.files s.name) (λ bytes. IsOkAnd (edit.edited value) (StandsForAs s.format bytes))) was (stands value held) in
     stepped way name edit value (edit.edited value) before.files after.files

@@ -1,5 +1,5 @@
 -- From what an edit says of an opened file of any format to what a command says of the file.
-use Rattle.std.proofs.Common.{◌⊎◌, inl, inr, ◌≡◌, ◌≢◌, ◌+◌, ◌≤◌, ℕ, Bool, true, false, IsTrue, List, Option, Some, Ok, Err, Result, refl, sym, ap, subst, ◌∙◌, arith}
+use Rattle.std.proofs.Common.{◌⊎◌, inl, inr, ◌≡◌, ◌≢◌, ◌+◌, ◌≤◌, ℕ, Bool, true, false, IsTrue, List, Option, Ok, Err, Result, refl, sym, ap, subst, ◌∙◌, arith}
 use Rattle.std.specs.Prelude.{◌&&◌, ◌<◌, nat_lt, IfOk, IsOk, IsOkAnd}
 use Rattle.std.proofs.lemmas.Bool.{false≢true}
 use Rattle.std.proofs.lemmas.Bool.Decides.{nat_tests}
@@ -17,6 +17,7 @@ use Rattle.outside.specs.World.{World}
 use Rattle.opened_file.specs.declared.quota_file.FileFault.{FileFault}
 use Rattle.opened_file.specs.declared.quota_file.FileFault.TheVariants.{Store, Damage, Full, Memory}
 use Rattle.opened_file.proofs.LookupLemmas.{change_fault-after}
+use Rattle.quota_map.specs.Asked.{Asked, InFormat}
 use Rattle.quota_map.specs.AnyFile.{HoldsAny, MayRefuse, any_at, any_laws, any_seen}
 use Rattle.quota_map.specs.AnyChange.{AnyLeaves, AnyMakes}
 use Rattle.quota_map.specs.StandsFor.{StandsForAs}
@@ -219,16 +220,16 @@ any_cause tells edit opened file before after name format (Unfit out) keeps was 
     record { no_room = edits.no_room.refused; id = edits.no_room.id; refused = tt; wanted = tt }
 
 -- a file that is full is a tree file, which may have the most blocks
-full_asked : (asked : Option Format) (format : Format) (blocks limit : ℕ) → IsOpenedAs asked format → MayRefuse format (Full blocks limit)
+full_asked : (asked : Asked) (format : Format) (blocks limit : ℕ) → IsOpenedAs asked format → MayRefuse format (Full blocks limit)
     → IsTrue (asks_tree asked) × (blocks_allowed format ≡ most_blocks)
 full_asked asked V1 blocks limit asks may = absurd (may.flat refl)
 full_asked asked V1R32 blocks limit asks may = absurd (may.flat refl)
-full_asked (Some V1) format blocks limit asks may = absurd (may.flat (ap is_flat asks))
-full_asked (Some V1R32) format blocks limit asks may = absurd (may.flat (ap is_flat asks))
+full_asked (InFormat V1) format blocks limit asks may = absurd (may.flat (ap is_flat asks))
+full_asked (InFormat V1R32) format blocks limit asks may = absurd (may.flat (ap is_flat asks))
 full_asked asked format blocks limit asks may = (refl, refl)
 
 -- for what an edit may be refused, whatever is told
-pub edit_may : {T : Type 0} (asked : Option Format) (name : List ℕ) (edit : Edit) (tells : Bool) (opened file : AnyFile) (before after : StoreSeen) (format : Format) (fault : EditFault)
+pub edit_may : {T : Type 0} (asked : Asked) (name : List ℕ) (edit : Edit) (tells : Bool) (opened file : AnyFile) (before after : StoreSeen) (format : Format) (fault : EditFault)
     → any_seen opened ≡ fresh_seen name format → IsOpenedAs asked format → AnyEdits {T = T} edit tells opened file before after (Err fault)
     → ChangeMayRefuse asked edit name (edit_cause fault) name ⊎ MayRefuseOpening asked name (edit_cause fault) name
 edit_may asked name edit tells opened file before after format (File Store) was asks edits = inr tt

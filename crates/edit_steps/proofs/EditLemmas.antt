@@ -1,11 +1,12 @@
 -- From an edit of an opened file that was made to its acts.
-use Rattle.std.proofs.Common.{◌≡◌, ℕ, ◌+◌, ◌≤◌, Bool, true, false, IsTrue, List, [], ◌∷◌, Option, Some, Ok, Err, Result, if◌then◌else◌, refl, ap, ◌∙◌}
+use Rattle.std.proofs.Common.{◌≡◌, ℕ, ◌+◌, ◌≤◌, Bool, true, false, IsTrue, List, [], ◌∷◌, Option, Ok, Err, Result, if◌then◌else◌, refl, ap, ◌∙◌}
 use Rattle.std.specs.Prelude.{IsOkAnd}
 use Rattle.quota_types.specs.declared.field.Field.{Field}
 use Rattle.opened_file.specs.EditsOne.{EditsOne}
 use Rattle.outside.specs.Frame.{OnlyReads}
 use Rattle.quota_value.specs.QuotaValue.{QuotaValue}
 use Rattle.outside.specs.Seen.{StoreSeen}
+use Rattle.quota_map.specs.Asked.{InFormat}
 use Rattle.quota_map.specs.View.{IsView}
 use Rattle.set_edit.specs.Editing.{Edit}
 use Rattle.refusals.specs.Outcome.{Passed}
@@ -24,7 +25,7 @@ change_acts way name new idle = if idle then idle_acts way else Change way name 
 -- an edited value is seen of the file, in which, as it was, there was room for it where something was to be done
 abbrev pub EditedSeen : List ℕ → Option (List ℕ) → StoreSeen → Edit → QuotaValue → Result QuotaValue (Field × ℕ) → Type 0
 EditedSeen name file store edit value edited =
-    IsOkAnd edited (λ (new : QuotaValue). IsView (store.files name) new.kind (Some new.format) (Ok new) × (edit.is_idle value ≡ false → is_too_large edit file new ≡ false))
+    IsOkAnd edited (λ (new : QuotaValue). IsView (store.files name) new.kind (InFormat new.format) (Ok new) × (edit.is_idle value ≡ false → is_too_large edit file new ≡ false))
 
 -- What an edit of a value leaves that was made: where this much is told nothing is written where nothing is to be done, and the
 -- file is seen as the edited value; and all other files stay, with twelve calls of `write` at most.
@@ -58,7 +59,7 @@ idle_written name old store reads = record {
 }
 
 change_written : {done : Bool} (way : Way) (name : List ℕ) (new : QuotaValue) (idle : Bool) (old store : StoreSeen) → (IsTrue idle → OnlyReads done name old store)
-    → IsView (store.files name) new.kind (Some new.format) (Ok new) → EditsOne name old store → store.writes ≤ old.writes + 12 → AreWritten (change_acts way name new idle) old store
+    → IsView (store.files name) new.kind (InFormat new.format) (Ok new) → EditsOne name old store → store.writes ≤ old.writes + 12 → AreWritten (change_acts way name new idle) old store
 change_written InPlace name new true old store same view leaves few = written_none name old store (same refl)
 change_written (Together others) name new true old store same view leaves few = idle_written name old store (same refl)
 change_written Behind name new true old store same view leaves few = idle_written name old store (same refl)

@@ -3,13 +3,13 @@ use Rattle.std.proofs.Common.{◌≡◌, ℕ, ◌<◌, Bool, true, false, cond, 
 use Rattle.std.specs.Prelude.{⊤, nat_lt}
 use Rattle.std.proofs.lemmas.Bool.{false≢true}
 use Rattle.id_names.specs.NamesFile.{NameLine, bad_line, names_in}
-use Rattle.quota_types.specs.declared.file_kind.Format.{Format}
 use Rattle.quota_types.specs.declared.file_kind.Kind.{Kind}
 use Rattle.quota_value.specs.QuotaValue.{QuotaValue}
 use Rattle.input_text.specs.InputLeft.{left_from}
 use Rattle.outside.specs.World.{World}
 use Rattle.opened_file.specs.declared.quota_file.OpenFault.{OpenFault}
 use Rattle.opened_file.specs.declared.quota_file.OpenFault.TheVariants.{Store}
+use Rattle.quota_map.specs.Asked.{Asked}
 use Rattle.quota_map.specs.View.{IsView, most_blocks}
 use Rattle.set_edit.specs.Editing.{Edit}
 use Rattle.refusals.specs.declared.cause.Cause.{Cause}
@@ -92,7 +92,7 @@ taking_passed (Some name) is_whole read next old acts new refusal blocks limit i
 -- The edit of a value.
 
 -- what is said of a value for which there is no room
-pub full_for : (kind : Kind) (asked : Option Format) (file : List ℕ) (edit : Edit) (value new : QuotaValue) (files : World) (refusal said : Refusal) (blocks limit : ℕ) → IsView (files file) kind asked (Ok value)
+pub full_for : (kind : Kind) (asked : Asked) (file : List ℕ) (edit : Edit) (value new : QuotaValue) (files : World) (refusal said : Refusal) (blocks limit : ℕ) → IsView (files file) kind asked (Ok value)
     → edit.edited value ≡ Ok new → edit.is_idle value ≡ false → is_too_large edit (files file) new ≡ true → refusal.cause ≡ Full blocks limit → Some refusal ≡ Some said → said.cause ≡ Full (blocks_after (files file) new) most_blocks → said.name ≡ file
     → (refusal.name ≡ file) × IsFullFor kind asked edit (files file) blocks limit
 full_for kind asked file edit value new files refusal said blocks limit view set idle large is same cause name =

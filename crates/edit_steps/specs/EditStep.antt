@@ -3,6 +3,7 @@
 use Rattle.std.specs.Prelude.{◌≡◌, ◌<◌, ℕ, IsTrue, Bool, nat_lt, ◌&&◌, List, Option, Result, Ok, Err}
 use Rattle.quota_types.specs.declared.field.Field.{Field}
 use Rattle.quota_value.specs.QuotaValue.{QuotaValue}
+use Rattle.quota_map.specs.Asked.{Asked}
 use Rattle.quota_map.specs.View.{IsOpenedAs, most_blocks, asks_tree}
 use Rattle.set_edit.specs.Editing.{Edit}
 use Rattle.set_edit.specs.declared.edit_fault.EditFault.{EditFault}
@@ -42,7 +43,7 @@ edit_cause (Unfit out) = NoRoom out
 
 -- the causes for which the change of an opened file may be refused, whatever is told: a field of its format for which there
 -- may be no room, or blocks, of which a tree file may have at most as many as the program allows
-abbrev pub ChangeMayRefuse : Option Format → Edit → List ℕ → Cause → List ℕ → Type 0
+abbrev pub ChangeMayRefuse : Asked → Edit → List ℕ → Cause → List ℕ → Type 0
 ChangeMayRefuse asked edit file (NoRoom out) name =
     (name ≡ file) × (out.id ≡ edit.id)
     × ((format : Format) × IsOpenedAs asked format × edit.may_lack format (out.field, out.value))

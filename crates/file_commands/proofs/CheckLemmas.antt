@@ -23,6 +23,7 @@ use Rattle.outside.specs.Seen.{StoreSeen}
 use Rattle.outside.proofs.FrameLemmas.{only_reads-none}
 use Rattle.opened_file.specs.declared.quota_file.FileFault.{FileFault}
 use Rattle.opened_file.specs.declared.quota_file.FileFault.TheVariants.{Store as StoreFailed, Damage as FileDamaged, Full as NoBlocks, Memory as NoMemory}
+use Rattle.quota_map.specs.Asked.{Asked}
 use Rattle.quota_map.specs.AnyFile.{MayRefuse}
 use Rattle.opened_file.specs.QuotaFile.{IsLookupFault}
 use Rattle.quota_map.specs.Reading.{file_refusal}
@@ -159,7 +160,7 @@ read_reason uses old new tells stated before holds (FileDamaged damage) le seen 
 read_reason uses old new tells stated before holds (NoBlocks blocks limit) le seen cause = absurd cause
 read_reason uses old new tells stated before holds NoMemory le seen cause = tt
 
-read_may : (asked : Option Format) (name : List ℕ) (format : Format) (before now : ℕ) (holds : QuotaValue → Type 0) (fault : FileFault) → IsOpenedAs asked format
+read_may : (asked : Asked) (name : List ℕ) (format : Format) (before now : ℕ) (holds : QuotaValue → Type 0) (fault : FileFault) → IsOpenedAs asked format
     → IfSome (file_refusal fault) (IsLookupFault before now holds) → IfSome (file_refusal fault) (MayRefuse format) → MayRefuseOpening asked name (file_cause fault) name
 read_may asked name format before now holds StoreFailed asks cause may = tt
 read_may asked name format before now holds (FileDamaged damage) asks cause may = (damage_may asked format damage asks may, refl)
@@ -167,7 +168,7 @@ read_may asked name format before now holds (NoBlocks blocks limit) asks cause m
 read_may asked name format before now holds NoMemory asks cause may = tt
 
 -- a file was opened, and its records were not read
-pub not_read_whole : {done : Bool} (kind : Kind) (asked : Option Format) (name : List ℕ) (next : QuotaValue → Steps) (uses : Uses) (may : Cause → List ℕ → Type 0) (tells : RunTells) (old : RunSeen) (store : StoreSeen)
+pub not_read_whole : {done : Bool} (kind : Kind) (asked : Asked) (name : List ℕ) (next : QuotaValue → Steps) (uses : Uses) (may : Cause → List ℕ → Type 0) (tells : RunTells) (old : RunSeen) (store : StoreSeen)
     (format : Format) (before : ℕ) (holds : QuotaValue → Type 0) (fault : FileFault)
     → IsOpenedAs asked format → OnlyReads done name old.store store → old.store.faults ≤ before → (IsTrue tells.store → ((value : QuotaValue) → holds value → ⊥) → ⊥)
     → IfSome (file_refusal fault) (IsLookupFault before store.faults holds) → IfSome (file_refusal fault) (MayRefuse format) → ((cause : Cause) → MayRefuseOpening asked name cause name → may cause name)

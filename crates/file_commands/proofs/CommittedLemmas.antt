@@ -11,6 +11,7 @@ use Rattle.outside.specs.World.{World, with_file}
 use Rattle.outside.proofs.WorldLemmas.{with_file-at}
 use Rattle.quota_value.specs.Listed.{ids_of, value_of}
 use Rattle.quota_value.specs.QuotaValue.{QuotaValue}
+use Rattle.quota_map.specs.Asked.{InFormat}
 use Rattle.quota_map.specs.Replacing.{CommitsReplaced, flags_in}
 use Rattle.quota_map.specs.Size.{blocks_needed, blocks_of}
 use Rattle.quota_map.specs.View.{IsView, most_blocks}
@@ -45,7 +46,7 @@ comes_fitting file new old files few seen only =
 abbrev pub StandsBuilt : FileValue → List Entry → List ℕ → Type 0
 StandsBuilt value list bytes =
     (blocks_needed value.format (ids_of list) ≤ most_blocks)
-    × (most_blocks ≤ most_blocks → IsView (Some bytes) value.kind (Some value.format) (Ok (value_of value.kind value.format value.grace (flags_in value.format value.flags) list)))
+    × (most_blocks ≤ most_blocks → IsView (Some bytes) value.kind (InFormat value.format) (Ok (value_of value.kind value.format value.grace (flags_in value.format value.flags) list)))
 
 -- there is room for the value
 pub built_few : (value : FileValue) (list : List Entry) (bytes : List ℕ) → IsInOrder value → list ≡ value.entries.items → StandsBuilt value list bytes → blocks_of (value_in value) ≤ most_blocks
@@ -53,17 +54,17 @@ built_few value list bytes order is stands =
     rw (needed_of value order) (subst (λ (l : List Entry). blocks_needed value.format (ids_of l) ≤ most_blocks) is stands.0)
 
 -- bytes are seen in the files that have them
-pub seen_in : (old : World) (name bytes : List ℕ) (kind : Kind) (format : Format) (value : QuotaValue) → IsView (Some bytes) kind (Some format) (Ok value)
-    → IsView (replaced_files old name bytes name) kind (Some format) (Ok value)
+pub seen_in : (old : World) (name bytes : List ℕ) (kind : Kind) (format : Format) (value : QuotaValue) → IsView (Some bytes) kind (InFormat format) (Ok value)
+    → IsView (replaced_files old name bytes name) kind (InFormat format) (Ok value)
 seen_in old name bytes kind format value view =
-    subst (λ (file : Option (List ℕ)). IsView file kind (Some format) (Ok value)) (sym (with_file-at (with_file old (replacement_name name) None) name (Some bytes))) view
+    subst (λ (file : Option (List ℕ)). IsView file kind (InFormat format) (Ok value)) (sym (with_file-at (with_file old (replacement_name name) None) name (Some bytes))) view
 
 -- the file is seen as the value
 pub built_seen : (value : FileValue) (list : List Entry) (bytes file : List ℕ) (old : World) → list ≡ value.entries.items → StandsBuilt value list bytes
     → IsSeenAs file (value_in value) (replaced_files old file bytes)
 built_seen value list bytes file old is stands =
     seen_in old file bytes value.kind value.format (value_in value)
-    (subst (λ (l : List Entry). IsView (Some bytes) value.kind (Some value.format) (Ok (value_of value.kind value.format value.grace (flags_in value.format value.flags) l))) is
+    (subst (λ (l : List Entry). IsView (Some bytes) value.kind (InFormat value.format) (Ok (value_of value.kind value.format value.grace (flags_in value.format value.flags) l))) is
     (stands.1 (omega arith)))
 
 -- What is committed.

@@ -20,6 +20,7 @@ use Rattle.opened_file.specs.declared.replacement.ReplaceFault.{ReplaceFault}
 use Rattle.opened_file.specs.declared.replacement.ReplaceFault.TheVariants.{Store as MakingFailed, Full as TooManyBlocks, Memory as NoMemoryToMake}
 use Rattle.outside.proofs.FrameLemmas.{only_reads-none}
 use Rattle.outside.proofs.WorldLemmas.{bytes_eq-ne, bytes_eq-same}
+use Rattle.quota_map.specs.Asked.{InFormat}
 use Rattle.quota_map.specs.Size.{blocks_of, ids_in}
 use Rattle.quota_map.specs.Replacing.{UnlessStore}
 use Rattle.quota_map.specs.View.{IsView, most_blocks}
@@ -131,10 +132,10 @@ module _ (kind : Kind) (before after : Format) (source target : List ℕ) (invoc
   May = ConvertMayRefuse kind before after source target
 
   carries_targeting : source ≢ target → (IsTrue tells.store → old.store.files target ≡ None)
-      → CarriesOut (Opening kind (Some before) source Converting) (edit_uses false) May tells old new result
+      → CarriesOut (Opening kind (InFormat before) source Converting) (edit_uses false) May tells old new result
       → CarriesOut (ConvertSteps kind before after source target invocation) (edit_uses false) May tells old new result
   carries_targeting differ none carries =
-      let next = Opening kind (Some before) source Converting in
+      let next = Opening kind (InFormat before) source Converting in
       carries_on source next (ConvertSteps kind before after source target invocation) (edit_uses false) May May tells old old.store new result (only_reads-none {done = true} source old.store)
       (λ told. leads_looking next _ (outside_of old) (ap (λ (o : Outcome (Unit {0})). Then o (λ (_ : Unit {0}). next)) (sym (targets_free source target old.store.files differ (none told.store)))))
       (λ cause said may. may) carries
@@ -144,7 +145,7 @@ module _ (kind : Kind) (before after : Format) (source target : List ℕ) (invoc
       → CarriesOut (ConvertSteps kind before after source target invocation) (edit_uses false) May tells old new result
   carries_read value differ none read carries =
       carries_targeting differ none
-      (carries_opening source kind (Some before) Converting (edit_uses false) May May tells old old.store new result (only_reads-none {done = true} source old.store)
+      (carries_opening source kind (InFormat before) Converting (edit_uses false) May May tells old old.store new result (only_reads-none {done = true} source old.store)
       (λ told. (value, read.seen told)) (λ cause said may. may)
       (λ other view. carries_same source Converting value other (edit_uses false) May tells old new result (λ told. sym (read.alone told other (view told))) carries))
 
@@ -180,23 +181,23 @@ converted_anew kind before after source target tells old store is told = record 
 -- the steps come to the files with the new one, in which it is seen as the converted value
 pub comes_converted : (kind : Kind) (before after : Format) (source target : List ℕ) (invocation : Invocation) (tells : Bool) (old : Outside) (files : World) (new : QuotaValue) → IsTrue tells
     → HasNoTarget tells (asked_for source target before after kind most_blocks) old.files → IsConverted tells (asked_for source target before after kind most_blocks) old.files new
-    → blocks_of new ≤ most_blocks → IsView (files target) kind (Some after) (Ok new) → ReplacesOnly target old.files files
+    → blocks_of new ≤ most_blocks → IsView (files target) kind (InFormat after) (Ok new) → ReplacesOnly target old.files files
     → ComesTo (ConvertSteps kind before after source target invocation) old files
 comes_converted kind before after source target invocation tells old files new told free is few view only =
     let converting = λ (value : QuotaValue). MakingSteps source target (converted after value) in
-    let next = Opening kind (Some before) source converting in
+    let next = Opening kind (InFormat before) source converting in
     comes_led next old (ConvertSteps kind before after source target invocation) old files
     (leads_looking next _ old (ap (λ (o : Outcome (Unit {0})). Then o (λ (_ : Unit {0}). next)) (sym (targets_free source target old.files free.apart (free.absent told)))))
-    (comes_opened kind (Some before) source converting old is.value files (is.read.seen told)
+    (comes_opened kind (InFormat before) source converting old is.value files (is.read.seen told)
     (subst (λ (r : Result QuotaValue NoRoomFor). ComesTo (MakingSteps source target r) old files) (sym is.converts)
     (comes_fitting target new old files few
-    (subst (λ (k : Kind). IsView (files target) k (Some new.format) (Ok new)) (sym (made_kind kind before after source target tells old.files new is))
-    (subst (λ (f : Format). IsView (files target) kind (Some f) (Ok new)) (sym (made_format kind before after source target tells old.files new is)) view)) only)))
+    (subst (λ (k : Kind). IsView (files target) k (InFormat new.format) (Ok new)) (sym (made_kind kind before after source target tells old.files new is))
+    (subst (λ (f : Format). IsView (files target) kind (InFormat f) (Ok new)) (sym (made_format kind before after source target tells old.files new is)) view)) only)))
 
 -- Why it was not made.
 
 -- what may be said of a file that was not opened
-opening_may : (kind : Kind) (before after : Format) (source target : List ℕ) (cause : Cause) → MayRefuseOpening (Some before) source cause source → ConvertMayRefuse kind before after source target cause source
+opening_may : (kind : Kind) (before after : Format) (source target : List ℕ) (cause : Cause) → MayRefuseOpening (InFormat before) source cause source → ConvertMayRefuse kind before after source target cause source
 opening_may kind before after source target StoreFault may = may
 opening_may kind before after source target Memory may = may
 opening_may kind before after source target (Full blocks limit) may = absurd may
@@ -222,7 +223,7 @@ module _ (kind : Kind) (before after : Format) (source target : List ℕ) (invoc
   steps = ConvertSteps kind before after source target invocation
 
   abbrev next : Steps
-  next = Opening kind (Some before) source (λ (value : QuotaValue). MakingSteps source target (converted after value))
+  next = Opening kind (InFormat before) source (λ (value : QuotaValue). MakingSteps source target (converted after value))
 
   -- the steps over what was read make the new file
   carries_made : (new : QuotaValue) (result : Result (Unit {0}) Refusal) → HasNoTarget tells.store asked old.store.files → IsConverted tells.store asked old.store.files new
@@ -237,8 +238,8 @@ module _ (kind : Kind) (before after : Format) (source target : List ℕ) (invoc
       let format_is = made_format kind before after source target tells.store old.store.files is.made is.converts in
       carries_made is.made (Ok tt) is.free is.converts
       (replace_made target is.made Says tells old store
-      (λ told. subst (λ (k : Kind). IsView (store.files target) k (Some is.made.format) (Ok is.made)) (sym kind_is)
-      (subst (λ (f : Format). IsView (store.files target) kind (Some f) (Ok is.made)) (sym format_is) (is.seen told (omega arith))))
+      (λ told. subst (λ (k : Kind). IsView (store.files target) k (InFormat is.made.format) (Ok is.made)) (sym kind_is)
+      (subst (λ (f : Format). IsView (store.files target) kind (InFormat f) (Ok is.made)) (sym format_is) (is.seen told (omega arith))))
       leaves.files leaves.later is.few)
 
   not_made : (fault : ReplaceFault) → IsNotMade tells.store asked old.store store fault → UnlessStore fault (OnlyLooks source target old.store store)
@@ -259,18 +260,18 @@ module _ (kind : Kind) (before after : Format) (source target : List ℕ) (invoc
   open_says : (fault : OpenFault) → IsNotOpened tells.store asked old.store store fault → OnlyLooks source target old.store store → Says (opening_cause fault) source
   open_says fault is looks =
       let before_it = with_store old (record old.store { unsynced = store.unsynced }) in
-      (not_opened {done = true} kind (Some before) source (λ (value : QuotaValue). MakingSteps source target (converted after value)) (edit_uses false) Says tells before_it store fault is.cause
+      (not_opened {done = true} kind (InFormat before) source (λ (value : QuotaValue). MakingSteps source target (converted after value)) (edit_uses false) Says tells before_it store fault is.cause
       (record { files = looks.files; unsynced = λ other differ. refl; later = looks.later; writes = looks.writes; synced = λ done other is. is }) (λ cause may. opening_may kind before after source target cause may)).may_refuse
 
   open_refused : (fault : OpenFault) → IsNotOpened tells.store asked old.store store fault → OnlyLooks source target old.store store
       → Carried steps (Err (refusal_of (opening_cause fault) source))
-  open_refused OpenFailed is looks = looked_failed source target Says tells old store looks steps source (store_rose old.store.faults store.faults tells.store (old.store.files source) kind (Some before) is.cause) tt
+  open_refused OpenFailed is looks = looked_failed source target Says tells old store looks steps source (store_rose old.store.faults store.faults tells.store (old.store.files source) kind (InFormat before) is.cause) tt
   open_refused WantsMemory is looks = looked_wanting source target Says tells old store looks steps source tt
   open_refused fault is looks =
       carries_targeting kind before after source target invocation tells old (with_store old store) (Err (refusal_of (opening_cause fault) source)) is.apart is.absent
       (looked_carried source target Says tells old store looks next (refusal_of (opening_cause fault) source) (opening_no_output fault)
       (λ told. ended_steps source target Says tells old store looks next (refusal_of (opening_cause fault) source)
-      (λ new same. inr (fault, fault_seen old.store.faults store.faults tells.store (old.store.files source) kind (Some before) fault is.cause told.store (λ own. own), record { acts_none = refl; same = same; ends = refl })))
+      (λ new same. inr (fault, fault_seen old.store.faults store.faults tells.store (old.store.files source) kind (InFormat before) fault is.cause told.store (λ own. own), record { acts_none = refl; same = same; ends = refl })))
       (open_says fault is looks) (nowhere_placed (opening_cause fault) source))
 
   read_refused : (fault : FileFault) → IsReadingFault old.store.faults store.faults tells.store before fault → OnlyLooks source target old.store store
@@ -278,7 +279,7 @@ module _ (kind : Kind) (before after : Format) (source target : List ℕ) (invoc
   read_refused CallFailed cause looks = looked_failed source target Says tells old store looks steps source cause tt
   read_refused (FileDamaged damage) cause looks =
       looked_carried source target Says tells old store looks steps (refusal_of (Damaged damage) source) (λ is. cc) (λ told. absurd (cause.0 told.store))
-      (damage_may (Some before) before damage refl cause.1, refl) (nowhere_placed (Damaged damage) source)
+      (damage_may (InFormat before) before damage refl cause.1, refl) (nowhere_placed (Damaged damage) source)
   read_refused (NoBlocks blocks limit) cause looks = absurd cause
   read_refused NoMemory cause looks = looked_wanting source target Says tells old store looks steps source tt
 

@@ -14,6 +14,7 @@ use Rattle.outside.specs.Text.{AppendsPrefix}
 use Rattle.outside.specs.ManyCalls.{ReplacesOne}
 use Rattle.opened_file.specs.declared.replacement.ReplaceFault.{ReplaceFault}
 use Rattle.opened_file.specs.declared.replacement.ReplaceFault.TheVariants.{Store as PutFailed, Full as NoBlocks, Memory as NoMemory}
+use Rattle.quota_map.specs.Asked.{AnyTree, InFormat}
 use Rattle.quota_map.specs.Replacing.{IsReplaceFileFault, UnlessStore}
 use Rattle.quota_map.specs.View.{IsView, most_blocks}
 use Rattle.quota_map.proofs.SeenLemmas.{view_or_refused}
@@ -125,10 +126,10 @@ change_failed name text new tells old store rose same leaves later =
 pub told_in_part : (name text : List ℕ) (tells : RunTells) (old : RunSeen) (store : StoreSeen) (out : SinkSeen) (refusal : Refusal) → IsUnwritten old.store store → old.store.faults ≤ store.faults
     → old.out.faults ≤ out.faults → (IsTrue tells.store → IsTrue tells.out → AppendsPrefix old.out.written out.written text)
     → ((stated : Type 0) → HasReason showing_uses old (with_out old store out) (IsWorldTold tells → stated) refusal.cause)
-    → ShowingMayRefuse None name refusal.cause refusal.name → refusal.place ≡ nowhere
-    → CarriesOut (Doing (ToOut text) Finish) showing_uses (ShowingMayRefuse None name) tells old (with_out old store out) (Err refusal)
+    → ShowingMayRefuse AnyTree name refusal.cause refusal.name → refusal.place ≡ nowhere
+    → CarriesOut (Doing (ToOut text) Finish) showing_uses (ShowingMayRefuse AnyTree name) tells old (with_out old store out) (Err refusal)
 told_in_part name text tells old store out refusal unwritten later out_later prefix reason may placed =
-    refused_so (Doing (ToOut text) Finish) showing_uses (ShowingMayRefuse None name) tells old (with_out old store out) refusal
+    refused_so (Doing (ToOut text) Finish) showing_uses (ShowingMayRefuse AnyTree name) tells old (with_out old store out) refusal
     unwritten refl (record { store = later; input = omega arith; out = out_later; err = omega arith; link = omega arith })
     (λ told. told_begun text tells old store out (out_failed old (with_out old store out) (IsWorldTold tells → ⊥) refusal.cause (reason ⊥)) unwritten (prefix told.store)) (reason _) may
     (placed_nowhere showing_uses refusal placed)
@@ -136,7 +137,7 @@ told_in_part name text tells old store out refusal unwritten later out_later pre
 -- the output failed
 pub told_failed : (name text written : List ℕ) (tells : RunTells) (old : RunSeen) (store : StoreSeen) (out : SinkSeen) → IsUnwritten old.store store → old.store.faults ≤ store.faults
     → old.out.faults ≤ out.faults → (IsTrue tells.store → written ≡ text) → (IsTrue tells.out → AppendsPrefix old.out.written out.written written) → Rose old.out.faults out.faults
-    → CarriesOut (Doing (ToOut text) Finish) showing_uses (ShowingMayRefuse None name) tells old (with_out old store out) (Err (refusal_of SinkFault name))
+    → CarriesOut (Doing (ToOut text) Finish) showing_uses (ShowingMayRefuse AnyTree name) tells old (with_out old store out) (Err (refusal_of SinkFault name))
 told_failed name text written tells old store out unwritten later out_later is prefix rose =
     told_in_part name text tells old store out (refusal_of SinkFault name) unwritten later out_later
     (λ told out_told. subst (λ (b : List ℕ). AppendsPrefix old.out.written out.written b) (is told) (prefix out_told)) (λ stated. inl rose) (inl refl) refl
@@ -144,9 +145,9 @@ told_failed name text written tells old store out unwritten later out_later is p
 -- it was written whole, where it is this text as far as the files tell
 pub told_whole : (name text written : List ℕ) (tells : RunTells) (old : RunSeen) (store : StoreSeen) (out : SinkSeen) → IsUnwritten old.store store → old.store.faults ≤ store.faults
     → old.out.faults ≤ out.faults → (IsTrue tells.store → written ≡ text) → (IsTrue tells.out → out.written ≡ old.out.written ++ written)
-    → CarriesOut (Doing (ToOut text) Finish) showing_uses (ShowingMayRefuse None name) tells old (with_out old store out) (Ok tt)
+    → CarriesOut (Doing (ToOut text) Finish) showing_uses (ShowingMayRefuse AnyTree name) tells old (with_out old store out) (Ok tt)
 told_whole name text written tells old store out unwritten later out_later is whole =
-    carried_whole (Doing (ToOut text) Finish) showing_uses (ShowingMayRefuse None name) tells old (with_out old store out) tt
+    carried_whole (Doing (ToOut text) Finish) showing_uses (ShowingMayRefuse AnyTree name) tells old (with_out old store out) tt
     (λ told. told_steps text tells old store out unwritten (λ out_told. whole out_told ∙ ap (λ (b : List ℕ). old.out.written ++ b)
     (is told.store)))
     (λ only. unwritten) (λ no. refl) (record { store = later; input = omega arith; out = out_later; err = omega arith; link = omega arith })
@@ -155,31 +156,31 @@ told_whole name text written tells old store out unwritten later out_later is wh
 
 -- what a text about a file has come to
 pub shown_text : (name : List ℕ) (text : QuotaValue → List ℕ) (value : QuotaValue) (tells : RunTells) (old to : RunSeen) → IsTrue tells.out
-    → HasSteps (ShowingSteps User None name text) tells None old to → IsView (old.store.files name) User None (Ok value) → to.out.written ≡ old.out.written ++ text value
+    → HasSteps (ShowingSteps User AnyTree name text) tells None old to → IsView (old.store.files name) User AnyTree (Ok value) → to.out.written ≡ old.out.written ++ text value
 shown_text name text value tells old to out_told has view = elim has.by_steps [
   | inl shown ↦
       let acts : has.acts ≡ ToOut (text shown.0) ∷ [] = shown.2.2 ∙ ap (λ (rest : List Act). ToOut (text shown.0) ∷ rest) shown.2.4.acts_none in
-      let same : shown.0 ≡ value = seen_once (old.store.files name) User None shown.0 value shown.1 view in
+      let same : shown.0 ≡ value = seen_once (old.store.files name) User AnyTree shown.0 value shown.1 view in
       has.done.out out_told
       ∙ ap (λ (a : List Act). old.out.written ++ out_bytes a) acts
       ∙ ap (λ (b : List ℕ). old.out.written ++ b) (append-nil (text shown.0))
       ∙ ap (λ (v : QuotaValue). old.out.written ++ text v) same
-  | inr refused ↦ absurd (view_or_refused (old.store.files name) User None value refused.0 view refused.1)
+  | inr refused ↦ absurd (view_or_refused (old.store.files name) User AnyTree value refused.0 view refused.1)
 ]
 
 -- it is refused for no value that is seen
 not_shown : (name : List ℕ) (text : QuotaValue → List ℕ) (value : QuotaValue) (tells : RunTells) (old to : RunSeen) (refusal : Refusal)
-    → HasSteps (ShowingSteps User None name text) tells (Some refusal) old to → IsView (old.store.files name) User None (Ok value) → ⊥
+    → HasSteps (ShowingSteps User AnyTree name text) tells (Some refusal) old to → IsView (old.store.files name) User AnyTree (Ok value) → ⊥
 not_shown name text value tells old to refusal has view = elim has.by_steps [
   | inl shown ↦ let ends : Some refusal ≡ None = shown.2.4.ends in cc
-  | inr refused ↦ view_or_refused (old.store.files name) User None value refused.0 view refused.1
+  | inr refused ↦ view_or_refused (old.store.files name) User AnyTree value refused.0 view refused.1
 ]
 
 -- why it was not gathered
 pub unreported : (name : List ℕ) (text : QuotaValue → List ℕ) (tells : RunTells) (old to : RunSeen) (refusal : Refusal) (cause : Cause) (said : List ℕ)
-    → IsTrue tells.input → IsTrue tells.link → ShowingMayRefuse None name cause said
-    → HasReason showing_uses old to (IsWorldTold tells → HasSteps (ShowingSteps User None name text) tells (Some refusal) old to) cause
-    → IsUnreported (Rose old.store.faults to.store.faults) (IsTrue tells.store → (value : QuotaValue) → ¬ IsView (old.store.files name) User None (Ok value)) (gathered_cause cause)
+    → IsTrue tells.input → IsTrue tells.link → ShowingMayRefuse AnyTree name cause said
+    → HasReason showing_uses old to (IsWorldTold tells → HasSteps (ShowingSteps User AnyTree name text) tells (Some refusal) old to) cause
+    → IsUnreported (Rose old.store.faults to.store.faults) (IsTrue tells.store → (value : QuotaValue) → ¬ IsView (old.store.files name) User AnyTree (Ok value)) (gathered_cause cause)
 unreported name text tells old to refusal StoreFault said input link may reason = reason
 unreported name text tells old to refusal SinkFault said input link may reason = tt
 unreported name text tells old to refusal Memory said input link may reason = tt
@@ -191,14 +192,14 @@ unreported name text tells old to refusal _ said input link may reason =
     λ told value view. not_shown name text value tells old to refusal (reason (record { store = told; input = input; link = link })) view
 
 -- what may be said of it
-pub gathered_may : (name : List ℕ) (cause : Cause) (said : List ℕ) → ShowingMayRefuse None name cause said → ShowingMayRefuse None name (gathered_cause cause) said
+pub gathered_may : (name : List ℕ) (cause : Cause) (said : List ℕ) → ShowingMayRefuse AnyTree name cause said → ShowingMayRefuse AnyTree name (gathered_cause cause) said
 gathered_may name SinkFault said may = inr tt
 gathered_may name _ said may = may
 
 -- the reason for which the line was not written then
 pub unreported_reason : (name : List ℕ) (value : QuotaValue) (tells : RunTells) (old : RunSeen) (store : StoreSeen) (stated : Type 0) (cause : Cause)
-    → (IsTrue tells.store → IsView (old.store.files name) User None (Ok value))
-    → IsUnreported (Rose old.store.faults store.faults) (IsTrue tells.store → (value : QuotaValue) → ¬ IsView (old.store.files name) User None (Ok value)) cause
+    → (IsTrue tells.store → IsView (old.store.files name) User AnyTree (Ok value))
+    → IsUnreported (Rose old.store.faults store.faults) (IsTrue tells.store → (value : QuotaValue) → ¬ IsView (old.store.files name) User AnyTree (Ok value)) cause
     → HasReason showing_uses old (with_out old store old.out) (IsWorldTold tells → stated) cause
 unreported_reason name value tells old store stated StoreFault seen why = why
 unreported_reason name value tells old store stated Memory seen why = tt
@@ -210,10 +211,10 @@ unreported_reason name value tells old store stated _ seen why = λ told. absurd
 -- The file.
 
 -- a file that is seen as a value of users in vfsv1 is seen so whatever format is asked for
-pub view_any : (named : Option (List ℕ)) (kind : Kind) (format : Format) (value : QuotaValue) → kind ≡ User → format ≡ V2R1 → IsView named kind (Some format) (Ok value) → IsView named User None (Ok value)
+pub view_any : (named : Option (List ℕ)) (kind : Kind) (format : Format) (value : QuotaValue) → kind ≡ User → format ≡ V2R1 → IsView named kind (InFormat format) (Ok value) → IsView named User AnyTree (Ok value)
 view_any named kind format value is_kind is_format view =
-    let same : IsView named User (Some V2R1) (Ok value) =
-    subst (λ (f : Format). IsView named User (Some f) (Ok value)) is_format (subst (λ (k : Kind). IsView named k (Some format) (Ok value)) is_kind view) in
+    let same : IsView named User (InFormat V2R1) (Ok value) =
+    subst (λ (f : Format). IsView named User (InFormat f) (Ok value)) is_format (subst (λ (k : Kind). IsView named k (InFormat format) (Ok value)) is_kind view) in
     (same.0, same.1, tt)
 
 -- the file was not made, though there would have been room

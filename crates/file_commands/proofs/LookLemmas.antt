@@ -27,6 +27,7 @@ use Rattle.file_commands.specs.Check.{CheckSteps, ReplaceSteps, UsageSteps, chec
 use Rattle.file_commands.specs.Conversion.{ConvertSteps, MakingSteps, absent, apart, made, targeted}
 use Rattle.file_commands.specs.Generate.{GenerateSteps, MadeSteps, summary}
 use Rattle.file_commands.specs.Report.{ReportSteps, report_on}
+use Rattle.quota_map.specs.Asked.{Asked, InFormat, asked_of}
 
 -- Their looks are alike.
 
@@ -57,7 +58,7 @@ absent_alike target (Some file) None same = absurd (cc)
 pub convert_alike : (one other : World) (kind : Kind) (before after : Format) (source target : List ℕ) (invocation : Invocation) → is_some (one target) ≡ is_some (other target)
     → LooksAlike one other (ConvertSteps kind before after source target invocation)
 convert_alike one other kind before after source target invocation there =
-    let opening = Opening kind (Some before) source (λ (value : QuotaValue). MakingSteps source target (converted after value)) in (
+    let opening = Opening kind (InFormat before) source (λ (value : QuotaValue). MakingSteps source target (converted after value)) in (
       inl (ap (λ (o : Outcome (Unit {0})). Then (and_then (apart source target) (λ (_ : Unit {0}). o)) (λ (_ : Unit {0}). opening)) (absent_alike target (one target) (other target) there)),
       alike_then false one other (targeted source target one) (λ (_ : Unit {0}). opening) (λ apart value. acts_alike one other (made source target (converted after value))),
     )
@@ -81,19 +82,19 @@ generate_alike one other seed count file now =
 -- The file that they open.
 
 -- it is the one of this name, for this kind and in the format that is asked for
-abbrev pub IsFile : Kind → Option Format → List ℕ → FileAsked → Type 0
+abbrev pub IsFile : Kind → Asked → List ℕ → FileAsked → Type 0
 IsFile kind asked name opened = opened ≡ record { kind = kind; asked = asked; name = name }
 
 acts_open : (holds : Type 0) (outcome : Outcome (List Act)) (old : Outside) (opened : FileAsked) → Opens (Then outcome (λ (acts : List Act). DoingAll acts Finish)) old opened → holds
 acts_open holds outcome old opened opens = opens_then holds outcome (λ (acts : List Act). DoingAll acts Finish) old opened (λ acts. opens_done holds acts None old opened) opens
 
 pub report_opens : (common : Common) (options : Options) (file : List ℕ) (invocation : Invocation) (old : Outside) (opened : FileAsked) → Opens (ReportSteps common options file invocation) old opened
-    → IsFile common.kind common.format file opened
+    → IsFile common.kind (asked_of common.format) file opened
 report_opens common options file invocation old opened opens =
-    let holds = IsFile common.kind common.format file opened in
+    let holds = IsFile common.kind (asked_of common.format) file opened in
     let text = λ (lines : List NameLine). report_on lines file invocation.now options in
-    opens_naming holds common.kind common.names (λ (lines : List NameLine). ShowingSteps common.kind common.format file (text lines)) old opened (λ lines.
-    opens_opening holds common.kind common.format file (λ (value : QuotaValue). Doing (ToOut (text lines value)) Finish) old opened (λ is. is) (λ value none. absurd none)) opens
+    opens_naming holds common.kind common.names (λ (lines : List NameLine). ShowingSteps common.kind (asked_of common.format) file (text lines)) old opened (λ lines.
+    opens_opening holds common.kind (asked_of common.format) file (λ (value : QuotaValue). Doing (ToOut (text lines value)) Finish) old opened (λ is. is) (λ value none. absurd none)) opens
 
 usage_opens : (holds : Type 0) (common : Common) (device : Option ℕ) (from : Option (List ℕ)) (file : List ℕ) (now : ℕ) (value : QuotaValue) (old : Outside) (opened : FileAsked)
     → Opens (UsageSteps common.kind device from file now value) old opened → holds
@@ -107,19 +108,19 @@ pub fresh_opens : (holds : Type 0) (common : Common) (device : Option ℕ) (from
 fresh_opens holds common device from file invocation old opened opens = usage_opens holds common device from file invocation.now (new_value common.kind common.format) old opened opens
 
 pub check_opens : (common : Common) (device : Option ℕ) (from : Option (List ℕ)) (file : List ℕ) (invocation : Invocation) (old : Outside) (opened : FileAsked)
-    → Opens (CheckSteps common false device from file invocation) old opened → IsFile common.kind common.format file opened
+    → Opens (CheckSteps common false device from file invocation) old opened → IsFile common.kind (asked_of common.format) file opened
 check_opens common device from file invocation old opened opens =
-    let holds = IsFile common.kind common.format file opened in
-    opens_opening holds common.kind common.format file (UsageSteps common.kind device from file invocation.now) old opened (λ is. is) (λ value.
+    let holds = IsFile common.kind (asked_of common.format) file opened in
+    opens_opening holds common.kind (asked_of common.format) file (UsageSteps common.kind device from file invocation.now) old opened (λ is. is) (λ value.
     usage_opens holds common device from file invocation.now value old opened) opens
 
 pub convert_opens : (kind : Kind) (before after : Format) (source target : List ℕ) (invocation : Invocation) (old : Outside) (opened : FileAsked)
-    → Opens (ConvertSteps kind before after source target invocation) old opened → IsFile kind (Some before) source opened
+    → Opens (ConvertSteps kind before after source target invocation) old opened → IsFile kind (InFormat before) source opened
 convert_opens kind before after source target invocation old opened opens =
-    let holds = IsFile kind (Some before) source opened in
+    let holds = IsFile kind (InFormat before) source opened in
     let making = λ (value : QuotaValue). MakingSteps source target (converted after value) in
-    opens_then holds (targeted source target old.files) (λ (_ : Unit {0}). Opening kind (Some before) source making) old opened (λ apart.
-    opens_opening holds kind (Some before) source making old opened (λ is. is) (λ value.
+    opens_then holds (targeted source target old.files) (λ (_ : Unit {0}). Opening kind (InFormat before) source making) old opened (λ apart.
+    opens_opening holds kind (InFormat before) source making old opened (λ is. is) (λ value.
     acts_open holds (made source target (converted after value)) old opened)) opens
 
 made_opens : (holds : Type 0) (lines : ℕ) (file : List ℕ) (now : ℕ) (new : Result QuotaValue NoRoomFor) (old : Outside) (opened : FileAsked) → Opens (MadeSteps lines file now new) old opened → holds

@@ -1,5 +1,5 @@
 -- Commands that put a file of another value in the place of one: what was done where it was replaced, and where it was not.
-use Rattle.std.proofs.Common.{◌≡◌, ℕ, ◌<◌, ◌≤◌, Bool, false, IsTrue, List, [], ◌∷◌, None, Some, Ok, Err, Result, refl, sym, ap, subst, ◌∙◌, arith}
+use Rattle.std.proofs.Common.{◌≡◌, ℕ, ◌<◌, ◌≤◌, Bool, false, IsTrue, List, [], ◌∷◌, None, Ok, Err, Result, refl, sym, ap, subst, ◌∙◌, arith}
 use Rattle.std.proofs.lemmas.Bool.{false≢true, le-ltb, lt-ltb}
 use Rattle.quota_types.specs.declared.field.NoRoom.{NoRoom}
 use Rattle.quota_types.specs.declared.file_kind.Format.{Format}
@@ -9,6 +9,7 @@ use Rattle.quota_value.specs.Listed.{ids_of}
 use Rattle.quota_value.specs.QuotaValue.{QuotaValue}
 use Rattle.outside.specs.Replacement.{ReplacesOnly}
 use Rattle.outside.specs.Seen.{StoreSeen}
+use Rattle.quota_map.specs.Asked.{InFormat}
 use Rattle.quota_map.specs.Size.{blocks_needed, blocks_of}
 use Rattle.opened_file.specs.declared.replacement.ReplaceFault.{ReplaceFault}
 use Rattle.opened_file.specs.declared.replacement.ReplaceFault.TheVariants.{Store, Full as NoBlocks, Memory as NoMemory}
@@ -61,12 +62,12 @@ by_outcome name new outcome may tells old to result is carries =
     subst (λ (o : Outcome (List Act)). CarriesOut (Then o (λ (acts : List Act). DoingAll acts Finish)) (edit_uses false) may tells old to result) (sym is) carries
 
 -- the change of one file was written
-change_written : (name : List ℕ) (new : QuotaValue) (old store : StoreSeen) → IsView (store.files name) new.kind (Some new.format) (Ok new) → ReplacesOnly name old.files store.files → AreWritten (Replace name new ∷ []) old store
+change_written : (name : List ℕ) (new : QuotaValue) (old store : StoreSeen) → IsView (store.files name) new.kind (InFormat new.format) (Ok new) → ReplacesOnly name old.files store.files → AreWritten (Replace name new ∷ []) old store
 change_written name new old store view leaves = record { files = (store.files, (view, leaves), refl); writes = writes_for-replacement name new [] old.writes store.writes; out = refl; err = refl; answered = refl; started = λ before. refl }
 
 -- the file was replaced
 pub replace_made : (name : List ℕ) (new : QuotaValue) (may : Cause → List ℕ → Type 0) (tells : RunTells) (old : RunSeen) (store : StoreSeen)
-    → (IsTrue tells.store → IsView (store.files name) new.kind (Some new.format) (Ok new)) → ReplacesOnly name old.store.files store.files → old.store.faults ≤ store.faults → blocks_of new ≤ most_blocks
+    → (IsTrue tells.store → IsView (store.files name) new.kind (InFormat new.format) (Ok new)) → ReplacesOnly name old.store.files store.files → old.store.faults ≤ store.faults → blocks_of new ≤ most_blocks
     → CarriesOut (ReplaceSteps name (Ok new)) (edit_uses false) may tells old (with_store old store) (Ok tt)
 replace_made name new may tells old store seen leaves later few =
     let acts = Replace name new ∷ [] in

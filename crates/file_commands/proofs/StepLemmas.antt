@@ -1,8 +1,9 @@
 -- Steps of the commands of this crate: that they look first, that they read the standard input to its end, and when they are sure.
-use Rattle.std.proofs.Common.{◌≡◌, ◌≢◌, ℕ, ◌≤◌, Bool, true, false, List, [], ◌∷◌, Option, None, Some, Ok, inl, refl, sym, ap, ◌∙◌}
+use Rattle.std.proofs.Common.{◌≡◌, ◌≢◌, ℕ, ◌≤◌, Bool, true, false, List, [], ◌∷◌, Option, None, Ok, inl, refl, sym, ap, ◌∙◌}
 use Rattle.quota_types.specs.declared.file_kind.Format.{Format}
 use Rattle.quota_types.specs.declared.file_kind.Kind.{Kind}
 use Rattle.quota_value.specs.QuotaValue.{QuotaValue}
+use Rattle.quota_map.specs.Asked.{InFormat, asked_of}
 use Rattle.quota_map.specs.View.{IsView, most_blocks}
 use Rattle.convert.specs.Conversion.{converted}
 use Rattle.id_names.specs.NamesFile.{NameLine}
@@ -34,11 +35,11 @@ report_looks common options file invocation = looks_naming false true common.kin
 
 -- the names are known, and the file is accepted
 pub report_sure : (common : Common) (options : Options) (file : List ℕ) (invocation : Invocation) (lines : List NameLine) (value : QuotaValue) (old : Outside)
-    → names_seen common.kind common.names old.files ≡ Passed lines → IsView (old.files file) common.kind common.format (Ok value) → IsSure (ReportSteps common options file invocation) old
+    → names_seen common.kind common.names old.files ≡ Passed lines → IsView (old.files file) common.kind (asked_of common.format) (Ok value) → IsSure (ReportSteps common options file invocation) old
 report_sure common options file invocation lines value old names view =
     let text = λ (lines : List NameLine). report_on lines file invocation.now options in
-    sure_naming common.kind common.names (λ (lines : List NameLine). ShowingSteps common.kind common.format file (text lines)) lines old names
-    (sure_opening common.kind common.format file (λ (value : QuotaValue). Doing (ToOut (text lines value)) Finish) value old view (λ middle follows. refl))
+    sure_naming common.kind common.names (λ (lines : List NameLine). ShowingSteps common.kind (asked_of common.format) file (text lines)) lines old names
+    (sure_opening common.kind (asked_of common.format) file (λ (value : QuotaValue). Doing (ToOut (text lines value)) Finish) value old view (λ middle follows. refl))
 
 -- Acts of a step, and then nothing more.
 
@@ -75,7 +76,7 @@ pub check_sure : (common : Common) (fresh : Bool) (device : Option ℕ) (from : 
 check_sure common true device from file invocation value usage new old is said fits few =
     usage_sure common device from file invocation.now _ usage new old said (ap (λ (v : QuotaValue). checked v usage invocation.now) (sym is) ∙ fits) few
 check_sure common false device from file invocation value usage new old is said fits few =
-    sure_opening common.kind common.format file (UsageSteps common.kind device from file invocation.now) value old is (usage_sure common device from file invocation.now value usage new old said fits few)
+    sure_opening common.kind (asked_of common.format) file (UsageSteps common.kind device from file invocation.now) value old is (usage_sure common device from file invocation.now value usage new old said fits few)
 
 -- A conversion.
 
@@ -85,10 +86,10 @@ convert_looks kind before after source target invocation =
 
 -- the names are two, there is no file of the second one, the first one is accepted, and its values fit and have room
 pub convert_sure : (kind : Kind) (before after : Format) (source target : List ℕ) (invocation : Invocation) (value new : QuotaValue) (old : Outside)
-    → source ≢ target → old.files target ≡ None → IsView (old.files source) kind (Some before) (Ok value) → converted after value ≡ Ok new → blocks_of new ≤ most_blocks
+    → source ≢ target → old.files target ≡ None → IsView (old.files source) kind (InFormat before) (Ok value) → converted after value ≡ Ok new → blocks_of new ≤ most_blocks
     → IsSure (ConvertSteps kind before after source target invocation) old
 convert_sure kind before after source target invocation value new old differ none view fits few =
     let next = λ (v : QuotaValue). MakingSteps source target (converted after v) in
-    sure_then (targeted source target old.files) (λ (_ : Unit {0}). Opening kind (Some before) source next) tt old (targets_free source target old.files differ none)
-    (sure_opening kind (Some before) source next value old view
+    sure_then (targeted source target old.files) (λ (_ : Unit {0}). Opening kind (InFormat before) source next) tt old (targets_free source target old.files differ none)
+    (sure_opening kind (InFormat before) source next value old view
     (acts_sure (made source target (converted after value)) (Replace target new ∷ []) old (ap (made source target) fits ∙ room_for target new few)))

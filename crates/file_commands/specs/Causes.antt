@@ -2,6 +2,7 @@
 use Rattle.std.specs.Prelude.{ℕ, List, ⊤, ◌≡◌, Bool, true, false, Option}
 use Rattle.quota_types.specs.declared.file_kind.Format.{Format}
 use Rattle.quota_value.specs.QuotaValue.{QuotaValue}
+use Rattle.quota_map.specs.Asked.{asked_of}
 use Rattle.quota_map.specs.View.{IsOpenedAs}
 use Rattle.inode_scan.specs.declared.scan_fault.ApplyFault.{ApplyFault}
 use Rattle.inode_scan.specs.declared.scan_fault.ApplyFault.TheVariants.{NoRoom as Unfit, Memory as ApplyWantsMemory}
@@ -33,7 +34,7 @@ IsUnreported rose unseen _ = unseen
 -- a format is that of a new file, or may be that of one that is opened
 abbrev pub IsFormatOf : (fresh : Bool) → Option Format → Format → Type 0
 IsFormatOf true asked format = format ≡ new_format asked
-IsFormatOf false asked format = IsOpenedAs asked format
+IsFormatOf false asked format = IsOpenedAs (asked_of asked) format
 
 -- what is said where a format has no room for the records, or there was not enough memory
 abbrev pub apply_cause : ApplyFault → Cause

@@ -10,6 +10,7 @@ use Rattle.quota_types.specs.declared.file_kind.Format.TheVariants.{V2R1}
 use Rattle.quota_types.specs.declared.file_kind.Kind.{Kind}
 use Rattle.quota_value.specs.QuotaValue.{QuotaValue, Records}
 use Rattle.outside.specs.World.{World}
+use Rattle.quota_map.specs.Asked.{Asked, asked_of}
 use Rattle.quota_map.specs.View.{IsOpenedAs, IsView, most_blocks}
 use Rattle.inode_scan.specs.Apply.{applied, wanted_record}
 use Rattle.inode_scan.specs.Scan.{scanned}
@@ -93,12 +94,12 @@ abbrev pub CheckSteps : Common → (fresh : Bool) → (device : Option ℕ) → 
 CheckSteps common true device from file invocation =
     UsageSteps common.kind device from file invocation.now (new_value common.kind common.format)
 CheckSteps common false device from file invocation =
-    Opening common.kind common.format file (UsageSteps common.kind device from file invocation.now)
+    Opening common.kind (asked_of common.format) file (UsageSteps common.kind device from file invocation.now)
 
 -- the value whose usage is set: that of a new file, or the one that the file is seen as
 abbrev pub IsToBeChecked : Common → (fresh : Bool) → List ℕ → World → QuotaValue → Type 0
 IsToBeChecked common true file files value = value ≡ new_value common.kind common.format
-IsToBeChecked common false file files value = IsView (files file) common.kind common.format (Ok value)
+IsToBeChecked common false file files value = IsView (files file) common.kind (asked_of common.format) (Ok value)
 
 -- a listing is read from an input, and changes the store as an edit does
 abbrev pub check_uses : Option (List ℕ) → Uses
@@ -130,7 +131,7 @@ UsageMayRefuse value from file cause name =
     ⊎ WritingMayRefuse value.format file cause name)
 
 -- the causes for which the usage of a listing may not become that of a file that is opened, whatever is told
-abbrev pub OpenedMayRefuse : Option Format → Option (List ℕ) → List ℕ → Cause → List ℕ → Type 0
+abbrev pub OpenedMayRefuse : Asked → Option (List ℕ) → List ℕ → Cause → List ℕ → Type 0
 OpenedMayRefuse asked from file cause name =
     MayRefuseOpening asked file cause name
     ⊎ ((value : QuotaValue) × IsOpenedAs asked value.format × HasKept value × UsageMayRefuse value from file cause name)
@@ -138,4 +139,4 @@ OpenedMayRefuse asked from file cause name =
 -- the causes for which the usage of a listing may not become that of a new file or of one that is opened, whatever is told
 abbrev pub CheckMayRefuse : Common → (fresh : Bool) → Option (List ℕ) → List ℕ → Cause → List ℕ → Type 0
 CheckMayRefuse common true from file = UsageMayRefuse (new_value common.kind common.format) from file
-CheckMayRefuse common false from file = OpenedMayRefuse common.format from file
+CheckMayRefuse common false from file = OpenedMayRefuse (asked_of common.format) from file

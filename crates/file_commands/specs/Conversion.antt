@@ -10,6 +10,7 @@ use Rattle.quota_types.specs.declared.file_kind.Format.{Format}
 use Rattle.quota_types.specs.declared.file_kind.Kind.{Kind}
 use Rattle.quota_value.specs.QuotaValue.{QuotaValue}
 use Rattle.outside.specs.World.{World}
+use Rattle.quota_map.specs.Asked.{InFormat}
 use Rattle.quota_map.specs.View.{most_blocks}
 use Rattle.convert.specs.Conversion.{converted}
 use Rattle.convert.specs.declared.convert_fault.ConvertFault.TheVariants.{Replace}
@@ -58,7 +59,7 @@ MakingSteps source target new = Then (made source target new) (λ (acts : List A
 abbrev pub ConvertSteps : Kind → (old new : Format) → (source target : List ℕ) → Invocation → Steps
 ConvertSteps kind old new source target invocation =
     Targeting source target
-    (Opening kind (Some old) source (λ (value : QuotaValue).
+    (Opening kind (InFormat old) source (λ (value : QuotaValue).
     MakingSteps source target (converted new value)))
 
 -- What is said.
@@ -85,4 +86,4 @@ ConvertMayRefuse kind old new source target SameName name = (source ≡ target) 
 ConvertMayRefuse kind old new source target TargetExists name = (source ≢ target) × (name ≡ target)
 ConvertMayRefuse kind old new source target (NoRoom out) name = MayLack kind old new out × (name ≡ source)
 ConvertMayRefuse kind old new source target (Full blocks limit) name = WritingMayRefuse new target (Full blocks limit) name
-ConvertMayRefuse kind old new source target cause name = MayRefuseOpening (Some old) source cause name
+ConvertMayRefuse kind old new source target cause name = MayRefuseOpening (InFormat old) source cause name

@@ -20,6 +20,7 @@ use Rattle.run_steps.specs.Showing.{ShowingMayRefuse}
 use Rattle.run_steps.specs.Steps.{Doing, DoingAll, Finish, Steps, Stop, Then}
 use Rattle.file_commands.specs.Check.{checked, new_value, replaced, scan_outcome}
 use Rattle.file_commands.specs.Report.{report_on}
+use Rattle.quota_map.specs.Asked.{AnyTree}
 
 -- The line.
 
@@ -73,4 +74,4 @@ generate_uses = record { input = false; out = true; link = false; changes = true
 -- The causes for which it may be refused, whatever is told: a listing that is made always gives a usage, and a file of it has
 -- room for that. So what is left are those of a report on the file.
 abbrev pub GenerateMayRefuse : List ℕ → Cause → List ℕ → Type 0
-GenerateMayRefuse file = ShowingMayRefuse None file
+GenerateMayRefuse file = ShowingMayRefuse AnyTree file

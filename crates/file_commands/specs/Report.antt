@@ -15,6 +15,7 @@ use Rattle.run_steps.specs.Opening.{file_cause}
 use Rattle.run_steps.specs.Steps.{Naming, Steps}
 use Rattle.run_steps.specs.declared.invocation.Invocation.{Invocation}
 use Rattle.run_steps.specs.Showing.{ShowingMayRefuse, ShowingSteps}
+use Rattle.quota_map.specs.Asked.{asked_of}
 
 -- the report of a file of this name on a value, with these names
 abbrev pub report_on : List NameLine → List ℕ → ℕ → Options → QuotaValue → List ℕ
@@ -24,7 +25,7 @@ report_on names file now options value = report_of value (first_name names) file
 abbrev pub ReportSteps : Common → Options → List ℕ → Invocation → Steps
 ReportSteps common options file invocation =
     Naming common.kind common.names (λ (names : List NameLine).
-    ShowingSteps common.kind common.format file (report_on names file invocation.now options))
+    ShowingSteps common.kind (asked_of common.format) file (report_on names file invocation.now options))
 
 -- what is said where a report was not written whole
 abbrev pub report_cause : ReportFault → Cause
@@ -33,4 +34,4 @@ report_cause (File fault) = file_cause fault
 
 -- the causes for which a report may be refused, whatever is told
 abbrev pub ReportMayRefuse : Common → List ℕ → Cause → List ℕ → Type 0
-ReportMayRefuse common file cause name = NamesMayRefuse common.names cause name ⊎ ShowingMayRefuse common.format file cause name
+ReportMayRefuse common file cause name = NamesMayRefuse common.names cause name ⊎ ShowingMayRefuse (asked_of common.format) file cause name

@@ -2,6 +2,7 @@ ghost use Rattle.std.specs.Prelude.{ℕ, List, Option, ◌≡◌, ◌⊎◌, Boo
 ghost use Rattle.outside.specs.ManyCalls.{Syncs};
 ghost use Rattle.outside.specs.Replacement.{ReplacesOnly};
 ghost use Rattle.outside.specs.Seen.{Datagram, LinkSeen, SinkSeen, SourceSeen};
+ghost use Rattle.quota_map.specs.Asked.{asked_of};
 ghost use Rattle.quota_map.specs.View.{IsOpenedAs};
 ghost use Rattle.run_steps.specs.Done.{seen_of, tells_of};
 ghost use Rattle.run_steps.specs.Carrying.{CarriesOut};
@@ -87,18 +88,18 @@ fn check_opened<S: Store, I: Source>(
     now: u64,
 ) -> Result<(), Refusal>
     ensures carries { (out err : SinkSeen) (link : LinkSeen) (out_tells err_tells link_tells : Bool)
-        → CarriesOut (Opening kind format file (UsageSteps kind device from file now)) (check_uses from)
-        (OpenedMayRefuse format from file)
+        → CarriesOut (Opening kind (asked_of format) file (UsageSteps kind device from file now)) (check_uses from)
+        (OpenedMayRefuse (asked_of format) from file)
         (tells_of S.tells I.tells out_tells err_tells link_tells)
         (seen_of (S.seen store.old) (I.seen input.old) out err link)
         (seen_of (S.seen store.new) (I.seen input.new) out err link) result }
-    ensures anew { OnOk result (IsTrue S.tells → IsMadeAnew kind (IsOpenedAs format) file
+    ensures anew { OnOk result (IsTrue S.tells → IsMadeAnew kind (IsOpenedAs (asked_of format)) file
         (S.seen store.old).files (S.seen store.new).files) }
     ensures named { OnErr result ((S.seen store.new).files file ≡ (S.seen store.old).files file) }
     ensures others { ReplacesOnly file (S.seen store.old).files (S.seen store.new).files }
     ensures synced { IsTrue S.tells → Syncs (is_ok result) (S.seen store.old) (S.seen store.new) }
     ensures commits { (datagrams : List Datagram) → IsTrue S.tells → (from ≡ None → IsTrue I.tells)
-        → CommitsSteps ⊤ (is_ok result) (Opening kind format file (UsageSteps kind device from file now))
+        → CommitsSteps ⊤ (is_ok result) (Opening kind (asked_of format) file (UsageSteps kind device from file now))
         (ReplacesOnly file (S.seen store.old).files)
         (record { files = (S.seen store.old).files; input = (I.seen input.old).left; datagrams = datagrams })
         (S.seen store.new).files (λ worlds. S.commits worlds store.old store.new) }

@@ -9,6 +9,7 @@ ghost use Rattle.quota_value.specs.Listed.{ids_of, records_of};
 ghost use Rattle.quota_value.specs.QuotaValue.{QuotaValue};
 ghost use Rattle.outside.specs.Replacement.{ReplacesOnly};
 ghost use Rattle.outside.specs.Seen.{Datagram, LinkSeen, SinkSeen, SourceSeen};
+ghost use Rattle.quota_map.specs.Asked.{AnyTree};
 ghost use Rattle.quota_map.specs.View.{IsView, most_blocks};
 ghost use Rattle.refusals.specs.Refusals.{nowhere};
 ghost use Rattle.run_steps.specs.Act.{ToOut};
@@ -163,9 +164,9 @@ fn tell_made<S: Store, O: Sink>(
 ) -> Result<(), Refusal>
     requires { IsWritable value.now }
     ensures carries { (input : SourceSeen) (err : SinkSeen) (link : LinkSeen) (input_tells err_tells link_tells : Bool)
-        → (IsTrue S.tells → IsView ((S.seen store.old).files file) User None (Ok (value_in value.now)))
+        → (IsTrue S.tells → IsView ((S.seen store.old).files file) User AnyTree (Ok (value_in value.now)))
         → CarriesOut (Doing (ToOut (summary count file now (value_in value.now))) Finish) showing_uses
-        (ShowingMayRefuse None file)
+        (ShowingMayRefuse AnyTree file)
         (tells_of S.tells input_tells O.tells err_tells link_tells)
         (seen_of (S.seen store.old) input (O.seen out.old) err link)
         (seen_of (S.seen store.new) input (O.seen out.new) err link) result }
@@ -196,11 +197,11 @@ fn report_length<S: Store>(
     now: u64,
 ) -> Result<usize, Refusal>
     ensures bytes { IfOk result (λ bytes. IsTrue S.tells → (value : QuotaValue)
-        → IsView ((S.seen store.old).files file) User None (Ok value) → bytes ≡ length (plain_report file now value)) }
+        → IsView ((S.seen store.old).files file) User AnyTree (Ok value) → bytes ≡ length (plain_report file now value)) }
     ensures refused { IfErr result (λ refusal. IsUnreported (Rose (S.seen store.old).faults (S.seen store.new).faults)
-        (IsTrue S.tells → (value : QuotaValue) → ¬ IsView ((S.seen store.old).files file) User None (Ok value))
+        (IsTrue S.tells → (value : QuotaValue) → ¬ IsView ((S.seen store.old).files file) User AnyTree (Ok value))
         refusal.cause) }
-    ensures may { IfErr result (λ refusal. ShowingMayRefuse None file refusal.cause refusal.name) }
+    ensures may { IfErr result (λ refusal. ShowingMayRefuse AnyTree file refusal.cause refusal.name) }
     ensures placed { IfErr result (λ refusal. refusal.place ≡ nowhere) }
     ensures unwritten { IsUnwritten (S.seen store.old) (S.seen store.new) }
     ensures later { (S.seen store.old).faults ≤ (S.seen store.new).faults }

@@ -5,6 +5,7 @@ ghost use Rattle.run_steps.specs.Done.{seen_of, tells_of};
 ghost use Rattle.run_steps.specs.Carrying.{CarriesOut};
 ghost use Rattle.file_commands.specs.Report.{ReportMayRefuse, ReportSteps, report_cause, report_on};
 ghost use Rattle.run_steps.specs.Showing.{ShowingMayRefuse, ShowingSteps, showing_uses};
+ghost use Rattle.quota_map.specs.Asked.{asked_of};
 
 use command_words::Common;
 use id_names::Names;
@@ -64,7 +65,7 @@ pub(crate) fn report_opened<S: Store, O: Sink>(
     now: u64,
 ) -> Result<(), Refusal>
     ensures carries { (input : SourceSeen) (err : SinkSeen) (link : LinkSeen) (input_tells err_tells link_tells : Bool)
-        → CarriesOut (ShowingSteps kind format file (report_on names.now file now options.now)) showing_uses (ShowingMayRefuse format file)
+        → CarriesOut (ShowingSteps kind (asked_of format) file (report_on names.now file now options.now)) showing_uses (ShowingMayRefuse (asked_of format) file)
         (tells_of S.tells input_tells O.tells err_tells link_tells)
         (seen_of (S.seen store.old) input (O.seen out.old) err link)
         (seen_of (S.seen store.new) input (O.seen out.new) err link) result }

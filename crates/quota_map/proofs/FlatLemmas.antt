@@ -12,6 +12,7 @@ use Rattle.quota_value.specs.QuotaValue.{QuotaValue}
 use Rattle.tree_meaning.specs.TreeFile.{TreeStandsFor}
 use Rattle.quota_v1.specs.FlatFile.{FlatStandsFor}
 use Rattle.quota_v1.specs.Place.{flat_limit}
+use Rattle.quota_map.specs.Asked.{InFormat}
 use Rattle.quota_map.specs.Replacing.{flags_in}
 use Rattle.quota_map.specs.StandsFor.{StandsFor}
 use Rattle.quota_map.specs.View.{IsView}
@@ -35,7 +36,7 @@ flat_built format kind grace flags list file flat stands =
 
 -- and is seen as that, where it has no more bytes than it may have
 pub flat_built_seen : (format : Format) (kind : Kind) (grace : Grace) (flags : ℕ) (list : List Entry) (file : List ℕ) → is_flat format ≡ true → length file ≤ flat_limit format
-    → FlatStandsFor format file (value_of kind format grace 0 list) → IsView (Some file) kind (Some format) (Ok (value_of kind format grace (flags_in format flags) list))
+    → FlatStandsFor format file (value_of kind format grace 0 list) → IsView (Some file) kind (InFormat format) (Ok (value_of kind format grace (flags_in format flags) list))
 flat_built_seen format kind grace flags list file flat few stands =
-    subst (λ (n : ℕ). IsView (Some file) kind (Some format) (Ok (value_of kind format grace n list))) (sym (no_flags format flags flat))
+    subst (λ (n : ℕ). IsView (Some file) kind (InFormat format) (Ok (value_of kind format grace n list))) (sym (no_flags format flags flat))
     (seen_flat (Some file) kind format (Ok (value_of kind format grace 0 list)) flat ((few, stands), refl))

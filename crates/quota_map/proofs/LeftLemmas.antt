@@ -21,6 +21,7 @@ use Rattle.quota_v1.specs.FlatFile.{FlatStandsFor}
 use Rattle.quota_v1.specs.Place.{flat_limit}
 use Rattle.quota_v1.specs.View.{IsFlatView}
 use Rattle.tree_file.specs.View.{IsTreeView}
+use Rattle.quota_map.specs.Asked.{InFormat}
 use Rattle.quota_map.specs.AnyFile.{HoldsAny, any_seen}
 use Rattle.quota_map.specs.AnyChange.{AnyLeaves, AnyMakes}
 use Rattle.quota_map.specs.StandsFor.{StandsForAs}
@@ -42,14 +43,14 @@ both limit None value few stands = absurd few
 
 -- a tree file that a change made, and that stands for a value, is seen as that value
 made_seen : (format : Format) (change : FileChange) (name : List ℕ) (old new : World) (value : QuotaValue) → value.format ≡ format → IsTreeFormat format
-    → TreeMakes most_blocks change name old new → IsSomeAnd (new name) (λ bytes. TreeStandsFor bytes value) → IsView (new name) value.kind (Some format) (Ok value)
+    → TreeMakes most_blocks change name old new → IsSomeAnd (new name) (λ bytes. TreeStandsFor bytes value) → IsView (new name) value.kind (InFormat format) (Ok value)
 made_seen format change name old new value is other makes stands =
     subst (λ (b : Bool). MatchBool b (IsFlatView format (new name) value.kind (Ok value)) (IsTreeView (new name) value.kind (Some format) most_blocks (Ok value))) (sym other)
     (both most_blocks (new name) value (few_made most_blocks change name old new makes) stands, refl, sym is)
 
 -- and a flat file too
 flat_made_seen : (format : Format) (change : FileChange) (name : List ℕ) (old new : World) (value : QuotaValue) → is_flat format ≡ true → FlatMakes format change name old new
-    → IsSomeAnd (new name) (λ bytes. FlatStandsFor format bytes value) → IsView (new name) value.kind (Some format) (Ok value)
+    → IsSomeAnd (new name) (λ bytes. FlatStandsFor format bytes value) → IsView (new name) value.kind (InFormat format) (Ok value)
 flat_made_seen format change name old new value flat makes stands =
     subst (λ (b : Bool). MatchBool b (IsFlatView format (new name) value.kind (Ok value)) (IsTreeView (new name) value.kind (Some format) most_blocks (Ok value))) (sym flat)
     (few_and (old name) (new name) value makes.named stands, refl)
@@ -64,14 +65,14 @@ flat_made_seen format change name old new value flat makes stands =
 pub left_seen : (format : Format) (change : FileChange) (name : List ℕ) (old new : World) (value : QuotaValue) → value.format ≡ format
     → IsLeft (AnyMakes (fresh_seen name format) change name) (λ bytes. StandsForAs format bytes value) (AnyLeaves format) name old new
     → (new name ≡ old name)
-    ⊎ ((after : Option (List ℕ)) × IsView after value.kind (Some value.format) (Ok value) × AnyLeaves value.format (old name) after (new name))
+    ⊎ ((after : Option (List ℕ)) × IsView after value.kind (InFormat value.format) (Ok value) × AnyLeaves value.format (old name) after (new name))
 left_seen format change name old new value is left =
     let P : Bool → (bytes : List ℕ) → Type 0 = λ b bytes. MatchBool b (FlatStandsFor format bytes value) (TreeStandsFor bytes value) in
-    let view : IsView (left.after name) value.kind (Some format) (Ok value) = elim (cases_Bool (is_flat format)) [
+    let view : IsView (left.after name) value.kind (InFormat format) (Ok value) = elim (cases_Bool (is_flat format)) [
       | inl flat ↦ flat_made_seen format change name old left.after value flat (left.made.flat flat) (subst (λ (b : Bool). IsSomeAnd (left.after name) (P b)) flat left.stands)
       | inr tree ↦ made_seen format change name old left.after value is tree (subst (λ (b : Bool). TreeMakes (if b then 0 else most_blocks) change name old left.after) tree (left.made.tree tree)) (subst (λ (b : Bool). IsSomeAnd (left.after name) (P b)) tree left.stands)
     ] in
-    inr (subst (λ (f : Format). (after : Option (List ℕ)) × IsView after value.kind (Some f) (Ok value) × AnyLeaves f (old name) after (new name)) (sym is)
+    inr (subst (λ (f : Format). (after : Option (List ℕ)) × IsView after value.kind (InFormat f) (Ok value) × AnyLeaves f (old name) after (new name)) (sym is)
     (left.after name, view, left.left))
 
 -- What is left as it was, or between that and a changed file, is no larger than a file may be.
@@ -89,7 +90,7 @@ former : (file : Option (List ℕ)) (P Q : List ℕ → Type 0) → IsSomeAnd fi
 former (Some bytes) P Q two = two.0
 former None P Q two = two
 
-view_few : (format : Format) (named : Option (List ℕ)) (kind : Kind) (value : QuotaValue) → IsView named kind (Some format) (Ok value) → IsFew format named
+view_few : (format : Format) (named : Option (List ℕ)) (kind : Kind) (value : QuotaValue) → IsView named kind (InFormat format) (Ok value) → IsFew format named
 view_few format named kind value view = few_if (is_flat format) format named kind value view
   where
     few_if : (flat : Bool) (format : Format) (named : Option (List ℕ)) (kind : Kind) (value : QuotaValue)
@@ -126,7 +127,7 @@ left_few format old after left few made leaves = left_if (is_flat format) format
 
 -- a file that is no larger than it may be, and that stands for a value, is seen as that
 few_seen : (format : Format) (named : Option (List ℕ)) (value : QuotaValue) → value.format ≡ format → IsFew format named → IsSomeAnd named (λ bytes. StandsForAs format bytes value)
-    → IsView named value.kind (Some format) (Ok value)
+    → IsView named value.kind (InFormat format) (Ok value)
 few_seen format named value is few stands = seen_if (is_flat format) format named value is few stands
   where
     seen_if : (flat : Bool) (format : Format) (named : Option (List ℕ)) (value : QuotaValue) → value.format ≡ format → IsFewIf flat format named
@@ -138,14 +139,14 @@ few_seen format named value is few stands = seen_if (is_flat format) format name
     seen_if false format (Some bytes) value is few stands = ((few, stands), refl, sym is)
 
 -- What a change left that failed is seen as the changed value where it stands for that.
-pub left_stands : (format : Format) (old left : Option (List ℕ)) (held value : QuotaValue) → value.format ≡ format → IsView old held.kind (Some format) (Ok held)
-    → (left ≡ old) ⊎ ((after : Option (List ℕ)) × IsView after value.kind (Some value.format) (Ok value) × AnyLeaves value.format old after left)
-    → IsSomeAnd left (λ bytes. StandsForAs format bytes value) → IsView left value.kind (Some value.format) (Ok value)
+pub left_stands : (format : Format) (old left : Option (List ℕ)) (held value : QuotaValue) → value.format ≡ format → IsView old held.kind (InFormat format) (Ok held)
+    → (left ≡ old) ⊎ ((after : Option (List ℕ)) × IsView after value.kind (InFormat value.format) (Ok value) × AnyLeaves value.format old after left)
+    → IsSomeAnd left (λ bytes. StandsForAs format bytes value) → IsView left value.kind (InFormat value.format) (Ok value)
 left_stands format old left held value is view (inl same) stands =
-    subst (λ (f : Format). IsView left value.kind (Some f) (Ok value)) (sym is)
+    subst (λ (f : Format). IsView left value.kind (InFormat f) (Ok value)) (sym is)
     (few_seen format left value is (subst (λ (file : Option (List ℕ)). IsFew format file) (sym same) (view_few format old held.kind held view)) stands)
 left_stands format old left held value is view (inr between) stands =
-    let P : Format → Type 0 = λ f. IsView between.0 value.kind (Some f) (Ok value) × AnyLeaves f old between.0 left in
+    let P : Format → Type 0 = λ f. IsView between.0 value.kind (InFormat f) (Ok value) × AnyLeaves f old between.0 left in
     let made : P format = subst P is (between.1, between.2) in
-    subst (λ (f : Format). IsView left value.kind (Some f) (Ok value)) (sym is)
+    subst (λ (f : Format). IsView left value.kind (InFormat f) (Ok value)) (sym is)
     (few_seen format left value is (left_few format old between.0 left (view_few format old held.kind held view) (view_few format between.0 value.kind value made.0) made.1) stands)

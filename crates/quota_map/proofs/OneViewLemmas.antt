@@ -16,6 +16,7 @@ use Rattle.entry_codec.specs.declared.header.HeaderFault.TheVariants.{NotQuota a
 use Rattle.tree_file.specs.View.{HasHeader, IsAsAsked, IsTreeView}
 use Rattle.quota_v1.specs.Place.{flat_limit}
 use Rattle.quota_v1.specs.View.{IsFlatView}
+use Rattle.quota_map.specs.Asked.{AnyTree, Asked, InFormat}
 use Rattle.quota_map.specs.View.{IsView, most_blocks, IsNoDamage}
 use Rattle.quota_map.proofs.SeenLemmas.{view_or_refused}
 use Rattle.quota_map.proofs.SeenOnceLemmas.{seen_once}
@@ -153,9 +154,9 @@ flat_refused_once format (Some file) kind fault other undamaged seen also = one_
 
 -- Files of all formats.
 
-refused_once : (named : Option (List ℕ)) (kind : Kind) (asked : Option Format) (fault other : OpenFault) → IsNoDamage (Err fault) → IsView named kind asked (Err fault) → IsView named kind asked (Err other) → fault ≡ other
-refused_once named kind None fault other undamaged seen also = tree_refused_once named kind None fault other undamaged seen also
-refused_once named kind (Some format) fault other undamaged seen also = refused_if (is_flat format) format named kind fault other undamaged seen also
+refused_once : (named : Option (List ℕ)) (kind : Kind) (asked : Asked) (fault other : OpenFault) → IsNoDamage (Err fault) → IsView named kind asked (Err fault) → IsView named kind asked (Err other) → fault ≡ other
+refused_once named kind AnyTree fault other undamaged seen also = tree_refused_once named kind None fault other undamaged seen also
+refused_once named kind (InFormat format) fault other undamaged seen also = refused_if (is_flat format) format named kind fault other undamaged seen also
   where
     refused_if : (flat : Bool) (format : Format) (named : Option (List ℕ)) (kind : Kind) (fault other : OpenFault) → IsNoDamage (Err fault)
         → MatchBool flat (IsFlatView format named kind (Err fault)) (IsTreeView named kind (Some format) most_blocks (Err fault))
@@ -164,7 +165,7 @@ refused_once named kind (Some format) fault other undamaged seen also = refused_
     refused_if false format named kind fault other undamaged seen also = tree_refused_once named kind (Some format) fault other undamaged seen also
 
 -- a file that is seen undamaged is seen in no other way
-pub one_view : (named : Option (List ℕ)) (kind : Kind) (asked : Option Format) (view other : Result QuotaValue OpenFault) → IsNoDamage view → IsView named kind asked view → IsView named kind asked other → view ≡ other
+pub one_view : (named : Option (List ℕ)) (kind : Kind) (asked : Asked) (view other : Result QuotaValue OpenFault) → IsNoDamage view → IsView named kind asked view → IsView named kind asked other → view ≡ other
 one_view named kind asked (Ok value) (Ok other) undamaged seen also = ap (λ (v : QuotaValue). Ok v) (seen_once named kind asked value other seen also)
 one_view named kind asked (Ok value) (Err fault) undamaged seen also = absurd (view_or_refused named kind asked value fault seen also)
 one_view named kind asked (Err fault) (Ok value) undamaged seen also = absurd (view_or_refused named kind asked value fault also seen)

@@ -3,6 +3,7 @@ use Rattle.std.proofs.Common.{◌≡◌, ℕ, List, Option, Bool, refl, sym, ap,
 use Rattle.std.proofs.lemmas.Bool.{false≢true}
 use Rattle.std.specs.Prelude.{◌==◌, ◌-◌, find, nat_lt}
 use Rattle.quota_value.specs.QuotaValue.{QuotaValue}
+use Rattle.quota_map.specs.Asked.{AnyTree, Asked, InFormat}
 use Rattle.quota_map.specs.View.{IsView, asks_tree, most_blocks, fresh_seen}
 use Rattle.quota_map.specs.Size.{blocks_after}
 use Rattle.quota_types.specs.Format.{is_flat}
@@ -100,12 +101,12 @@ tree_long file value blocks limit wanted stands few needs allowed passes =
     omega (arith, long, few, needs, allowed, passes)
 
 -- a tree file that would have more blocks than the most with an edited value is long
-pub tree_full : (kind : Kind) (asked : Option Format) (file : List ℕ) (value new : QuotaValue) (blocks limit : ℕ) → IsTrue (asks_tree asked) → IsView (Some file) kind asked (Ok value)
+pub tree_full : (kind : Kind) (asked : Asked) (file : List ℕ) (value new : QuotaValue) (blocks limit : ℕ) → IsTrue (asks_tree asked) → IsView (Some file) kind asked (Ok value)
     → blocks ≡ blocks_after (Some file) new → limit ≡ most_blocks → limit < blocks → 1024 * most_blocks ≤ length file + 4096
-tree_full kind None file value new blocks limit tree seen needs allowed passes =
+tree_full kind AnyTree file value new blocks limit tree seen needs allowed passes =
     tree_long file value blocks limit _ seen.0.1 (wanted_few new.format file (ids_in new.records)) needs allowed passes
-tree_full kind (Some V2R0) file value new blocks limit tree seen needs allowed passes =
+tree_full kind (InFormat V2R0) file value new blocks limit tree seen needs allowed passes =
     tree_long file value blocks limit _ seen.0.1 (wanted_few new.format file (ids_in new.records)) needs allowed passes
-tree_full kind (Some V2R1) file value new blocks limit tree seen needs allowed passes =
+tree_full kind (InFormat V2R1) file value new blocks limit tree seen needs allowed passes =
     tree_long file value blocks limit _ seen.0.1 (wanted_few new.format file (ids_in new.records)) needs allowed passes
-tree_full kind (Some _) file value new blocks limit tree seen needs allowed passes = absurd (false≢true tree)
+tree_full kind (InFormat _) file value new blocks limit tree seen needs allowed passes = absurd (false≢true tree)

@@ -27,6 +27,7 @@ use Rattle.quota_v1.specs.declared.window.Window.{Window}
 use Rattle.quota_v1.specs.View.{IsFlatView}
 use Rattle.quota_v1.specs.FlatFaults.{IsFlatFault}
 use Rattle.quota_v1.proofs.ViewLemmas.{seen_or_refused}
+use Rattle.quota_map.specs.Asked.{AnyTree, Asked, InFormat}
 use Rattle.quota_map.specs.AnyFile.{HoldsAny, any_seen}
 use Rattle.quota_map.specs.View.{IsOpenFault, IsView, blocks_allowed, fresh_seen, most_blocks}
 use Rattle.quota_map.specs.declared.any_file.AnyFile.{AnyFile}
@@ -86,10 +87,10 @@ tree_seen_or_refused (Some file) kind asked limit value (FormatMismatch found) s
 tree_seen_or_refused (Some file) kind asked limit value (Damaged damage) seen refused = tree_refused kind asked limit file value (Damaged damage) seen.0.0 seen.0.1 seen.1 seen.2 refused.0 refused.1
 
 -- a file of any format is not both seen as a value and refused
-pub view_or_refused : (named : Option (List ℕ)) (kind : Kind) (asked : Option Format) (value : QuotaValue) (fault : OpenFault)
+pub view_or_refused : (named : Option (List ℕ)) (kind : Kind) (asked : Asked) (value : QuotaValue) (fault : OpenFault)
     → IsView named kind asked (Ok value) → IsView named kind asked (Err fault) → ⊥
-view_or_refused named kind None value fault seen refused = tree_seen_or_refused named kind None most_blocks value fault seen refused
-view_or_refused named kind (Some format) value fault seen refused = refused_if (is_flat format) format named kind value fault seen refused
+view_or_refused named kind AnyTree value fault seen refused = tree_seen_or_refused named kind None most_blocks value fault seen refused
+view_or_refused named kind (InFormat format) value fault seen refused = refused_if (is_flat format) format named kind value fault seen refused
   where
     refused_if : (flat : Bool) (format : Format) (named : Option (List ℕ)) (kind : Kind) (value : QuotaValue) (fault : OpenFault)
         → MatchBool flat (IsFlatView format named kind (Ok value)) (IsTreeView named kind (Some format) most_blocks (Ok value))
@@ -130,10 +131,10 @@ flat_fault_seen format before now tells named kind (FormatMismatch found) cause 
 flat_fault_seen format before now tells named kind (Damaged damage) cause told own = cause.1 told
 
 -- a refusal is seen of a file that is told, except for a fault of the store and lack of memory
-pub fault_seen : (before now : ℕ) (tells : Bool) (named : Option (List ℕ)) (kind : Kind) (asked : Option Format) (fault : OpenFault)
+pub fault_seen : (before now : ℕ) (tells : Bool) (named : Option (List ℕ)) (kind : Kind) (asked : Asked) (fault : OpenFault)
     → IsOpenFault before now tells named kind asked fault → IsTrue tells → (IsOfCall fault → ⊥) → IsView named kind asked (Err fault)
-fault_seen before now tells named kind None fault cause told own = tree_fault_seen before now tells named kind None most_blocks fault cause told own
-fault_seen before now tells named kind (Some format) fault cause told own = seen_if (is_flat format) format before now tells named kind fault cause told own
+fault_seen before now tells named kind AnyTree fault cause told own = tree_fault_seen before now tells named kind None most_blocks fault cause told own
+fault_seen before now tells named kind (InFormat format) fault cause told own = seen_if (is_flat format) format before now tells named kind fault cause told own
   where
     seen_if : (flat : Bool) (format : Format) (before now : ℕ) (tells : Bool) (named : Option (List ℕ)) (kind : Kind) (fault : OpenFault)
         → MatchBool flat (IsFlatFault format before now tells named fault) (IsTreeFault before now tells named kind (Some format) most_blocks fault) → IsTrue tells → (IsOfCall fault → ⊥)
@@ -142,9 +143,9 @@ fault_seen before now tells named kind (Some format) fault cause told own = seen
     seen_if false format before now tells named kind fault cause told own = tree_fault_seen before now tells named kind (Some format) most_blocks fault cause told own
 
 -- a fault of the store comes where its count rose, whatever was asked for
-pub store_rose : (before now : ℕ) (tells : Bool) (named : Option (List ℕ)) (kind : Kind) (asked : Option Format) → IsOpenFault before now tells named kind asked Store → Rose before now
-store_rose before now tells named kind None cause = cause
-store_rose before now tells named kind (Some format) cause = either (is_flat format) (Rose before now) cause
+pub store_rose : (before now : ℕ) (tells : Bool) (named : Option (List ℕ)) (kind : Kind) (asked : Asked) → IsOpenFault before now tells named kind asked Store → Rose before now
+store_rose before now tells named kind AnyTree cause = cause
+store_rose before now tells named kind (InFormat format) cause = either (is_flat format) (Rose before now) cause
   where
     either : (flat : Bool) (P : Type 0) → MatchBool flat P P → P
     either true P is = is
@@ -152,9 +153,9 @@ store_rose before now tells named kind (Some format) cause = either (is_flat for
 
 -- a value that an opened flat file holds is seen of its file
 pub flat_held_seen : (tells : Bool) (named : Option (List ℕ)) (format : Format) (len : ℕ) (times : Grace) (window : Window) (value : QuotaValue) → is_flat format ≡ true
-    → HoldsFlat tells named format len times window value → IsView named value.kind (Some value.format) (Ok value)
+    → HoldsFlat tells named format len times window value → IsView named value.kind (InFormat value.format) (Ok value)
 flat_held_seen tells named format len times window value flat held =
-    subst (λ (f : Format). IsView named value.kind (Some f) (Ok value)) (sym held.stands.format)
+    subst (λ (f : Format). IsView named value.kind (InFormat f) (Ok value)) (sym held.stands.format)
     (subst (λ (b : Bool). MatchBool b (IsFlatView format named value.kind (Ok value)) (IsTreeView named value.kind (Some format) most_blocks (Ok value))) (sym flat)
     (subst (λ (n : Option (List ℕ)). IsFlatView format n value.kind (Ok value)) (sym held.there) ((held.few, held.stands), refl)))
 
@@ -165,7 +166,7 @@ tree_version false true format is = ap is_flat (sym (same_Some V2R1 format is))
 tree_version false false format is = absurd (none-some format is)
 
 tree_format_seen : (format : Format) (named : Option (List ℕ)) (file : List ℕ) (value : QuotaValue) → named ≡ Some file → (header_of file).blocks ≤ most_blocks → TreeStandsFor file value
-    → value.format ≡ format → IsView named value.kind (Some format) (Ok value)
+    → value.format ≡ format → IsView named value.kind (InFormat format) (Ok value)
 tree_format_seen format named file value there few stands is =
     let tree : IsTreeFormat format = tree_version _ _ format (stands.version ∙ ap (λ (f : Format). Some f) is) in
     subst (λ (b : Bool). MatchBool b (IsFlatView format named value.kind (Ok value)) (IsTreeView named value.kind (Some format) most_blocks (Ok value))) (sym tree)
@@ -173,13 +174,13 @@ tree_format_seen format named file value there few stands is =
 
 -- a value that an opened tree file holds is seen of its file, where it may have as many blocks as it may when it is opened
 pub tree_held_seen : (tells : Bool) (named : Option (List ℕ)) (header : Header) (coming : Coming) (limit : ℕ) (value : QuotaValue) → limit ≡ most_blocks → HoldsTree tells named header coming limit value
-    → IsView named value.kind (Some value.format) (Ok value)
+    → IsView named value.kind (InFormat value.format) (Ok value)
 tree_held_seen tells named header coming limit value is held = tree_format_seen value.format named held.file value held.there (subst (λ (l : ℕ). (header_of held.file).blocks ≤ l) is held.few) held.stands refl
 
 -- a value that is seen is one of the kind that was asked for
-pub view_kind : (named : Option (List ℕ)) (kind : Kind) (asked : Option Format) (value : QuotaValue) → IsView named kind asked (Ok value) → value.kind ≡ kind
-view_kind named kind None value view = view.1
-view_kind named kind (Some format) value view = kind_if (is_flat format) format named kind value view
+pub view_kind : (named : Option (List ℕ)) (kind : Kind) (asked : Asked) (value : QuotaValue) → IsView named kind asked (Ok value) → value.kind ≡ kind
+view_kind named kind AnyTree value view = view.1
+view_kind named kind (InFormat format) value view = kind_if (is_flat format) format named kind value view
   where
     kind_if : (flat : Bool) (format : Format) (named : Option (List ℕ)) (kind : Kind) (value : QuotaValue)
         → MatchBool flat (IsFlatView format named kind (Ok value)) (IsTreeView named kind (Some format) most_blocks (Ok value)) → value.kind ≡ kind
@@ -201,11 +202,11 @@ tree_limit tells named header coming limit value format is held = most_allowed f
 
 -- a value that an opened file holds is seen of its file
 pub any_held_seen : (tells : Bool) (files : World) (file : AnyFile) (value : QuotaValue) (name : List ℕ) (format : Format) → any_seen file ≡ fresh_seen name format → HoldsAny tells files file value
-    → IsView (files name) value.kind (Some value.format) (Ok value)
+    → IsView (files name) value.kind (InFormat value.format) (Ok value)
 any_held_seen tells files (FlatFile file) value name format seen held =
-    subst (λ (n : List ℕ). IsView (files n) value.kind (Some value.format) (Ok value)) (ap (λ (s : FileSeen). s.name) seen)
+    subst (λ (n : List ℕ). IsView (files n) value.kind (InFormat value.format) (Ok value)) (ap (λ (s : FileSeen). s.name) seen)
     (flat_held_seen tells (files (string_bytes file.name)) file.format file.len file.times file.window value file.flat held)
 any_held_seen tells files (TreeFile file) value name format seen held =
-    subst (λ (n : List ℕ). IsView (files n) value.kind (Some value.format) (Ok value)) (ap (λ (s : FileSeen). s.name) seen)
+    subst (λ (n : List ℕ). IsView (files n) value.kind (InFormat value.format) (Ok value)) (ap (λ (s : FileSeen). s.name) seen)
     (tree_held_seen tells (files (name_of file.pages)) file.header file.coming file.limit value
     (tree_limit tells (files (name_of file.pages)) file.header file.coming file.limit value format (ap (λ (s : FileSeen). s.limit) seen) held) held)

@@ -9,6 +9,7 @@ use Rattle.quota_types.specs.declared.file_kind.Format.{Format}
 use Rattle.quota_value.specs.QuotaValue.{QuotaValue}
 use Rattle.quota_v1.specs.FlatFile.{FlatStandsFor}
 use Rattle.quota_v1.specs.View.{IsFlatView}
+use Rattle.quota_map.specs.Asked.{AnyTree, Asked, InFormat}
 use Rattle.quota_map.specs.View.{IsView, most_blocks}
 use Rattle.tree_meaning.proofs.MeaningLemmas.{one_meaning}
 use Rattle.tree_file.specs.View.{IsTreeView}
@@ -32,9 +33,9 @@ tree_once : (named : Option (List ℕ)) (kind : Kind) (asked : Option Format) (v
 tree_once None kind asked value other seen also = absurd seen.0
 tree_once (Some file) kind asked value other seen also = one_meaning file value other seen.0.1 also.0.1
 
-pub seen_once : (named : Option (List ℕ)) (kind : Kind) (asked : Option Format) (value other : QuotaValue) → IsView named kind asked (Ok value) → IsView named kind asked (Ok other) → value ≡ other
-seen_once named kind None value other seen also = tree_once named kind None value other seen also
-seen_once named kind (Some format) value other seen also = once_if (is_flat format) format named kind value other seen also
+pub seen_once : (named : Option (List ℕ)) (kind : Kind) (asked : Asked) (value other : QuotaValue) → IsView named kind asked (Ok value) → IsView named kind asked (Ok other) → value ≡ other
+seen_once named kind AnyTree value other seen also = tree_once named kind None value other seen also
+seen_once named kind (InFormat format) value other seen also = once_if (is_flat format) format named kind value other seen also
   where
     once_if : (flat : Bool) (format : Format) (named : Option (List ℕ)) (kind : Kind) (value other : QuotaValue)
         → MatchBool flat (IsFlatView format named kind (Ok value)) (IsTreeView named kind (Some format) most_blocks (Ok value))

@@ -8,6 +8,7 @@ use Rattle.quota_value.specs.QuotaValue.{QuotaValue}
 use Rattle.opened_file.specs.declared.quota_file.OpenFault.{OpenFault}
 use Rattle.tree_file.specs.View.{IsTreeView}
 use Rattle.quota_v1.specs.View.{IsFlatView}
+use Rattle.quota_map.specs.Asked.{AnyTree, Asked, InFormat, asked_of}
 use Rattle.quota_map.specs.View.{IsView, asks_flat, most_blocks, opening_reads}
 use Rattle.std.proofs.lemmas.Bool.{cases_lt}
 use Rattle.quota_types.specs.Bytes.{number_at}
@@ -17,29 +18,29 @@ use Rattle.tree_meaning.specs.TreeFile.{TreeStandsFor}
 use Rattle.opened_file.specs.Replace.{pieces_of}
 
 pub seen_flat : (named : Option (List ℕ)) (kind : Kind) (format : Format) (result : Result QuotaValue OpenFault) → is_flat format ≡ true → IsFlatView format named kind result
-    → IsView named kind (Some format) result
+    → IsView named kind (InFormat format) result
 seen_flat named kind format result flat seen =
     subst (λ (b : Bool). MatchBool b (IsFlatView format named kind result) (IsTreeView named kind (Some format) most_blocks result)) (sym flat) seen
 
-pub flat_seen : (named : Option (List ℕ)) (kind : Kind) (format : Format) (result : Result QuotaValue OpenFault) → is_flat format ≡ true → IsView named kind (Some format) result
+pub flat_seen : (named : Option (List ℕ)) (kind : Kind) (format : Format) (result : Result QuotaValue OpenFault) → is_flat format ≡ true → IsView named kind (InFormat format) result
     → IsFlatView format named kind result
 flat_seen named kind format result flat seen =
     subst (λ (b : Bool). MatchBool b (IsFlatView format named kind result) (IsTreeView named kind (Some format) most_blocks result)) flat seen
 
-pub seen_tree : (named : Option (List ℕ)) (kind : Kind) (asked : Option Format) (result : Result QuotaValue OpenFault) → asks_flat asked ≡ false → IsTreeView named kind asked most_blocks result
-    → IsView named kind asked result
+pub seen_tree : (named : Option (List ℕ)) (kind : Kind) (asked : Option Format) (result : Result QuotaValue OpenFault) → asks_flat (asked_of asked) ≡ false → IsTreeView named kind asked most_blocks result
+    → IsView named kind (asked_of asked) result
 seen_tree named kind None result other seen = seen
 seen_tree named kind (Some format) result other seen =
     subst (λ (b : Bool). MatchBool b (IsFlatView format named kind result) (IsTreeView named kind (Some format) most_blocks result)) (sym other) seen
 
-pub tree_seen : (named : Option (List ℕ)) (kind : Kind) (asked : Option Format) (result : Result QuotaValue OpenFault) → asks_flat asked ≡ false → IsView named kind asked result
+pub tree_seen : (named : Option (List ℕ)) (kind : Kind) (asked : Option Format) (result : Result QuotaValue OpenFault) → asks_flat (asked_of asked) ≡ false → IsView named kind (asked_of asked) result
     → IsTreeView named kind asked most_blocks result
 tree_seen named kind None result other seen = seen
 tree_seen named kind (Some format) result other seen =
     subst (λ (b : Bool). MatchBool b (IsFlatView format named kind result) (IsTreeView named kind (Some format) most_blocks result)) other seen
 
 -- where no flat file is asked for, and a format is, it is that of a tree file
-pub tree_asked : (asked : Option Format) → asks_flat asked ≡ false → IfSome asked IsTreeFormat
+pub tree_asked : (asked : Option Format) → asks_flat (asked_of asked) ≡ false → IfSome asked IsTreeFormat
 tree_asked None other = tt
 tree_asked (Some format) other = other
 
@@ -63,9 +64,9 @@ tree_opening file value stands =
     ]
 
 -- the opening of a file that is accepted makes few calls of `read`
-pub opening_few : (kind : Kind) (asked : Option Format) (file : List ℕ) (value : QuotaValue) → IsView (Some file) kind asked (Ok value) → opening_reads asked file ≤ 4 + 3 * pieces_of (length file)
-opening_few kind None file value view = tree_opening file value view.0.1
-opening_few kind (Some format) file value view = few_if (is_flat format) format kind file value view
+pub opening_few : (kind : Kind) (asked : Asked) (file : List ℕ) (value : QuotaValue) → IsView (Some file) kind asked (Ok value) → opening_reads asked file ≤ 4 + 3 * pieces_of (length file)
+opening_few kind AnyTree file value view = tree_opening file value view.0.1
+opening_few kind (InFormat format) file value view = few_if (is_flat format) format kind file value view
   where
     few_if : (flat : Bool) (format : Format) (kind : Kind) (file : List ℕ) (value : QuotaValue)
         → MatchBool flat (IsFlatView format (Some file) kind (Ok value)) (IsTreeView (Some file) kind (Some format) most_blocks (Ok value))

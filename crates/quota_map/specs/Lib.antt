@@ -1,5 +1,6 @@
 pub mod AnyChange
 pub mod AnyFile
+pub mod Asked
 pub mod Passing
 pub mod Reading
 pub mod Replacing

@@ -3,6 +3,7 @@ ghost use Rattle.outside.specs.Frame.{OnlyReads};
 ghost use Rattle.quota_value.specs.QuotaValue.{QuotaValue};
 ghost use Rattle.file_blocks.specs.Block.{file_of};
 ghost use Rattle.quota_types.specs.Format.{is_flat};
+ghost use Rattle.quota_map.specs.Asked.{asked_of};
 ghost use Rattle.quota_map.specs.View.{IsOpenFault, IsOpenedAs, IsView, asks_flat, fresh_seen, opening_reads};
 
 use crate::AnyFile;
@@ -31,18 +32,19 @@ pub fn open_file<S: Store>(
     format: Option<Format>,
 ) -> Result<AnyFile, OpenFault>
     ensures seen { OnOk result (IsTrue S.tells → (value : QuotaValue)
-        × IsView ((S.seen store.old).files name.now) kind format (Ok value)) }
+        × IsView ((S.seen store.old).files name.now) kind (asked_of format) (Ok value)) }
     ensures held { IfOk result (λ file. IsTrue S.tells → (value : QuotaValue)
-        → IsView ((S.seen store.old).files name.now) kind format (Ok value)
+        → IsView ((S.seen store.old).files name.now) kind (asked_of format) (Ok value)
         → ⟦<AnyFile as QuotaFile<S>>⟧.holds file store.new value) }
     ensures fresh { IfOk result (λ file. ⟦<AnyFile as QuotaFile<S>>⟧.seen file
         ≡ fresh_seen name.now (⟦<AnyFile as QuotaFile<S>>⟧.seen file).format) }
-    ensures as_asked { IfOk result (λ file. IsOpenedAs format (⟦<AnyFile as QuotaFile<S>>⟧.seen file).format) }
+    ensures as_asked { IfOk result (λ file.
+        IsOpenedAs (asked_of format) (⟦<AnyFile as QuotaFile<S>>⟧.seen file).format) }
     ensures refused { IfErr result (IsOpenFault (S.seen store.old).faults (S.seen store.new).faults S.tells
-        ((S.seen store.old).files name.now) kind format) }
+        ((S.seen store.old).files name.now) kind (asked_of format)) }
     ensures leaves { OnlyReads (is_ok result) name.now (S.seen store.old) (S.seen store.new) }
     ensures reads { IsTrue S.tells → (S.seen store.new).reads ≤ (S.seen store.old).reads
-        + opening_reads format (file_of (S.seen store.old).files name.now) }
+        + opening_reads (asked_of format) (file_of (S.seen store.old).files name.now) }
     ensures commits { S.commits [] store.old store.new }
 {
     if let Some(flat) = flat_asked(format) {
@@ -54,7 +56,7 @@ pub fn open_file<S: Store>(
 /// The format that is asked for, where it is a flat one.
 fn flat_asked(format: Option<Format>) -> Option<Format>
     ensures flat { IfSome result (λ flat. (format ≡ Some flat) × (is_flat flat ≡ true)) }
-    ensures other { result ≡ None → asks_flat format ≡ false }
+    ensures other { result ≡ None → asks_flat (asked_of format) ≡ false }
 {
     match format {
         Some(format) if format.is_flat() => Some(format),

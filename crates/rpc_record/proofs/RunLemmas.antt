@@ -13,8 +13,8 @@ use Rattle.option_words.specs.declared.word_fault.Fault.{Fault}
 use Rattle.outside.specs.Count.{Rose}
 use Rattle.outside.specs.Seen.{LinkSeen, SinkSeen, SourceSeen, StoreSeen}
 use Rattle.outside.specs.World.{World}
+use Rattle.quota_map.specs.Asked.{Asked, asked_of}
 use Rattle.quota_map.proofs.SeenLemmas.{view_or_refused}
-use Rattle.quota_types.specs.declared.file_kind.Format.{Format}
 use Rattle.refusals.specs.Refusals.{nowhere, refusal_of}
 use Rattle.refusals.specs.Status.{end_status, status_of}
 use Rattle.refusals.specs.declared.cause.Cause.{Cause}
@@ -66,12 +66,12 @@ abbrev pub finishing : ExportedValues → Steps
 finishing exported = Finish
 
 -- steps that open files and are refused met the first file that is
-first_refusal : (format : Option Format) (list : List ExportOption) (before : ExportedValues) (old : Outside) (acts : List Act) (new : Outside) (refusal : Refusal)
-    → EndsBy (OpeningAll format list before finishing) old acts new (Some refusal) → IsFirstRefusal format old.files list refusal
-first_refusal format [] before old acts new refusal ends = let no : ◌≡◌ {A = Option Refusal} (Some refusal) None = ends.ends in absurd (cc)
-first_refusal format (export ∷ list) before old acts new refusal (inl by) =
-    inr (by.0, by.1, first_refusal format list (with_export before export.path export.kind by.0) old acts new refusal by.2)
-first_refusal format (export ∷ list) before old acts new refusal (inr by) = inl (by.0, by.1, same_Some _ _ by.2.ends)
+first_refusal : (asked : Asked) (list : List ExportOption) (before : ExportedValues) (old : Outside) (acts : List Act) (new : Outside) (refusal : Refusal)
+    → EndsBy (OpeningAll asked list before finishing) old acts new (Some refusal) → IsFirstRefusal asked old.files list refusal
+first_refusal asked [] before old acts new refusal ends = let no : ◌≡◌ {A = Option Refusal} (Some refusal) None = ends.ends in absurd (cc)
+first_refusal asked (export ∷ list) before old acts new refusal (inl by) =
+    inr (by.0, by.1, first_refusal asked list (with_export before export.path export.kind by.0) old acts new refusal by.2)
+first_refusal asked (export ∷ list) before old acts new refusal (inr by) = inl (by.0, by.1, same_Some _ _ by.2.ends)
 
 none_rose : Rose 0 0 → ⊥
 none_rose rose = omega (arith, rose)
@@ -88,16 +88,16 @@ opening_reason old new stated may said _ is so reason = (is, so reason)
 
 -- not all files were opened
 pub unopened : (asked : StreamAsked) (tells : StreamTells) (old new : StoreSeen) (conns : ConnsSeen) (refusal : Refusal)
-    → CarriesOut (OpeningAll asked.format asked.exports nothing_exported finishing) serve_uses (ExportingMayRefuse asked.format asked.exports) (opening_tells tells.store) (opening_seen old) (opening_seen new) (Err refusal)
+    → CarriesOut (OpeningAll (asked_of asked.format) asked.exports nothing_exported finishing) serve_uses (ExportingMayRefuse (asked_of asked.format) asked.exports) (opening_tells tells.store) (opening_seen old) (opening_seen new) (Err refusal)
     → IsUnopened asked tells (seen_of old conns) (seen_of new conns) refusal
 unopened asked tells old new conns refusal carries = record {
   conns = refl;
-  reason = opening_reason old new (IsWorldTold (opening_tells tells.store) → HasSteps (OpeningAll asked.format asked.exports nothing_exported finishing) (opening_tells tells.store) (Some refusal) (opening_seen old) (opening_seen new))
-      (ExportingMayRefuse asked.format asked.exports refusal.cause refusal.name) (IsTrue tells.store → IsFirstRefusal asked.format old.files asked.exports refusal) refusal.cause
+  reason = opening_reason old new (IsWorldTold (opening_tells tells.store) → HasSteps (OpeningAll (asked_of asked.format) asked.exports nothing_exported finishing) (opening_tells tells.store) (Some refusal) (opening_seen old) (opening_seen new))
+      (ExportingMayRefuse (asked_of asked.format) asked.exports refusal.cause refusal.name) (IsTrue tells.store → IsFirstRefusal (asked_of asked.format) old.files asked.exports refusal) refusal.cause
       carries.may_refuse
       (λ has told.
       let steps = has (record { store = told; input = refl; link = refl }) in
-      first_refusal asked.format asked.exports nothing_exported (outside_of (opening_seen old)) steps.acts (outside_of (opening_seen new)) refusal steps.by_steps)
+      first_refusal (asked_of asked.format) asked.exports nothing_exported (outside_of (opening_seen old)) steps.acts (outside_of (opening_seen new)) refusal steps.by_steps)
       carries.refused;
 }
 
@@ -108,16 +108,16 @@ placed_nowhere refusal placed =
     let input_line = placed.input_line refl in
     λ i. record { line = line i; input_line = input_line i }
 
-no_words : (format : Option Format) (list : List ExportOption) (kind : UsageKind) (word : ℕ) (name : List ℕ) → ExportingMayRefuse format list (Usage kind word) name → ⊥
-no_words format [] kind word name may = may
-no_words format (export ∷ list) kind word name (inl may) = may
-no_words format (export ∷ list) kind word name (inr may) = no_words format list kind word name may
+no_words : (asked : Asked) (list : List ExportOption) (kind : UsageKind) (word : ℕ) (name : List ℕ) → ExportingMayRefuse asked list (Usage kind word) name → ⊥
+no_words asked [] kind word name may = may
+no_words asked (export ∷ list) kind word name (inl may) = may
+no_words asked (export ∷ list) kind word name (inr may) = no_words asked list kind word name may
 
 -- and is none of the words
-pub no_usage : (format : Option Format) (list : List ExportOption) (cause : Cause) (name : List ℕ) → ExportingMayRefuse format list cause name → status_of cause ≢ 2
-no_usage format list cause name may two =
+pub no_usage : (asked : Asked) (list : List ExportOption) (cause : Cause) (name : List ℕ) → ExportingMayRefuse asked list cause name → status_of cause ≢ 2
+no_usage asked list cause name may two =
     let words = words_alone cause two in
-    no_words format list words.0 words.1 name (subst (λ (c : Cause). ExportingMayRefuse format list c name) words.2 may)
+    no_words asked list words.0 words.1 name (subst (λ (c : Cause). ExportingMayRefuse asked list c name) words.2 may)
 
 -- Connections that are served once it listens.
 
@@ -161,7 +161,7 @@ all_at : {T : Type 0} (P : T → Type 0) (list : List T) (place : ℕ) (one : T)
 all_at P list place one all at = subst P (get_or_from_slice_get list place one one at) (All-get_or P list place one (slice_get_within list place one at) all)
 
 -- what may be said of it
-pub serving_may : (format : Option Format) (file : List ℕ) (seen : List ExportSeen) (fault : StreamFault) (before now : ℕ) (serves : ExportedValues → Type 0) → All (IsAsAsked format) seen
+pub serving_may : (format : Asked) (file : List ℕ) (seen : List ExportSeen) (fault : StreamFault) (before now : ℕ) (serves : ExportedValues → Type 0) → All (IsAsAsked format) seen
     → IfSome (file_in fault) (MayRefuseOne seen) → IfSome (file_in fault) (IsAnswerFault before now serves) → AnsweringMayRefuse format file (stream_cause fault) file
 serving_may format file seen ConnFailed before now serves asked may cause = tt
 serving_may format file seen (FileFailed CallFailed) before now serves asked may cause = tt
@@ -246,13 +246,13 @@ if_err_some P (Err refusal) is = is
 pub opened_ends : {T : Type 0} (asked : StreamAsked) (tells : StreamTells) (old mid : StoreSeen) (conns : ConnsSeen) (new : StreamSeen) (serves : ExportedValues → Type 0) (exported : ExportedValues) (result : Result T Refusal)
     → old.faults ≤ mid.faults → (IsTrue tells.store → AreServed asked old.files exported) → (IsTrue tells.store → serves exported)
     → EndsServing serves asked.port asked.connections tells.conns (seen_of mid conns) new (result_err result)
-    → IfErr result (λ (said : Refusal). AnsweringMayRefuse asked.format (first_file asked.exports) said.cause said.name)
+    → IfErr result (λ (said : Refusal). AnsweringMayRefuse (asked_of asked.format) (first_file asked.exports) said.cause said.name)
     → Ends asked tells (seen_of old conns) new (result_err result)
 opened_ends asked tells old mid conns new serves exported result later are holds ends may = inr (record {
   accepted = λ told. (exported, are told);
   ends = ends_before (λ (other : ExportedValues). IsTrue tells.store × AreServed asked old.files other) serves asked.port asked.connections tells.conns old mid conns new (result_err result) later
-      (λ other is. subst serves (exported_once asked.format old.files asked.exports nothing_exported exported other (are is.0) is.1) (holds is.0)) ends;
-  may = if_err_some (λ (said : Refusal). AnsweringMayRefuse asked.format (first_file asked.exports) said.cause said.name) result may;
+      (λ other is. subst serves (exported_once (asked_of asked.format) old.files asked.exports nothing_exported exported other (are is.0) is.1) (holds is.0)) ends;
+  may = if_err_some (λ (said : Refusal). AnsweringMayRefuse (asked_of asked.format) (first_file asked.exports) said.cause said.name) result may;
 })
 
 -- there was not enough memory, and it did not listen
@@ -266,11 +266,11 @@ pub usage_status : (asked : Result StreamAsked Fault) (tells : StreamTells) (old
 usage_status (Ok asked) tells old new refusal carried is = absurd (false≢true is)
 usage_status (Err met) tells old new refusal carried is = ap end_status carried.said
 
-first_never : (format : Option Format) (files : World) (list : List ExportOption) (before exported : ExportedValues) (refusal : Refusal) → AreExported format files list before exported → IsFirstRefusal format files list refusal → ⊥
-first_never format files [] before exported refusal are refused = refused
-first_never format files (export ∷ list) before exported refusal are (inl refused) = view_or_refused (files export.file) export.kind format are.0 refused.0 are.1 refused.1
-first_never format files (export ∷ list) before exported refusal are (inr later) =
-    first_never format files list (with_export before export.path export.kind are.0) exported refusal are.2 later.2
+first_never : (asked : Asked) (files : World) (list : List ExportOption) (before exported : ExportedValues) (refusal : Refusal) → AreExported asked files list before exported → IsFirstRefusal asked files list refusal → ⊥
+first_never asked files [] before exported refusal are refused = refused
+first_never asked files (export ∷ list) before exported refusal are (inl refused) = view_or_refused (files export.file) export.kind asked are.0 refused.0 are.1 refused.1
+first_never asked files (export ∷ list) before exported refusal are (inr later) =
+    first_never asked files list (with_export before export.path export.kind are.0) exported refusal are.2 later.2
 
 opening_sure : (failed refused : Type 0) (cause : Cause) → (failed → ⊥) → (refused → ⊥) → IsOpeningReason failed refused cause → status_of cause ≡ 5
 opening_sure failed refused StoreFault unfailed unrefused reason = absurd (unfailed reason)
@@ -290,7 +290,7 @@ pub ends_sure : (asked : StreamAsked) (tells : StreamTells) (old new : StreamSee
     → (end_status refusal ≡ 0) ⊎ (end_status refusal ≡ 5)
 ends_sure asked tells old new None exported told are unfailed heard ends = inl refl
 ends_sure asked tells old new (Some refusal) exported told are unfailed heard (inl unopened) =
-    inr (opening_sure _ _ refusal.cause unfailed (λ refused. first_never asked.format old.store.files asked.exports nothing_exported exported refusal are (refused.1 told)) unopened.reason)
+    inr (opening_sure _ _ refusal.cause unfailed (λ refused. first_never (asked_of asked.format) old.store.files asked.exports nothing_exported exported refusal are (refused.1 told)) unopened.reason)
 ends_sure asked tells old new (Some refusal) exported told are unfailed heard (inr opened) = absurd (by opened.ends)
   where
     by : FailsToListen tells.conns old.conns new.conns refusal.cause

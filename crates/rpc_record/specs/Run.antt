@@ -8,8 +8,8 @@ use Rattle.option_words.specs.declared.word_fault.Fault.{Fault}
 use Rattle.outside.specs.Count.{Rose}
 use Rattle.outside.specs.Seen.{SinkSeen, StoreSeen}
 use Rattle.outside.specs.World.{World}
+use Rattle.quota_map.specs.Asked.{Asked, asked_of}
 use Rattle.quota_map.specs.View.{IsView}
-use Rattle.quota_types.specs.declared.file_kind.Format.{Format}
 use Rattle.quota_value.specs.QuotaValue.{QuotaValue}
 use Rattle.refusals.specs.Line.{closing_line}
 use Rattle.refusals.specs.Refusals.{nowhere, refusal_of}
@@ -44,14 +44,14 @@ tells_of store conns = record { store = store; conns = conns }
 
 -- every file is seen as a value, and these values are exported, each under its path for its kind
 abbrev pub AreServed : StreamAsked → World → ExportedValues → Type 0
-AreServed asked files exported = AreExported asked.format files asked.exports nothing_exported exported
+AreServed asked files exported = AreExported (asked_of asked.format) files asked.exports nothing_exported exported
 
 -- The first of these files that is not seen as a value is seen as this refusal.
-abbrev pub IsFirstRefusal : Option Format → World → List ExportOption → Refusal → Type 0
-IsFirstRefusal format files [] refusal = ⊥
-IsFirstRefusal format files (export ∷ exports) refusal =
-    ((fault : OpenFault) × IsView (files export.file) export.kind format (Err fault) × (refusal ≡ refusal_of (opening_cause fault) export.file))
-    ⊎ ((value : QuotaValue) × IsView (files export.file) export.kind format (Ok value) × IsFirstRefusal format files exports refusal)
+abbrev pub IsFirstRefusal : Asked → World → List ExportOption → Refusal → Type 0
+IsFirstRefusal asked files [] refusal = ⊥
+IsFirstRefusal asked files (export ∷ exports) refusal =
+    ((fault : OpenFault) × IsView (files export.file) export.kind asked (Err fault) × (refusal ≡ refusal_of (opening_cause fault) export.file))
+    ⊎ ((value : QuotaValue) × IsView (files export.file) export.kind asked (Ok value) × IsFirstRefusal asked files exports refusal)
 
 -- Why not all files were opened: the store failed, there was not enough memory, or one of the files is refused.
 abbrev pub IsOpeningReason : (failed refused : Type 0) → Cause → Type 0
@@ -63,8 +63,8 @@ IsOpeningReason failed refused _ = refused
 pub record IsUnopened (asked : StreamAsked) (tells : StreamTells) (old new : StreamSeen) (refusal : Refusal) : Type 0 where
   pub conns : new.conns ≡ old.conns
   pub reason : IsOpeningReason (Rose old.store.faults new.store.faults)
-      (ExportingMayRefuse asked.format asked.exports refusal.cause refusal.name
-      × (IsTrue tells.store → IsFirstRefusal asked.format old.store.files asked.exports refusal)) refusal.cause
+      (ExportingMayRefuse (asked_of asked.format) asked.exports refusal.cause refusal.name
+      × (IsTrue tells.store → IsFirstRefusal (asked_of asked.format) old.store.files asked.exports refusal)) refusal.cause
 
 -- The connections.
 
@@ -108,7 +108,7 @@ EndsServing serves port connections tells old new (Some refusal) =
 pub record IsOpened (asked : StreamAsked) (tells : StreamTells) (old new : StreamSeen) (refusal : Option Refusal) : Type 0 where
   pub accepted : IsTrue tells.store → (exported : ExportedValues) × AreServed asked old.store.files exported
   pub ends : EndsServing (λ exported. IsTrue tells.store × AreServed asked old.store.files exported) asked.port asked.connections tells.conns old new refusal
-  pub may : IfSome refusal (λ said. AnsweringMayRefuse asked.format (first_file asked.exports) said.cause said.name)
+  pub may : IfSome refusal (λ said. AnsweringMayRefuse (asked_of asked.format) (first_file asked.exports) said.cause said.name)
 
 -- The run.
 

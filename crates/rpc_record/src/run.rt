@@ -14,6 +14,7 @@ ghost use Rattle.run_steps.specs.Done.{IsUnwritten};
 ghost use Rattle.serve_steps.specs.Exporting.{AnsweringMayRefuse, MayExport};
 ghost use Rattle.serve_steps.specs.ServeCauses.{IsAsAsked};
 ghost use Rattle.stream_words.specs.Words.{StreamAsked, asked_of, stream_asked};
+ghost use Rattle.quota_map.specs.Asked.{asked_of as asks_of};
 
 use crate::StreamFault;
 use crate::serving::serve_stream;
@@ -189,10 +190,10 @@ fn serve_opened<S: Store, C: Conns>(
     conns: &mut C,
 ) -> Result<(), Refusal>
     requires shut { C.is_open conns.old ≡ false }
-    requires asked { All (IsAsAsked format) (exports_seen opened.old) }
+    requires asked { All (IsAsAsked (asks_of format)) (exports_seen opened.old) }
     ensures ends { EndsServing (Serves S.tells (S.seen store.old).files opened.old) port connections C.tells
         (seen_of (S.seen store.old) (C.seen conns.old)) (seen_of (S.seen store.new) (C.seen conns.new)) (result_err result) }
-    ensures may { IfErr result (λ refusal. AnsweringMayRefuse format file refusal.cause refusal.name) }
+    ensures may { IfErr result (λ refusal. AnsweringMayRefuse (asks_of format) file refusal.cause refusal.name) }
     ensures placed { IfErr result (λ refusal. refusal.place ≡ nowhere) }
     ensures late { IfErr result (λ refusal. (status_of refusal.cause ≡ 3) ⊎ (status_of refusal.cause ≡ 4)) }
     ensures shut { OnOk result (C.is_open conns.new ≡ false) }

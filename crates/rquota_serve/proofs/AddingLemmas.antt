@@ -1,5 +1,5 @@
 -- Files that are added to exports one after another.
-use Rattle.std.proofs.Common.{◌≡◌, ◌≤◌, ◌<◌, ◌+◌, ℕ, zero, suc, Bool, true, false, IsTrue, List, [], ◌∷◌, ◌++◌, length, map, take, Option, Result, Ok, Err, IfErr, add-one, refl, sym, ap, subst, ◌∙◌, arith, length-append}
+use Rattle.std.proofs.Common.{◌≡◌, ◌≤◌, ◌<◌, ◌+◌, ℕ, zero, suc, Bool, true, false, IsTrue, List, [], ◌∷◌, ◌++◌, length, map, take, Result, Ok, Err, IfErr, add-one, refl, sym, ap, subst, ◌∙◌, arith, length-append}
 use Rattle.std.specs.Prelude.{OnOk, nat_lt, ⊤}
 use Rattle.std.specs.List.{All}
 use Rattle.std.proofs.lemmas.Bool.{and_parts}
@@ -16,6 +16,7 @@ use Rattle.outside.specs.Seen.{StoreSeen}
 use Rattle.outside.specs.World.{World}
 use Rattle.opened_file.specs.declared.quota_file.OpenFault.{OpenFault}
 use Rattle.outside.proofs.FrameLemmas.{syncs-after_read, syncs-none, syncs-read}
+use Rattle.quota_map.specs.Asked.{Asked}
 use Rattle.quota_map.specs.View.{IsOpenFault, IsOpenedAs, IsView, opening_reads, fresh_seen}
 use Rattle.rquota_serve.specs.Adding.{AreToldOf, MayAddAll, NewSeen, reads_of}
 use Rattle.rquota_serve.specs.Added.{AreAdded, IsRefusedAt, ReadsEach, added_of, new_seen, news_seen, one_later, tried_of}
@@ -39,7 +40,7 @@ stays_each (one ∷ news) old new reads =
     let rest = stays_each news reads.0 new reads.2 in
     record { files = rest.files ∙ reads.1.files; writes = rest.writes ∙ reads.1.writes; later = omega (arith, rest.later, reads.1.later) }
 
-pub stays_refused : (tells : Bool) (asked : Option Format) (place : ℕ) (news : List NewSeen) (fault : OpenFault) (old new : StoreSeen) → IsRefusedAt tells asked place news fault old new → Stays old new
+pub stays_refused : (tells : Bool) (asked : Asked) (place : ℕ) (news : List NewSeen) (fault : OpenFault) (old new : StoreSeen) → IsRefusedAt tells asked place news fault old new → Stays old new
 stays_refused tells asked place [] fault old new refused = absurd refused
 stays_refused tells asked zero (one ∷ news) fault old new refused = record { files = refused.0.files; writes = refused.0.writes; later = refused.0.later }
 stays_refused tells asked (suc place) (one ∷ news) fault old new refused =
@@ -51,14 +52,14 @@ pub synced_each : {done : Bool} (news : List NewSeen) (old new : StoreSeen) → 
 synced_each {done} [] old new is = subst (λ (s : StoreSeen). Syncs done old s) (sym is) (syncs-none old)
 synced_each (one ∷ news) old new reads = syncs-after_read one.file old reads.0 new reads.1 (synced_each news reads.0 new reads.2)
 
-pub synced_refused : (tells : Bool) (asked : Option Format) (place : ℕ) (news : List NewSeen) (fault : OpenFault) (old new : StoreSeen) → IsRefusedAt tells asked place news fault old new → Syncs false old new
+pub synced_refused : (tells : Bool) (asked : Asked) (place : ℕ) (news : List NewSeen) (fault : OpenFault) (old new : StoreSeen) → IsRefusedAt tells asked place news fault old new → Syncs false old new
 synced_refused tells asked place [] fault old new refused = absurd refused
 synced_refused tells asked zero (one ∷ news) fault old new refused = syncs-read one.file old new refused.0
 synced_refused tells asked (suc place) (one ∷ news) fault old new refused =
     syncs-after_read one.file old refused.0 new refused.1 (synced_refused tells asked place news fault refused.0 new refused.2)
 
 -- the opened files are those of the formats that were asked for
-pub asked_all : (asked : Option Format) (news : List NewSeen) (old new : List ExportSeen) → AreAdded asked news old new
+pub asked_all : (asked : Asked) (news : List NewSeen) (old new : List ExportSeen) → AreAdded asked news old new
     → All (λ (e : ExportSeen). IsOpenedAs asked e.file.format) old → All (λ (e : ExportSeen). IsOpenedAs asked e.file.format) new
 asked_all asked [] old new is all = subst (All (λ (e : ExportSeen). IsOpenedAs asked e.file.format)) (sym is) all
 asked_all asked (one ∷ news) old new is all =
@@ -85,16 +86,16 @@ few_news before [] may = omega arith
 few_news before (one ∷ news) may = omega (arith, few_all before (one ∷ news) may (omega (arith, few_before before one may.0)))
 
 -- each of these files is seen as a value
-abbrev pub AllSeen : Option Format → World → List NewSeen → Type 0
+abbrev pub AllSeen : Asked → World → List NewSeen → Type 0
 AllSeen asked files [] = ⊤
 AllSeen asked files (one ∷ news) = ((value : QuotaValue) × IsView (files one.file) one.kind asked (Ok value)) × AllSeen asked files news
 
-pub all_seen : (asked : Option Format) (files : World) (news : List NewSeen) (before exported : ExportedValues) → AreToldOf asked files news before exported → AllSeen asked files news
+pub all_seen : (asked : Asked) (files : World) (news : List NewSeen) (before exported : ExportedValues) → AreToldOf asked files news before exported → AllSeen asked files news
 all_seen asked files [] before exported is = tt
 all_seen asked files (one ∷ news) before exported is = ((is.0, is.1), all_seen asked files news (with_export before one.path one.kind is.0) exported is.2)
 
 -- All that is said where files are added.
-pub record AllAdded (tells : Bool) (asked : Option Format) (news : List NewSeen) (result : Result (Unit {0}) AddFault) (was is : List ExportSeen) (served serving : ExportedValues → Type 0) (old new : StoreSeen) : Type 0 where
+pub record AllAdded (tells : Bool) (asked : Asked) (news : List NewSeen) (result : Result (Unit {0}) AddFault) (was is : List ExportSeen) (served serving : ExportedValues → Type 0) (old new : StoreSeen) : Type 0 where
   pub added : AreAdded asked (added_of news result) was is
   pub serves : IsTrue tells → (before : ExportedValues) → served before → (exported : ExportedValues) × AreToldOf asked old.files (added_of news result) before exported × serving exported
   pub leaves : OnOk result (ReadsEach news old new)
@@ -102,7 +103,7 @@ pub record AllAdded (tells : Bool) (asked : Option Format) (news : List NewSeen)
   pub refused : IfErr result (λ met. IsRefusedAt tells asked met.place news met.fault old new)
   pub within : IfErr result (λ met. met.place < length news)
 
-pub all_none : (tells : Bool) (asked : Option Format) (was : List ExportSeen) (served : ExportedValues → Type 0) (store : StoreSeen) → AllAdded tells asked [] (Ok tt) was was served served store store
+pub all_none : (tells : Bool) (asked : Asked) (was : List ExportSeen) (served : ExportedValues → Type 0) (store : StoreSeen) → AllAdded tells asked [] (Ok tt) was was served served store store
 all_none tells asked was served store = record {
   added = refl;
   serves = λ told before is. (before, refl, is);
@@ -129,7 +130,7 @@ err_later P Q (Ok done) so on = tt
 err_later P Q (Err met) so on = so met on
 
 -- one was added, and then the others behind it
-pub all_more : (tells : Bool) (asked : Option Format) (one : NewSeen) (news : List NewSeen) (result : Result (Unit {0}) AddFault) (was between is : List ExportSeen) (served middle serves : ExportedValues → Type 0) (old mid new : StoreSeen)
+pub all_more : (tells : Bool) (asked : Asked) (one : NewSeen) (news : List NewSeen) (result : Result (Unit {0}) AddFault) (was between is : List ExportSeen) (served middle serves : ExportedValues → Type 0) (old mid new : StoreSeen)
     → OnlyReads true one.file old mid → (opened : Format) × IsOpenedAs asked opened × (between ≡ was ++ fresh_export one.path one.kind one.file opened ∷ [])
     → (IsTrue tells → (value : QuotaValue) × IsView (old.files one.file) one.kind asked (Ok value))
     → (IsTrue tells → (before : ExportedValues) (value : QuotaValue) → served before → IsView (old.files one.file) one.kind asked (Ok value) → middle (with_export before one.path one.kind value))
@@ -159,7 +160,7 @@ all_more tells asked one news result was between is served middle serves old mid
 }
 
 -- the first one was not added
-pub all_refused : (tells : Bool) (asked : Option Format) (one : NewSeen) (news : List NewSeen) (fault : OpenFault) (was is : List ExportSeen) (served serves : ExportedValues → Type 0) (old new : StoreSeen)
+pub all_refused : (tells : Bool) (asked : Asked) (one : NewSeen) (news : List NewSeen) (fault : OpenFault) (was is : List ExportSeen) (served serves : ExportedValues → Type 0) (old new : StoreSeen)
     → OnlyReads false one.file old new → IsOpenFault old.faults new.faults tells (old.files one.file) one.kind asked fault → is ≡ was → ((before : ExportedValues) → served before → serves before)
     → (IsTrue tells → new.reads ≤ old.reads + opening_reads asked (bytes_of (old.files one.file)))
     → AllAdded tells asked (one ∷ news) (Err (record { place = 0; fault = fault })) was is served serves old new
@@ -180,7 +181,7 @@ serves_kept tells old new was is exported same files serves = record {
 }
 
 -- the same of an equal list, and of an equal result
-pub all_of : (tells : Bool) (asked : Option Format) (news other : List NewSeen) (result answered : Result (Unit {0}) AddFault) (was is : List ExportSeen) (served serves : ExportedValues → Type 0) (old new : StoreSeen)
+pub all_of : (tells : Bool) (asked : Asked) (news other : List NewSeen) (result answered : Result (Unit {0}) AddFault) (was is : List ExportSeen) (served serves : ExportedValues → Type 0) (old new : StoreSeen)
     → other ≡ news → answered ≡ result → AllAdded tells asked news result was is served serves old new → AllAdded tells asked other answered was is served serves old new
 all_of tells asked news other result answered was is served serves old new list_is result_is all =
     subst (λ (l : List NewSeen). AllAdded tells asked l answered was is served serves old new) (sym list_is)

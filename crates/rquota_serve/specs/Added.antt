@@ -1,9 +1,10 @@
 -- What adding quota files to exports leaves, file by file.
-use Rattle.std.specs.Prelude.{◌≡◌, ◌+◌, ℕ, zero, suc, Bool, true, false, List, [], ◌∷◌, ◌++◌, map, take, Option, Result, Ok, Err}
+use Rattle.std.specs.Prelude.{◌≡◌, ◌+◌, ℕ, zero, suc, Bool, true, false, List, [], ◌∷◌, ◌++◌, map, take, Result, Ok, Err}
 use Rattle.quota_types.specs.declared.file_kind.Format.{Format}
 use Rattle.outside.specs.Frame.{OnlyReads}
 use Rattle.outside.specs.Seen.{StoreSeen}
 use Rattle.opened_file.specs.declared.quota_file.OpenFault.{OpenFault}
+use Rattle.quota_map.specs.Asked.{Asked}
 use Rattle.quota_map.specs.View.{IsOpenFault, IsOpenedAs}
 use Rattle.rquota_serve.specs.Exports.{fresh_export}
 use Rattle.rquota_serve.specs.ExportSeen.{ExportSeen}
@@ -35,7 +36,7 @@ one_later (Ok done) = Ok done
 one_later (Err met) = Err (record met { place = met.place + 1 })
 
 -- The exports are the old ones, and behind them these files in their order, each opened as the format that is asked for.
-abbrev pub AreAdded : Option Format → List NewSeen → (old new : List ExportSeen) → Type 0
+abbrev pub AreAdded : Asked → List NewSeen → (old new : List ExportSeen) → Type 0
 AreAdded asked [] old new = new ≡ old
 AreAdded asked (one ∷ news) old new =
     (opened : Format) × IsOpenedAs asked opened
@@ -47,7 +48,7 @@ ReadsEach [] old new = new ≡ old
 ReadsEach (one ∷ news) old new = (between : StoreSeen) × OnlyReads true one.file old between × ReadsEach news between new
 
 -- The file at this place was not opened, for this reason, once those before it were read; none behind it was tried.
-abbrev pub IsRefusedAt : Bool → Option Format → ℕ → List NewSeen → OpenFault → (old new : StoreSeen) → Type 0
+abbrev pub IsRefusedAt : Bool → Asked → ℕ → List NewSeen → OpenFault → (old new : StoreSeen) → Type 0
 IsRefusedAt tells asked place [] fault old new = ⊥
 IsRefusedAt tells asked zero (one ∷ news) fault old new =
     OnlyReads false one.file old new × IsOpenFault old.faults new.faults tells (old.files one.file) one.kind asked fault

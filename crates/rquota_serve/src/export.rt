@@ -1,4 +1,5 @@
 ghost use Rattle.std.specs.Prelude.{IsTrue, is_ok};
+ghost use Rattle.quota_map.specs.Asked.{asked_of};
 ghost use Rattle.quota_map.specs.AnyFile.{any_seen};
 
 use opened_file::{FileFault, OpenFault, QuotaFile};
@@ -44,18 +45,18 @@ impl Export {
         file: &str,
         format: Option<Format>,
     ) -> Result<Self, OpenFault>
-        ensures seen { IfOk result (λ export. (opened : Format) × IsOpenedAs format opened
+        ensures seen { IfOk result (λ export. (opened : Format) × IsOpenedAs (asked_of format) opened
             × (export_seen export ≡ fresh_export path.now kind file.now opened)) }
         ensures viewed { OnOk result (IsTrue S.tells → (value : QuotaValue)
-            × IsView ((S.seen store.old).files file.now) kind format (Ok value)) }
+            × IsView ((S.seen store.old).files file.now) kind (asked_of format) (Ok value)) }
         ensures held { IfOk result (λ export. IsTrue S.tells → (value : QuotaValue)
-            → IsView ((S.seen store.old).files file.now) kind format (Ok value)
+            → IsView ((S.seen store.old).files file.now) kind (asked_of format) (Ok value)
             → HoldsAny S.tells (S.seen store.new).files export.file value) }
         ensures refused { IfErr result (IsOpenFault (S.seen store.old).faults (S.seen store.new).faults S.tells
-            ((S.seen store.old).files file.now) kind format) }
+            ((S.seen store.old).files file.now) kind (asked_of format)) }
         ensures leaves { OnlyReads (is_ok result) file.now (S.seen store.old) (S.seen store.new) }
         ensures reads { IsTrue S.tells → (S.seen store.new).reads
-            ≤ (S.seen store.old).reads + opening_reads format (file_of (S.seen store.old).files file.now) }
+            ≤ (S.seen store.old).reads + opening_reads (asked_of format) (file_of (S.seen store.old).files file.now) }
         ensures commits { S.commits [] store.old store.new }
     {
         let Ok(path) = String::from_str(alloc, path) else {

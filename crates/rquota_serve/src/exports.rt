@@ -21,6 +21,7 @@ impl Exports {
     ghost use Rattle.outside.specs.Frame.{OnlyReads};
     ghost use Rattle.quota_value.specs.QuotaValue.{QuotaValue};
     ghost use Rattle.outside.specs.World.{World};
+    ghost use Rattle.quota_map.specs.Asked.{asked_of};
     ghost use Rattle.quota_map.specs.AnyFile.{any_get_reads};
     ghost use Rattle.quota_map.specs.View.{IsOpenFault, IsOpenedAs, IsView, opening_reads};
     ghost use Rattle.file_blocks.specs.Block.{file_of};
@@ -65,20 +66,20 @@ impl Exports {
         format: Option<Format>,
     ) -> Result<(), OpenFault>
         requires { IsTrue (may_add (exports_seen self.old) path.now kind) }
-        ensures added { OnOk result ((opened : Format) × IsOpenedAs format opened
+        ensures added { OnOk result ((opened : Format) × IsOpenedAs (asked_of format) opened
             × (exports_seen self.new ≡ exports_seen self.old ++ fresh_export path.now kind file.now opened ∷ [])) }
         ensures seen { OnOk result (IsTrue S.tells → (value : QuotaValue)
-            × IsView ((S.seen store.old).files file.now) kind format (Ok value)) }
+            × IsView ((S.seen store.old).files file.now) kind (asked_of format) (Ok value)) }
         ensures serves { OnOk result (IsTrue S.tells → (exported : ExportedValues) (value : QuotaValue)
             → Serves S.tells (S.seen store.old).files self.old exported
-            → IsView ((S.seen store.old).files file.now) kind format (Ok value)
+            → IsView ((S.seen store.old).files file.now) kind (asked_of format) (Ok value)
             → Serves S.tells (S.seen store.new).files self.new (with_export exported path.now kind value)) }
         ensures refused { IfErr result (IsOpenFault (S.seen store.old).faults (S.seen store.new).faults S.tells
-            ((S.seen store.old).files file.now) kind format) }
+            ((S.seen store.old).files file.now) kind (asked_of format)) }
         ensures unchanged { OnErr result (kept_in self.new ≡ kept_in self.old) }
         ensures leaves { OnlyReads (is_ok result) file.now (S.seen store.old) (S.seen store.new) }
         ensures reads { IsTrue S.tells → (S.seen store.new).reads
-            ≤ (S.seen store.old).reads + opening_reads format (file_of (S.seen store.old).files file.now) }
+            ≤ (S.seen store.old).reads + opening_reads (asked_of format) (file_of (S.seen store.old).files file.now) }
         // Nothing is committed.
         ensures commits { S.commits [] store.old store.new }
     {
@@ -103,16 +104,17 @@ impl Exports {
         format: Option<Format>,
     ) -> Result<(), AddFault>
         requires { MayAddAll (exports_seen self.old) (news_seen list.now) }
-        ensures added { AreAdded format (added_of (news_seen list.now) result) (exports_seen self.old) (exports_seen self.new) }
+        ensures added { AreAdded (asked_of format) (added_of (news_seen list.now) result) (exports_seen self.old) (exports_seen self.new) }
         ensures serves { IsTrue S.tells → (before : ExportedValues) → Serves S.tells (S.seen store.old).files self.old before
             → (exported : ExportedValues)
-            × AreToldOf format (S.seen store.old).files (added_of (news_seen list.now) result) before exported
+            × AreToldOf (asked_of format) (S.seen store.old).files (added_of (news_seen list.now) result)
+            before exported
             × Serves S.tells (S.seen store.new).files self.new exported }
         ensures leaves { OnOk result (ReadsEach (news_seen list.now) (S.seen store.old) (S.seen store.new)) }
         ensures reads { IsTrue S.tells → (S.seen store.new).reads ≤ (S.seen store.old).reads
-            + reads_of format (S.seen store.old).files (tried_of (news_seen list.now) result) }
-        ensures refused { IfErr result (λ met. IsRefusedAt S.tells format met.place (news_seen list.now) met.fault
-            (S.seen store.old) (S.seen store.new)) }
+            + reads_of (asked_of format) (S.seen store.old).files (tried_of (news_seen list.now) result) }
+        ensures refused { IfErr result (λ met. IsRefusedAt S.tells (asked_of format) met.place (news_seen list.now)
+            met.fault (S.seen store.old) (S.seen store.new)) }
         ensures within { IfErr result (λ met. met.place < length list.now) }
         // Nothing is committed.
         ensures commits { S.commits [] store.old store.new }

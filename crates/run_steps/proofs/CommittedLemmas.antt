@@ -3,9 +3,9 @@ use Rattle.std.proofs.Common.{◌≡◌, inl, inr, ℕ, Bool, false, IsTrue, Lis
 use Rattle.std.proofs.lemmas.Bool.{false≢true}
 use Rattle.std.proofs.lemmas.List.Elements.{All-append, All-cons, All-nil, All-weaker}
 use Rattle.quota_types.specs.declared.file_kind.Kind.{Kind}
-use Rattle.quota_types.specs.declared.file_kind.Format.{Format}
 use Rattle.outside.specs.World.{World}
 use Rattle.quota_value.specs.QuotaValue.{QuotaValue}
+use Rattle.quota_map.specs.Asked.{Asked}
 use Rattle.quota_map.specs.View.{IsView}
 use Rattle.refusals.specs.Outcome.{Outcome, Passed}
 use Rattle.refusals.specs.declared.reason.Refusal.{Refusal}
@@ -39,7 +39,7 @@ comes_behind act next old middle files follows to =
     record { done = act ∷ to.done; hand = to.hand; now = to.now; begun = inr (to.done, middle, refl, follows, to.begun); there = to.there }
 
 -- those that come of the value of an opened file
-pub comes_opened : (kind : Kind) (asked : Option Format) (name : List ℕ) (next : QuotaValue → Steps) (old : Outside) (value : QuotaValue) (files : World)
+pub comes_opened : (kind : Kind) (asked : Asked) (name : List ℕ) (next : QuotaValue → Steps) (old : Outside) (value : QuotaValue) (files : World)
     → IsView (old.files name) kind asked (Ok value) → ComesTo (next value) old files → ComesTo (Opening kind asked name next) old files
 comes_opened kind asked name next old value files view to =
     record { done = to.done; hand = to.hand; now = to.now; begun = inr (value, view, to.begun); there = to.there }

@@ -2,7 +2,6 @@
 -- come to open.
 use Rattle.std.proofs.Common.{◌≡◌, inl, inr, ℕ, Bool, List, [], ◌∷◌, Option, None, Some, refl, ap}
 use Rattle.quota_types.specs.declared.file_kind.Kind.{Kind}
-use Rattle.quota_types.specs.declared.file_kind.Format.{Format}
 use Rattle.outside.specs.World.{World}
 use Rattle.quota_value.specs.QuotaValue.{QuotaValue}
 use Rattle.id_names.specs.NamesFile.{NameLine}
@@ -15,6 +14,7 @@ use Rattle.run_steps.specs.SameViews.{FileAsked, IsSameFile, LooksAlikeBy, Opens
 use Rattle.run_steps.specs.Steps.{Naming, Opening, Steps, Then}
 use Rattle.run_steps.specs.Carrying.{AreDoneThen}
 use Rattle.run_steps.specs.Taking.{Taking, file_said}
+use Rattle.quota_map.specs.Asked.{Asked}
 
 -- Their looks are alike.
 
@@ -61,7 +61,7 @@ opens_taking holds None is_whole read next old file each opens = opens_then hold
 opens_taking holds (Some name) is_whole read next old file each opens = opens_then holds (file_said name read (old.files name)) next old file each opens
 
 -- the file of an opening, or one that is opened behind it
-pub opens_opening : (holds : Type 0) (kind : Kind) (asked : Option Format) (name : List ℕ) (next : QuotaValue → Steps) (old : Outside) (file : FileAsked)
+pub opens_opening : (holds : Type 0) (kind : Kind) (asked : Asked) (name : List ℕ) (next : QuotaValue → Steps) (old : Outside) (file : FileAsked)
     → (file ≡ record { kind = kind; asked = asked; name = name } → holds) → ((value : QuotaValue) → Opens (next value) old file → holds) → Opens (Opening kind asked name next) old file → holds
 opens_opening holds kind asked name next old file this each (inl is) = this is
 opens_opening holds kind asked name next old file this each (inr (value, seen, opens)) = each value opens

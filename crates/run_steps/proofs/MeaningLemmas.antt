@@ -4,10 +4,10 @@ use Rattle.std.specs.Prelude.{◌&&◌}
 use Rattle.std.proofs.lemmas.Bool.{false≢true}
 use Rattle.std.proofs.lemmas.Option.{none-some}
 use Rattle.quota_types.specs.declared.file_kind.Kind.{Kind}
-use Rattle.quota_types.specs.declared.file_kind.Format.{Format}
 use Rattle.outside.specs.Seen.{Datagram}
 use Rattle.outside.specs.World.{World}
 use Rattle.quota_value.specs.QuotaValue.{QuotaValue}
+use Rattle.quota_map.specs.Asked.{Asked}
 use Rattle.quota_map.specs.View.{IsView}
 use Rattle.quota_map.proofs.SeenLemmas.{view_or_refused}
 use Rattle.refusals.specs.declared.reason.Refusal.{Refusal}
@@ -159,7 +159,7 @@ same_received looks takes one other datagram datagram' one' other' same first se
     (cc, record { files = same.files; input = same.input; datagrams = left })
 
 -- where files were looked at, one that is seen as a value is seen so in both
-seen_both : (kind : Kind) (asked : Option Format) (name : List ℕ) (one other : World) (value value' : QuotaValue) → one ≡ other → IsView (one name) kind asked (Ok value) → IsView (other name) kind asked (Ok value') → value ≡ value'
+seen_both : (kind : Kind) (asked : Asked) (name : List ℕ) (one other : World) (value value' : QuotaValue) → one ≡ other → IsView (one name) kind asked (Ok value) → IsView (other name) kind asked (Ok value') → value ≡ value'
 seen_both kind asked name one other value value' same view view' =
     seen_once (other name) kind asked value value' (subst (λ (w : World). IsView (w name) kind asked (Ok value)) same view) view'
 

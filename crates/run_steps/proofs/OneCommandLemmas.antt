@@ -2,8 +2,8 @@
 use Rattle.std.proofs.Common.{◌≡◌, ◌⊎◌, inl, inr, ℕ, Bool, true, false, IsTrue, List, [], ◌∷◌, Option, None, Some, Ok, refl, sym, subst}
 use Rattle.std.specs.Prelude.{◌&&◌}
 use Rattle.quota_types.specs.declared.file_kind.Kind.{Kind}
-use Rattle.quota_types.specs.declared.file_kind.Format.{Format}
 use Rattle.quota_value.specs.QuotaValue.{QuotaValue}
+use Rattle.quota_map.specs.Asked.{Asked}
 use Rattle.quota_map.specs.View.{IsView}
 use Rattle.quota_map.proofs.SeenLemmas.{view_or_refused}
 use Rattle.id_names.specs.NamesFile.{NameLine}
@@ -66,7 +66,7 @@ pub sure_naming : (kind : Kind) (names : Option (List ℕ)) (next : List NameLin
 sure_naming kind names next lines old seen sure = sure_then (names_seen kind names old.files) next lines old seen sure
 
 -- the file that is opened is accepted
-pub sure_opening : (kind : Kind) (asked : Option Format) (name : List ℕ) (next : QuotaValue → Steps) (value : QuotaValue) (old : Outside) → IsView (old.files name) kind asked (Ok value) → IsSure (next value) old
+pub sure_opening : (kind : Kind) (asked : Asked) (name : List ℕ) (next : QuotaValue → Steps) (value : QuotaValue) (old : Outside) → IsView (old.files name) kind asked (Ok value) → IsSure (next value) old
     → IsSure (Opening kind asked name next) old
 sure_opening kind asked name next value old view sure = (
   λ fault refused. view_or_refused (old.files name) kind asked value fault view refused,

@@ -1,7 +1,6 @@
 -- What is seen once objects outside were used, and commands whose file was not opened.
 use Rattle.std.proofs.Common.{◌≡◌, ◌≢◌, ℕ, ◌≤◌, Bool, List, [], Option, Some, Err, inr, refl, sym, ap, arith, append-nil}
 use Rattle.quota_types.specs.declared.file_kind.Kind.{Kind}
-use Rattle.quota_types.specs.declared.file_kind.Format.{Format}
 use Rattle.outside.specs.Frame.{OnlyReads}
 use Rattle.quota_value.specs.QuotaValue.{QuotaValue}
 use Rattle.outside.specs.Seen.{SinkSeen, SourceSeen, StoreSeen}
@@ -10,6 +9,7 @@ use Rattle.opened_file.specs.declared.quota_file.OpenFault.{OpenFault}
 use Rattle.opened_file.specs.declared.quota_file.OpenFault.TheVariants.{Store, NoFile, TooLarge, Memory, FormatMismatch, Damage}
 use Rattle.opened_file.specs.declared.quota_file.FileFault.{FileFault}
 use Rattle.opened_file.specs.declared.quota_file.FileFault.TheVariants.{Store as CallFailed, Damage as FileDamaged, Full as NoBlocks, Memory as NoMemory}
+use Rattle.quota_map.specs.Asked.{Asked}
 use Rattle.quota_map.specs.View.{IsOpenFault}
 use Rattle.quota_map.proofs.OpeningLemmas.{IsFaultAs, open_as}
 use Rattle.quota_map.proofs.SeenLemmas.{IsOfCall, fault_seen, store_rose}
@@ -121,7 +121,7 @@ refused_reads name steps uses may tells old store refusal other reads reason all
     (λ told. nothing_read steps name tells old store other reads) reason allowed placed
 
 -- a refusal that is seen of the file
-seen_steps : {done : Bool} (name : List ℕ) (kind : Kind) (asked : Option Format) (next : QuotaValue → Steps) (tells : RunTells) (old : RunSeen) (store : StoreSeen) (fault : OpenFault)
+seen_steps : {done : Bool} (name : List ℕ) (kind : Kind) (asked : Asked) (next : QuotaValue → Steps) (tells : RunTells) (old : RunSeen) (store : StoreSeen) (fault : OpenFault)
     → OnlyReads done name old.store store → IsOpenFault old.store.faults store.faults tells.store (old.store.files name) kind asked fault → (IsOfCall fault → ⊥) → IsWorldTold tells
     → HasSteps (Opening kind asked name next) tells (Some (refusal_of (opening_cause fault) name)) old (with_store old store)
 seen_steps name kind asked next tells old store fault reads cause own told =
@@ -129,7 +129,7 @@ seen_steps name kind asked next tells old store fault reads cause own told =
     (λ new same. inr (fault, fault_seen _ _ _ _ kind asked fault cause told.store own, record { acts_none = refl; same = same; ends = refl }))
 
 -- the reason for which a file was not opened
-open_reason : {done : Bool} (uses : Uses) (name : List ℕ) (kind : Kind) (asked : Option Format) (next : QuotaValue → Steps) (tells : RunTells) (old : RunSeen) (store : StoreSeen) (fault : OpenFault)
+open_reason : {done : Bool} (uses : Uses) (name : List ℕ) (kind : Kind) (asked : Asked) (next : QuotaValue → Steps) (tells : RunTells) (old : RunSeen) (store : StoreSeen) (fault : OpenFault)
     → OnlyReads done name old.store store → IsOpenFault old.store.faults store.faults tells.store (old.store.files name) kind asked fault
     → HasReason uses old (with_store old store)
     (IsWorldTold tells → HasSteps (Opening kind asked name next) tells (Some (refusal_of (opening_cause fault) name)) old (with_store old store)) (opening_cause fault)
@@ -138,7 +138,7 @@ open_reason uses name kind asked next tells old store Memory reads cause = tt
 open_reason uses name kind asked next tells old store fault reads cause = seen_steps name kind asked next tells old store fault reads cause (λ own. own)
 
 -- what is said where opening is refused may be said of a file of its format
-as_may : (name : List ℕ) (asked : Option Format) (fault : OpenFault) → IsFaultAs asked fault → MayRefuseOpening asked name (opening_cause fault) name
+as_may : (name : List ℕ) (asked : Asked) (fault : OpenFault) → IsFaultAs asked fault → MayRefuseOpening asked name (opening_cause fault) name
 as_may name asked Store is = tt
 as_may name asked NoFile is = refl
 as_may name asked (TooLarge number limit) is = refl
@@ -148,7 +148,7 @@ as_may name asked (Damage damage) is = (is, refl)
 as_may name asked _ is = (is, refl)
 
 -- A command that opens a file was carried out where that file was not opened.
-pub not_opened : {done : Bool} (kind : Kind) (asked : Option Format) (name : List ℕ) (next : QuotaValue → Steps) (uses : Uses) (may : Cause → List ℕ → Type 0) (tells : RunTells) (old : RunSeen) (store : StoreSeen) (fault : OpenFault)
+pub not_opened : {done : Bool} (kind : Kind) (asked : Asked) (name : List ℕ) (next : QuotaValue → Steps) (uses : Uses) (may : Cause → List ℕ → Type 0) (tells : RunTells) (old : RunSeen) (store : StoreSeen) (fault : OpenFault)
     → IsOpenFault old.store.faults store.faults tells.store (old.store.files name) kind asked fault → OnlyReads done name old.store store
     → ((cause : Cause) → MayRefuseOpening asked name cause name → may cause name)
     → CarriesOut (Opening kind asked name next) uses may tells old (with_store old store) (Err (refusal_of (opening_cause fault) name))

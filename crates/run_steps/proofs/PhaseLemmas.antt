@@ -6,11 +6,11 @@ use Rattle.std.proofs.lemmas.Bool.{false≢true}
 use Rattle.std.proofs.lemmas.Result.{IfErr-weaker, on_ok_weaker}
 use Rattle.quota_types.specs.declared.file_kind.Kind.{Kind}
 use Rattle.quota_types.specs.declared.file_kind.Kind.TheVariants.{User}
-use Rattle.quota_types.specs.declared.file_kind.Format.{Format}
 use Rattle.quota_types.specs.declared.file_kind.Format.TheVariants.{V1}
 use Rattle.outside.specs.Frame.{OnlyReads}
 use Rattle.quota_value.specs.QuotaValue.{QuotaValue}
 use Rattle.outside.specs.Seen.{SourceSeen, StoreSeen}
+use Rattle.quota_map.specs.Asked.{Asked}
 use Rattle.quota_map.specs.View.{IsView}
 use Rattle.outside.specs.World.{World}
 use Rattle.id_names.specs.NamesFile.{NameLine}
@@ -79,7 +79,7 @@ leads_looking next looked from same =
     let leads = leads_same next (looked from.files) from same in record { ends = leads.ends; begun = leads.begun }
 
 -- a file that is seen as a value leads to the steps of that value
-pub leads_opening : (kind : Kind) (asked : Option Format) (name : List ℕ) (next : QuotaValue → Steps) (value : QuotaValue) (from : Outside) → IsView (from.files name) kind asked (Ok value)
+pub leads_opening : (kind : Kind) (asked : Asked) (name : List ℕ) (next : QuotaValue → Steps) (value : QuotaValue) (from : Outside) → IsView (from.files name) kind asked (Ok value)
     → LeadsTo (next value) from (Opening kind asked name next) from
 leads_opening kind asked name next value from view = record {
   ends = λ acts to ended by. inl (value, view, by);
@@ -230,7 +230,7 @@ some_value true sees seen = let one = seen refl in (one.0, λ told. one.1)
 some_value false sees seen = (nothing_value, λ told. absurd (false≢true told))
 
 -- a file was opened, and the next steps were carried out over each value that may be seen of it
-pub carries_opening : {done : Bool} (name : List ℕ) (kind : Kind) (asked : Option Format) (next : QuotaValue → Steps) (uses : Uses) (may more : Cause → List ℕ → Type 0) (tells : RunTells) (old : RunSeen) (store : StoreSeen) (new : RunSeen) (result : Result (Unit {0}) Refusal)
+pub carries_opening : {done : Bool} (name : List ℕ) (kind : Kind) (asked : Asked) (next : QuotaValue → Steps) (uses : Uses) (may more : Cause → List ℕ → Type 0) (tells : RunTells) (old : RunSeen) (store : StoreSeen) (new : RunSeen) (result : Result (Unit {0}) Refusal)
     → OnlyReads done name old.store store → (IsTrue tells.store → (value : QuotaValue) × IsView (old.store.files name) kind asked (Ok value)) → ((cause : Cause) (said : List ℕ) → may cause said → more cause said)
     → ((value : QuotaValue) → (IsTrue tells.store → IsView (old.store.files name) kind asked (Ok value)) → CarriesOut (next value) uses may tells (with_store old store) new result)
     → CarriesOut (Opening kind asked name next) uses more tells old new result

@@ -3,12 +3,12 @@ use Rattle.std.proofs.Common.{◌≡◌, ◌⊎◌, inl, inr, ℕ, Bool, true, f
 use Rattle.std.specs.Prelude.{◌&&◌, ⊤}
 use Rattle.std.proofs.lemmas.Bool.{false≢true}
 use Rattle.quota_types.specs.declared.file_kind.Kind.{Kind}
-use Rattle.quota_types.specs.declared.file_kind.Format.{Format}
 use Rattle.outside.specs.Seen.{Datagram}
 use Rattle.outside.specs.World.{KeepsOthers, World, with_file}
 use Rattle.quota_value.specs.QuotaValue.{QuotaValue}
 use Rattle.opened_file.specs.declared.quota_file.OpenFault.{OpenFault}
 use Rattle.outside.proofs.WorldLemmas.{bytes_eq-ne, bytes_eq-same}
+use Rattle.quota_map.specs.Asked.{Asked, InFormat}
 use Rattle.quota_map.specs.View.{IsView}
 use Rattle.refusals.specs.declared.reason.Refusal.{Refusal}
 use Rattle.refusals.specs.Refusals.{in_line, refusal_of}
@@ -25,12 +25,12 @@ use Rattle.run_steps.proofs.RoomLemmas.{full_ended, full_ends, full_in_line, unl
 -- Files that are seen alike.
 
 -- what is seen of the one is seen of the other
-seen_too : (kind : Kind) (asked : Option Format) (one other : Option (List ℕ)) (view : Result QuotaValue OpenFault) → IsSeenAlike kind asked one other → IsView one kind asked view → IsView other kind asked view
+seen_too : (kind : Kind) (asked : Asked) (one other : Option (List ℕ)) (view : Result QuotaValue OpenFault) → IsSeenAlike kind asked one other → IsView one kind asked view → IsView other kind asked view
 seen_too kind asked one other view alike seen =
     subst (λ (v : Result QuotaValue OpenFault). IsView other kind asked v) (one_view one kind asked alike.view view alike.undamaged alike.in_one seen) alike.in_other
 
 -- what is seen of the one and of the other is the same
-seen_same : (kind : Kind) (asked : Option Format) (one other : Option (List ℕ)) (view also : Result QuotaValue OpenFault) → IsSeenAlike kind asked one other
+seen_same : (kind : Kind) (asked : Asked) (one other : Option (List ℕ)) (view also : Result QuotaValue OpenFault) → IsSeenAlike kind asked one other
     → IsView one kind asked view → IsView other kind asked also → view ≡ also
 seen_same kind asked one other view also alike seen in_other =
     sym (one_view one kind asked alike.view view alike.undamaged alike.in_one seen) ∙ one_view other kind asked alike.view also alike.undamaged alike.in_other in_other
@@ -235,7 +235,7 @@ seen_as_too : (name : List ℕ) (value : QuotaValue) (new from : World) → IsSe
 seen_as_too name value new from seen = (
   with_file from name (new name),
   (
-    subst (λ (f : Option (List ℕ)). IsView f value.kind (Some value.format) (Ok value)) (sym (ap (λ (b : Bool). if b then new name else from name) (bytes_eq-same name))) seen,
+    subst (λ (f : Option (List ℕ)). IsView f value.kind (InFormat value.format) (Ok value)) (sym (ap (λ (b : Bool). if b then new name else from name) (bytes_eq-same name))) seen,
     λ other differ. ap (λ (b : Bool). if b then new name else from other) (bytes_eq-ne name other (λ is. differ (sym is))),
   ),
 )

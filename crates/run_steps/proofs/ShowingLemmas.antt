@@ -12,6 +12,7 @@ use Rattle.outside.specs.Seen.{SinkSeen, StoreSeen}
 use Rattle.outside.specs.Text.{AppendsPrefix}
 use Rattle.opened_file.specs.declared.quota_file.FileFault.{FileFault}
 use Rattle.opened_file.specs.declared.quota_file.FileFault.TheVariants.{Store as StoreFailed, Damage as FileDamaged, Full as NoBlocks, Memory as NoMemory}
+use Rattle.quota_map.specs.Asked.{AnyTree, Asked, InFormat}
 use Rattle.quota_map.specs.AnyFile.{MayRefuse}
 use Rattle.quota_map.specs.View.{IsOpenedAs, IsView, IsDamageAs}
 use Rattle.std.proofs.lemmas.Bool.{false≢true}
@@ -33,7 +34,7 @@ use Rattle.run_steps.proofs.PartLemmas.{carried_whole, part_from}
 
 -- What was done while a text was shown: the store was only read, and the output got the text about each value that the file
 -- is seen as, or a prefix of it.
-pub record IsShowing (kind : Kind) (asked : Option Format) (name : List ℕ) (text : QuotaValue → List ℕ) (tells : RunTells) (old : RunSeen) (store : StoreSeen) (out : SinkSeen) : Type 0 where
+pub record IsShowing (kind : Kind) (asked : Asked) (name : List ℕ) (text : QuotaValue → List ℕ) (tells : RunTells) (old : RunSeen) (store : StoreSeen) (out : SinkSeen) : Type 0 where
   pub seen : IsTrue tells.store → (value : QuotaValue) × IsView (old.store.files name) kind asked (Ok value)
   pub reads : OnlyReads false name old.store store
   pub prefix : IsTrue tells.store → IsTrue tells.out → (value : QuotaValue) → IsView (old.store.files name) kind asked (Ok value)
@@ -87,7 +88,7 @@ told_steps text tells old store out same whole = record {
 }
 
 -- a text that is shown, or a prefix of it
-text_begun : {why : Option Cause} (kind : Kind) (asked : Option Format) (name : List ℕ) (text : QuotaValue → List ℕ) (tells : RunTells) (old : RunSeen) (store : StoreSeen) (out : SinkSeen)
+text_begun : {why : Option Cause} (kind : Kind) (asked : Asked) (name : List ℕ) (text : QuotaValue → List ℕ) (tells : RunTells) (old : RunSeen) (store : StoreSeen) (out : SinkSeen)
     → IsShowing kind asked name text tells old store out → (why ≡ Some SinkFault → Rose old.out.faults out.faults) → IsTrue tells.store
     → IsDoneInPart (ShowingSteps kind asked name text) tells why old (with_out old store out)
 text_begun kind asked name text tells old store out showing rose told =
@@ -98,7 +99,7 @@ text_begun kind asked name text tells old store out showing rose told =
     (λ out_told. showing.prefix told out_told good.0 good.1))
 
 -- a text was shown whole
-pub shown_whole : (kind : Kind) (asked : Option Format) (name : List ℕ) (text : QuotaValue → List ℕ) (may : Cause → List ℕ → Type 0) (tells : RunTells) (old : RunSeen) (store : StoreSeen) (out : SinkSeen)
+pub shown_whole : (kind : Kind) (asked : Asked) (name : List ℕ) (text : QuotaValue → List ℕ) (may : Cause → List ℕ → Type 0) (tells : RunTells) (old : RunSeen) (store : StoreSeen) (out : SinkSeen)
     → IsShowing kind asked name text tells old store out
     → (IsTrue tells.store → IsTrue tells.out → (value : QuotaValue) → IsView (old.store.files name) kind asked (Ok value)
     → out.written ≡ old.out.written ++ text value)
@@ -114,12 +115,12 @@ shown_whole kind asked name text may tells old store out showing written =
     (record { store = showing.reads.later; input = omega arith; out = showing.later; err = omega arith; link = omega arith })
 
 -- Why a text was not shown whole: its cause is no fault of the effect, and it is one that may be.
-pub record IsUnshown (asked : Option Format) (name : List ℕ) (tells : RunTells) (old : RunSeen) (store : StoreSeen) (out : SinkSeen) (cause : Cause) : Type 1 where
+pub record IsUnshown (asked : Asked) (name : List ℕ) (tells : RunTells) (old : RunSeen) (store : StoreSeen) (out : SinkSeen) (cause : Cause) : Type 1 where
   pub reason : (stated : Type 0) → HasReason showing_uses old (with_out old store out) (IsWorldTold tells → stated) cause
   pub may : ShowingMayRefuse asked name cause name
 
 -- a text was not shown whole
-pub shown_in_part : (kind : Kind) (asked : Option Format) (name : List ℕ) (text : QuotaValue → List ℕ) (tells : RunTells) (old : RunSeen) (store : StoreSeen) (out : SinkSeen) (cause : Cause)
+pub shown_in_part : (kind : Kind) (asked : Asked) (name : List ℕ) (text : QuotaValue → List ℕ) (tells : RunTells) (old : RunSeen) (store : StoreSeen) (out : SinkSeen) (cause : Cause)
     → IsShowing kind asked name text tells old store out → IsUnshown asked name tells old store out cause
     → CarriesOut (ShowingSteps kind asked name text) showing_uses (ShowingMayRefuse asked name) tells old (with_out old store out) (Err (refusal_of cause name))
 shown_in_part kind asked name text tells old store out cause showing unshown =
@@ -131,12 +132,12 @@ shown_in_part kind asked name text tells old store out cause showing unshown =
     (record { line = λ no. refl; input_line = λ no. refl })
 
 -- a damage that a call on an opened file answers is one of the format that was asked for
-pub damage_may : (asked : Option Format) (format : Format) (damage : Damage) → IsOpenedAs asked format → MayRefuse format (FileDamaged damage) → IsDamageAs asked damage
-damage_may None format damage asks may = may.tree asks
-damage_may (Some V1) format damage asks may = may.flat (ap is_flat asks)
-damage_may (Some V1R32) format damage asks may = may.flat (ap is_flat asks)
-damage_may (Some V2R0) format damage asks may = may.tree (ap is_flat asks)
-damage_may (Some V2R1) format damage asks may = may.tree (ap is_flat asks)
+pub damage_may : (asked : Asked) (format : Format) (damage : Damage) → IsOpenedAs asked format → MayRefuse format (FileDamaged damage) → IsDamageAs asked damage
+damage_may AnyTree format damage asks may = may.tree asks
+damage_may (InFormat V1) format damage asks may = may.flat (ap is_flat asks)
+damage_may (InFormat V1R32) format damage asks may = may.flat (ap is_flat asks)
+damage_may (InFormat V2R0) format damage asks may = may.tree (ap is_flat asks)
+damage_may (InFormat V2R1) format damage asks may = may.tree (ap is_flat asks)
 
 -- the reason for which a look-up was refused
 pub lookup_reason : (uses : Uses) (old new : RunSeen) (tells : RunTells) (stated : Type 0) (before : ℕ) (holds : QuotaValue → Type 0) (fault : FileFault)
@@ -148,7 +149,7 @@ lookup_reason uses old new tells stated before holds (NoBlocks blocks limit) le 
 lookup_reason uses old new tells stated before holds NoMemory le seen cause = absurd cause
 
 -- a look-up may be refused as the opening of the file may be
-pub lookup_may : (asked : Option Format) (name : List ℕ) (format : Format) (before now : ℕ) (holds : QuotaValue → Type 0) (fault : FileFault) → IsOpenedAs asked format
+pub lookup_may : (asked : Asked) (name : List ℕ) (format : Format) (before now : ℕ) (holds : QuotaValue → Type 0) (fault : FileFault) → IsOpenedAs asked format
     → IsLookupFault before now holds fault → MayRefuse format fault → MayRefuseOpening asked name (file_cause fault) name
 lookup_may asked name format before now holds StoreFailed asks cause may = tt
 lookup_may asked name format before now holds (FileDamaged damage) asks cause may = (damage_may asked format damage asks may, refl)

@@ -1,9 +1,10 @@
 -- What a command does to what is outside, act by act, and how the files follow.
-use Rattle.std.specs.Prelude.{◌≡◌, ◌⊎◌, ℕ, List, [], ◌∷◌, ◌++◌, Option, Some, Ok, ⊤}
+use Rattle.std.specs.Prelude.{◌≡◌, ◌⊎◌, ℕ, List, [], ◌∷◌, ◌++◌, Option, Ok, ⊤}
 use Rattle.outside.specs.Replacement.{ReplacesOnly}
 use Rattle.outside.specs.Seen.{Datagram, Started, started_at}
 use Rattle.outside.specs.World.{KeepsOthers, World}
 use Rattle.quota_value.specs.QuotaValue.{QuotaValue}
+use Rattle.quota_map.specs.Asked.{InFormat}
 use Rattle.quota_map.specs.AnyChange.{AnyLeaves}
 use Rattle.quota_map.specs.View.{IsView}
 
@@ -59,7 +60,7 @@ ChangesNone (_ ∷ acts) = ChangesNone acts
 
 -- the named file is seen as the value
 abbrev pub IsSeenAs : List ℕ → QuotaValue → World → Type 0
-IsSeenAs name value files = IsView (files name) value.kind (Some value.format) (Ok value)
+IsSeenAs name value files = IsView (files name) value.kind (InFormat value.format) (Ok value)
 
 -- Files follow one act. After an edit and after a replacement the named file stands for the new value; an edit leaves all other
 -- files, and a replacement all others but the one with `.new` added to the name. The other acts leave all files.
@@ -78,7 +79,7 @@ Follows (act ∷ acts) old new = (middle : World) × FollowsAct act old middle �
 abbrev pub MayBeLeft : QuotaValue → (old left : Option (List ℕ)) → Type 0
 MayBeLeft value old left =
     (left ≡ old)
-    ⊎ ((after : Option (List ℕ)) × IsView after value.kind (Some value.format) (Ok value) × AnyLeaves value.format old after left)
+    ⊎ ((after : Option (List ℕ)) × IsView after value.kind (InFormat value.format) (Ok value) × AnyLeaves value.format old after left)
 
 -- what an edit that failed leaves of other files than the named one: all; or, where it may be made by a replacement, all but the one
 -- with `.new` added to the name, and then the named file is as it was

@@ -1,12 +1,12 @@
 -- What is said where a file is not opened, or where a call on an opened file was refused.
-use Rattle.std.specs.Prelude.{◌≡◌, ℕ, IsTrue, IsSome, List, Option, ⊤}
-use Rattle.quota_types.specs.declared.file_kind.Format.{Format}
+use Rattle.std.specs.Prelude.{◌≡◌, ℕ, IsTrue, List, ⊤}
 use Rattle.opened_file.specs.declared.quota_file.FileFault.{FileFault}
 use Rattle.opened_file.specs.declared.quota_file.FileFault.TheVariants.{Store as StoreFailed, Damage as FileDamaged, Full as NoBlocks, Memory as NoMemory}
 use Rattle.opened_file.specs.declared.quota_file.OpenFault.{OpenFault}
 use Rattle.opened_file.specs.declared.quota_file.OpenFault.TheVariants.{Store, NoFile, TooLarge, Memory, NotQuota, WrongKind, UnknownVersion, BadBlockCount, FormatMismatch, Damage as NotWhole}
 use Rattle.refusals.specs.declared.cause.Cause.{Cause}
 use Rattle.refusals.specs.declared.cause.Cause.TheVariants.{StoreFault, NoFile as NoSuchFile, TooLarge as FileTooLarge, Memory as WantOfMemory, NotQuota as NoQuotaFile, WrongKind as OtherKind, UnknownVersion as OtherVersion, BadBlockCount as TooFewBlocks, OtherFormat, Damaged, Full}
+use Rattle.quota_map.specs.Asked.{Asked, asks_format}
 use Rattle.quota_map.specs.View.{IsDamageAs, asks_tree}
 
 -- what is said of a file that could not be opened
@@ -31,7 +31,7 @@ file_cause NoMemory = WantOfMemory
 
 -- The causes for which the opening of a file of this name, in the format that is asked for, may be refused, whatever is
 -- told, with the name that is said. A header is read of a tree file alone.
-abbrev pub MayRefuseOpening : Option Format → List ℕ → Cause → List ℕ → Type 0
+abbrev pub MayRefuseOpening : Asked → List ℕ → Cause → List ℕ → Type 0
 MayRefuseOpening asked file StoreFault name = ⊤
 MayRefuseOpening asked file WantOfMemory name = ⊤
 MayRefuseOpening asked file NoSuchFile name = name ≡ file
@@ -40,6 +40,6 @@ MayRefuseOpening asked file NoQuotaFile name = IsTrue (asks_tree asked) × (name
 MayRefuseOpening asked file OtherKind name = IsTrue (asks_tree asked) × (name ≡ file)
 MayRefuseOpening asked file OtherVersion name = IsTrue (asks_tree asked) × (name ≡ file)
 MayRefuseOpening asked file TooFewBlocks name = IsTrue (asks_tree asked) × (name ≡ file)
-MayRefuseOpening asked file OtherFormat name = IsTrue (asks_tree asked) × IsSome asked × (name ≡ file)
+MayRefuseOpening asked file OtherFormat name = IsTrue (asks_tree asked) × IsTrue (asks_format asked) × (name ≡ file)
 MayRefuseOpening asked file (Damaged damage) name = IsDamageAs asked damage × (name ≡ file)
 MayRefuseOpening asked file _ name = ⊥

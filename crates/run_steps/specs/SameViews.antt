@@ -1,12 +1,12 @@
 -- Two worlds in which the steps of one command see the same: the files that they open are seen as the same values, or are refused for
 -- the same causes, and from looks at the files as they are the same steps come.
 use Rattle.std.specs.Prelude.{◌≡◌, ◌⊎◌, ℕ, Bool, false, IsTrue, List, ◌∷◌, Option, IfSome, is_some, Result, Ok, ⊤}
-use Rattle.quota_types.specs.declared.file_kind.Format.{Format}
 use Rattle.quota_types.specs.declared.file_kind.Kind.{Kind}
 use Rattle.quota_value.specs.QuotaValue.{QuotaValue}
 use Rattle.outside.specs.Seen.{Datagram}
 use Rattle.outside.specs.World.{World}
 use Rattle.opened_file.specs.declared.quota_file.OpenFault.{OpenFault}
+use Rattle.quota_map.specs.Asked.{Asked}
 use Rattle.quota_map.specs.View.{IsView, IsNoDamage}
 use Rattle.refusals.specs.declared.reason.Refusal.{Refusal}
 use Rattle.run_steps.specs.Act.{Act}
@@ -17,7 +17,7 @@ use Rattle.run_steps.specs.Steps.{Steps, Ending, Doing, Looking, Opening, Readin
 
 -- Two files, of which either may be absent, are seen alike by whoever opens them for a kind, in the format that is asked for: as the
 -- same value, or as refused for the same cause, which is no damage.
-pub record IsSeenAlike (kind : Kind) (asked : Option Format) (one other : Option (List ℕ)) : Type 0 where
+pub record IsSeenAlike (kind : Kind) (asked : Asked) (one other : Option (List ℕ)) : Type 0 where
   pub view : Result QuotaValue OpenFault
   pub undamaged : IsNoDamage view
   pub in_one : IsView one kind asked view
@@ -26,7 +26,7 @@ pub record IsSeenAlike (kind : Kind) (asked : Option Format) (one other : Option
 -- a quota file that is opened: its name, whose usage it limits, and the format that is asked for
 pub record FileAsked : Type 0 where
   pub kind : Kind
-  pub asked : Option Format
+  pub asked : Asked
   pub name : List ℕ
 
 -- such a file is seen alike in two worlds

@@ -3,7 +3,6 @@
 -- succeed, is said of these forms once, in Meaning.
 use Rattle.std.specs.Prelude.{ℕ, Bool, List, [], ◌∷◌, Option, Some, None}
 use Rattle.quota_types.specs.declared.file_kind.Kind.{Kind}
-use Rattle.quota_types.specs.declared.file_kind.Format.{Format}
 use Rattle.outside.specs.Seen.{Datagram}
 use Rattle.outside.specs.World.{World}
 use Rattle.quota_value.specs.QuotaValue.{QuotaValue}
@@ -12,6 +11,7 @@ use Rattle.refusals.specs.declared.reason.Refusal.{Refusal}
 use Rattle.refusals.specs.Outcome.{Outcome, Passed, Refused}
 use Rattle.run_steps.specs.Act.{Act}
 use Rattle.run_steps.specs.Naming.{names_seen}
+use Rattle.quota_map.specs.Asked.{Asked}
 
 -- Steps are one of these: the end, with a refusal or none; an act, and the steps behind it; a look at the files as they are; a
 -- quota file of a kind that is opened, in the format that is asked for, by its name, and what comes of its value; the standard
@@ -22,7 +22,7 @@ pub data Steps : Type 0 where
   Ending : Option Refusal → Steps
   Doing : Act → Steps → Steps
   Looking : (World → Steps) → Steps
-  Opening : Kind → Option Format → List ℕ → (QuotaValue → Steps) → Steps
+  Opening : Kind → Asked → List ℕ → (QuotaValue → Steps) → Steps
   Reading : (List ℕ → Bool) → (List ℕ → Steps) → Steps
   Starting : ℕ → Steps → Steps
   Receiving : (Datagram → Steps) → Steps

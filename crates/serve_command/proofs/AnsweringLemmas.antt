@@ -5,7 +5,6 @@ use Rattle.std.specs.Option.{option_to_list}
 use Rattle.std.specs.Result.{is_err}
 use Rattle.std.proofs.lemmas.List.Elements.{All-get_or}
 use Rattle.std.proofs.lemmas.Option.{get_or_from_slice_get, slice_get_within}
-use Rattle.quota_types.specs.declared.file_kind.Format.{Format}
 use Rattle.outside.specs.Count.{Rose}
 use Rattle.outside.specs.Seen.{Datagram, LinkSeen, Started, StoreSeen}
 use Rattle.outside.specs.World.{World}
@@ -39,6 +38,7 @@ use Rattle.run_steps.proofs.WritesLemmas.{writes_for-same, writes_in_part}
 use Rattle.serve_command.specs.Serve.{AnsweringSteps, Replying}
 use Rattle.serve_steps.specs.Exporting.{AnsweringMayRefuse, serve_uses}
 use Rattle.serve_steps.specs.ServeCauses.{IsAsAsked, serve_cause}
+use Rattle.quota_map.specs.Asked.{Asked}
 
 -- what is seen once the store and the link were used
 abbrev pub with_link : RunSeen → StoreSeen → LinkSeen → RunSeen
@@ -269,7 +269,7 @@ serve_no_output (FileFailed NoMemory) is = cc
 all_at : {T : Type 0} (P : T → Type 0) (list : List T) (place : ℕ) (one : T) → All P list → slice_get list place ≡ Some one → P one
 all_at P list place one all at = subst P (get_or_from_slice_get list place one one at) (All-get_or P list place one (slice_get_within list place one at) all)
 
-serve_may : (format : Option Format) (file : List ℕ) (seen : List ExportSeen) (fault : ServeFault) → All (IsAsAsked format) seen → OnFile fault (MayRefuseOne seen)
+serve_may : (format : Asked) (file : List ℕ) (seen : List ExportSeen) (fault : ServeFault) → All (IsAsAsked format) seen → OnFile fault (MayRefuseOne seen)
     → (store_before store_now link_before link_now : ℕ) (serves : ExportedValues → Type 0) → IsServeFault store_before store_now link_before link_now serves fault
     → AnsweringMayRefuse format file (serve_cause fault) file
 serve_may format file seen LinkFailed asked may sb sn lb ln serves cause = tt
@@ -279,7 +279,7 @@ serve_may format file seen (FileFailed (FileDamaged damage)) asked may sb sn lb 
 serve_may format file seen (FileFailed (NoBlocks blocks limit)) asked may sb sn lb ln serves cause = absurd cause
 serve_may format file seen (FileFailed NoMemory) asked may sb sn lb ln serves cause = absurd cause
 
-pub stopped_carried : (exported : ExportedValues) (calls : ℕ) (format : Option Format) (file : List ℕ) (seen : List ExportSeen) (fault : ServeFault) (serves : ExportedValues → Type 0) (tells : RunTells)
+pub stopped_carried : (exported : ExportedValues) (calls : ℕ) (format : Asked) (file : List ℕ) (seen : List ExportSeen) (fault : ServeFault) (serves : ExportedValues → Type 0) (tells : RunTells)
     (old : RunSeen) (store : StoreSeen) (link : LinkSeen)
     → IsServing old store link → (IsTrue tells.store → serves exported) → (IsTrue tells.link → Stopped serves calls old.link link)
     → IsServeFault old.store.faults store.faults old.link.faults link.faults serves fault → All (IsAsAsked format) seen → OnFile fault (MayRefuseOne seen)
@@ -297,10 +297,10 @@ stopped_carried exported calls format file seen fault serves tells old store lin
 }
 
 -- the link did not start
-pub unstarted_carried : (exported : ExportedValues) (calls port : ℕ) (format : Option Format) (file : List ℕ) (tells : RunTells) (old : RunSeen) (link : LinkSeen) → link.left ≡ old.link.left → link.answers ≡ old.link.answers
+pub unstarted_carried : (exported : ExportedValues) (calls port : ℕ) (asked : Asked) (file : List ℕ) (tells : RunTells) (old : RunSeen) (link : LinkSeen) → link.left ≡ old.link.left → link.answers ≡ old.link.answers
     → (IsTrue tells.link → link.started ≡ old.link.started) → Rose old.link.faults link.faults → old.link.faults ≤ link.faults
-    → CarriesOut (Starting port (AnsweringSteps exported calls)) serve_uses (AnsweringMayRefuse format file) tells old (with_link old old.store link) (Err (refusal_of LinkFault file))
-unstarted_carried exported calls port format file tells old link left sent started rose later = record {
+    → CarriesOut (Starting port (AnsweringSteps exported calls)) serve_uses (AnsweringMayRefuse asked file) tells old (with_link old old.store link) (Err (refusal_of LinkFault file))
+unstarted_carried exported calls port asked file tells old link left sent started rose later = record {
   done = tt;
   refused = (refl, rose);
   part = λ told. nothing_begun (Starting port (AnsweringSteps exported calls)) tells old (with_link old old.store link) (λ is. cc) refl (λ t. refl) (λ t. refl) sent (started told.link) left refl;

@@ -1,7 +1,6 @@
 -- `rquotad`. Source: the manual page of rpc.rquotad; that a given number of calls is answered, and that quota files are named
 -- together with the paths under which they are told of, is this project's own.
 use Rattle.std.specs.Prelude.{◌⊎◌, ◌+◌, ◌*◌, ℕ, zero, suc, List, Option, Some, None}
-use Rattle.quota_types.specs.declared.file_kind.Format.{Format}
 use Rattle.outside.specs.Seen.{Datagram}
 use Rattle.outside.specs.World.{World}
 use Rattle.rquota_xdr.specs.Reply.{spelling_of}
@@ -15,6 +14,7 @@ use Rattle.run_steps.specs.Act.{Answer}
 use Rattle.run_steps.specs.Steps.{Doing, Finish, Receiving, Starting, Steps}
 use Rattle.run_steps.specs.declared.invocation.Invocation.{Invocation}
 use Rattle.serve_steps.specs.Exporting.{AnsweringMayRefuse, ExportingMayRefuse, OpeningAll, first_file, news_of}
+use Rattle.quota_map.specs.Asked.{Asked}
 
 -- The steps.
 
@@ -31,21 +31,21 @@ AnsweringSteps exported (suc calls) =
     Replying (datagram_reply exported datagram) (AnsweringSteps exported calls))
 
 -- the files are exported, then the link is started at the port, once, and then this many datagrams are answered
-abbrev pub ServeSteps : Option Format → (calls port : ℕ) → List ExportOption → Invocation → Steps
-ServeSteps format calls port exports invocation =
-    OpeningAll format exports nothing_exported (λ (exported : ExportedValues). Starting port (AnsweringSteps exported calls))
+abbrev pub ServeSteps : Asked → (calls port : ℕ) → List ExportOption → Invocation → Steps
+ServeSteps asked calls port exports invocation =
+    OpeningAll asked exports nothing_exported (λ (exported : ExportedValues). Starting port (AnsweringSteps exported calls))
 
 -- What is exported.
 
 -- How many calls of `read` it takes at most to answer `calls` datagrams out of these files: those of opening each, and five for each
 -- datagram.
-abbrev pub serving_reads : Option Format → (calls : ℕ) → List ExportOption → World → ℕ
-serving_reads format calls exports files = reads_of format files (news_of exports) + 5 * calls
+abbrev pub serving_reads : Asked → (calls : ℕ) → List ExportOption → World → ℕ
+serving_reads asked calls exports files = reads_of asked files (news_of exports) + 5 * calls
 
 -- What is said.
 
 -- The causes for which `rquotad` may be refused, whatever is told, with the name that is said. What was not seen when the files were
 -- opened is said of the first one.
-abbrev pub ServeMayRefuse : Option Format → List ExportOption → Cause → List ℕ → Type 0
-ServeMayRefuse format exports cause name =
-    ExportingMayRefuse format exports cause name ⊎ AnsweringMayRefuse format (first_file exports) cause name
+abbrev pub ServeMayRefuse : Asked → List ExportOption → Cause → List ℕ → Type 0
+ServeMayRefuse asked exports cause name =
+    ExportingMayRefuse asked exports cause name ⊎ AnsweringMayRefuse asked (first_file exports) cause name

@@ -1,8 +1,7 @@
 //! Laws of the steps of the command.
 
-ghost use Rattle.std.specs.Prelude.{Bool, List, Ok, Option, ℕ, true, false};
+ghost use Rattle.std.specs.Prelude.{Bool, List, Ok, ℕ, true, false};
 ghost use Rattle.option_words.specs.declared.export_option.ExportOption.{ExportOption};
-ghost use Rattle.quota_types.specs.declared.file_kind.Format.{Format};
 ghost use Rattle.rquota_serve.specs.ExportedValues.{ExportedValues, nothing_exported};
 ghost use Rattle.run_steps.specs.Act.{Act};
 ghost use Rattle.run_steps.specs.Done.{Outside};
@@ -16,25 +15,28 @@ ghost use Rattle.command_words.specs.declared.command.Command.{Command};
 ghost use Rattle.serve_command.specs.Words.{CanServe};
 ghost use Rattle.serve_command.specs.Serve.{ServeSteps};
 ghost use Rattle.serve_steps.specs.Exporting.{AreExported};
+ghost use Rattle.quota_map.specs.Asked.{Asked};
 
 /// The steps look at files first, and take nothing of the standard input.
 pub fn serving_looks_first()
-    ensures { (format : Option Format) (calls port : ℕ) (exports : List ExportOption) (invocation : Invocation)
-        → LooksFirst true false (ServeSteps format calls port exports invocation) }
+    ensures { (asked : Asked) (calls port : ℕ) (exports : List ExportOption) (invocation : Invocation)
+        → LooksFirst true false (ServeSteps asked calls port exports invocation) }
 {}
 
 /// Where the steps pass, they received as many datagrams as they were to answer, the first ones.
 pub fn serving_receives_its_calls()
-    ensures receives { (format : Option Format) (calls port : ℕ) (exports : List ExportOption) (invocation : Invocation)
-        → Receives calls (ServeSteps format calls port exports invocation) }
-    ensures received { (format : Option Format) (calls port : ℕ) (exports : List ExportOption) (invocation : Invocation) (old new : Outside) (acts : List Act)
-        → EndsBy (ServeSteps format calls port exports invocation) old acts new None → AreReceived calls old.datagrams new.datagrams }
+    ensures receives { (asked : Asked) (calls port : ℕ) (exports : List ExportOption) (invocation : Invocation)
+        → Receives calls (ServeSteps asked calls port exports invocation) }
+    ensures received { (asked : Asked) (calls port : ℕ) (exports : List ExportOption) (invocation : Invocation) (old new : Outside) (acts : List Act)
+        → EndsBy (ServeSteps asked calls port exports invocation) old acts new None
+        → AreReceived calls old.datagrams new.datagrams }
 {}
 
 /// The steps are sure where each file is seen as a value: no datagram is refused.
 pub fn serving_is_sure_where_the_files_are_accepted()
-    ensures { (format : Option Format) (calls port : ℕ) (exports : List ExportOption) (invocation : Invocation) (old : Outside) (exported : ExportedValues)
-        → AreExported format old.files exports nothing_exported exported → IsSure (ServeSteps format calls port exports invocation) old }
+    ensures { (asked : Asked) (calls port : ℕ) (exports : List ExportOption) (invocation : Invocation) (old : Outside) (exported : ExportedValues)
+        → AreExported asked old.files exports nothing_exported exported
+        → IsSure (ServeSteps asked calls port exports invocation) old }
 {}
 
 /// Words that ask for calls to be answered ask for one at least, and for files that may be exported one after another.

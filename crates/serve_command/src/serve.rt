@@ -15,6 +15,7 @@ ghost use Rattle.rquota_serve.specs.Serving.{Stopped};
 ghost use Rattle.serve_command.specs.Serve.{AnsweringSteps, ServeMayRefuse, ServeSteps, serving_reads};
 ghost use Rattle.serve_steps.specs.Exporting.{AnsweringMayRefuse, AreExported, MayExport, serve_uses};
 ghost use Rattle.serve_steps.specs.ServeCauses.{IsAsAsked};
+ghost use Rattle.quota_map.specs.Asked.{asked_of};
 
 use option_words::ExportOptions;
 use outside::{Link, Store};
@@ -42,7 +43,8 @@ pub fn serve_files<S: Store, L: Link>(
     requires some { 0 < calls }
     requires apart { MayExport [] exports }
     ensures carries { (input : SourceSeen) (out err : SinkSeen) (input_tells out_tells err_tells : Bool) (invocation : Invocation)
-        → CarriesOut (ServeSteps format calls port exports invocation) serve_uses (ServeMayRefuse format exports)
+        → CarriesOut (ServeSteps (asked_of format) calls port exports invocation) serve_uses
+        (ServeMayRefuse (asked_of format) exports)
         (tells_of S.tells input_tells out_tells err_tells L.tells)
         (seen_of (S.seen store.old) input out err (L.seen link.old))
         (seen_of (S.seen store.new) input out err (L.seen link.new)) result }
@@ -52,11 +54,11 @@ pub fn serve_files<S: Store, L: Link>(
     ensures untaken { IfErr result (λ refusal. status_of refusal.cause ≡ 5 → link.new ≡ link.old) }
     // The link is said to have failed only where not all was done: fewer datagrams were taken, or the last reply was not sent.
     ensures stopped { IfErr result (λ refusal. refusal.cause ≡ LinkFault → IsTrue L.tells
-        → Stopped (λ exported. IsTrue S.tells × AreExported format (S.seen store.old).files exports nothing_exported exported) calls
+        → Stopped (λ exported. IsTrue S.tells × AreExported (asked_of format) (S.seen store.old).files exports nothing_exported exported) calls
         (L.seen link.old) (L.seen link.new)) }
     // Where it was done, no more was read than the opening of each file takes, and five blocks for each datagram.
     ensures reads { OnOk result (IsTrue S.tells → (S.seen store.new).reads
-        ≤ (S.seen store.old).reads + serving_reads format calls exports (S.seen store.old).files) }
+        ≤ (S.seen store.old).reads + serving_reads (asked_of format) calls exports (S.seen store.old).files) }
     ensures synced { Syncs (is_ok result) (S.seen store.old) (S.seen store.new) }
     // Nothing is committed.
     ensures commits { S.commits [] store.old store.new }
@@ -83,10 +85,11 @@ fn answer_calls<S: Store, L: Link>(
     link: &mut L,
 ) -> Result<(), Refusal>
     requires some { 0 < calls }
-    requires asked { All (IsAsAsked format) (exports_seen opened.old) }
+    requires asked { All (IsAsAsked (asked_of format)) (exports_seen opened.old) }
     ensures carries { (exported : ExportedValues) (input : SourceSeen) (out err : SinkSeen) (input_tells out_tells err_tells : Bool)
         → (IsTrue S.tells → Serves S.tells (S.seen store.old).files opened.old exported)
-        → CarriesOut (Starting port (AnsweringSteps exported calls)) serve_uses (AnsweringMayRefuse format file)
+        → CarriesOut (Starting port (AnsweringSteps exported calls)) serve_uses
+        (AnsweringMayRefuse (asked_of format) file)
         (tells_of S.tells input_tells out_tells err_tells L.tells)
         (seen_of (S.seen store.old) input out err (L.seen link.old))
         (seen_of (S.seen store.new) input out err (L.seen link.new)) result }

@@ -14,6 +14,7 @@ ghost use Rattle.rquota_serve.specs.ExportedValues.{ExportedValues};
 ghost use Rattle.rquota_serve.specs.Exports.{Serves, exports_seen};
 ghost use Rattle.serve_steps.specs.Exporting.{AnsweringMayRefuse, AreExported, ExportingMayRefuse, MayExport, OpeningAll, news_of, serve_uses};
 ghost use Rattle.serve_steps.specs.ServeCauses.{IsAsAsked};
+ghost use Rattle.quota_map.specs.Asked.{asked_of};
 
 use arrayvec::ArrayVec;
 use option_words::ExportOption;
@@ -37,27 +38,28 @@ pub fn add_all<S: Store>(
     store: &mut S,
 ) -> Result<(), Refusal>
     requires may { MayExport (exports_seen exports.old) list.now }
-    requires asked { All (IsAsAsked format) (exports_seen exports.old) }
+    requires asked { All (IsAsAsked (asked_of format)) (exports_seen exports.old) }
     // What is exported then is what the files are seen as, and whatever is carried out of it is carried out of them.
     ensures opened { OnOk result ((before : ExportedValues) → (IsTrue S.tells → Serves S.tells (S.seen store.old).files exports.old before)
         → (exported : ExportedValues)
-        × (IsTrue S.tells → AreExported format (S.seen store.old).files list.now before exported)
+        × (IsTrue S.tells → AreExported (asked_of format) (S.seen store.old).files list.now before exported)
         × (IsTrue S.tells → Serves S.tells (S.seen store.new).files exports.new exported)
         × ((next : ExportedValues → Steps) (file : List ℕ) (input : SourceSeen) (out err : SinkSeen) (link : LinkSeen)
         (input_tells out_tells err_tells link_tells : Bool) (new : RunSeen) (ended : Result (Unit {0}) Refusal)
-        → CarriesOut (next exported) serve_uses (AnsweringMayRefuse format file) (tells_of S.tells input_tells out_tells err_tells link_tells)
+        → CarriesOut (next exported) serve_uses (AnsweringMayRefuse (asked_of format) file) (tells_of S.tells input_tells out_tells err_tells link_tells)
         (seen_of (S.seen store.new) input out err link) new ended
-        → CarriesOut (OpeningAll format list.now before next) serve_uses (AnsweringMayRefuse format file) (tells_of S.tells input_tells out_tells err_tells link_tells)
+        → CarriesOut (OpeningAll (asked_of format) list.now before next) serve_uses (AnsweringMayRefuse (asked_of format) file) (tells_of S.tells input_tells out_tells err_tells link_tells)
         (seen_of (S.seen store.old) input out err link) new ended)) }
     ensures unopened { OnErr result ((before : ExportedValues) (next : ExportedValues → Steps) (input : SourceSeen) (out err : SinkSeen) (link : LinkSeen)
         (input_tells out_tells err_tells link_tells : Bool)
         → (IsTrue S.tells → Serves S.tells (S.seen store.old).files exports.old before)
-        → CarriesOut (OpeningAll format list.now before next) serve_uses (ExportingMayRefuse format list.now)
+        → CarriesOut (OpeningAll (asked_of format) list.now before next) serve_uses
+        (ExportingMayRefuse (asked_of format) list.now)
         (tells_of S.tells input_tells out_tells err_tells link_tells)
         (seen_of (S.seen store.old) input out err link) (seen_of (S.seen store.new) input out err link) result) }
-    ensures as_asked { OnOk result (All (IsAsAsked format) (exports_seen exports.new)) }
+    ensures as_asked { OnOk result (All (IsAsAsked (asked_of format)) (exports_seen exports.new)) }
     ensures reads { OnOk result (IsTrue S.tells → (S.seen store.new).reads
-        ≤ (S.seen store.old).reads + reads_of format (S.seen store.old).files (news_of list.now)) }
+        ≤ (S.seen store.old).reads + reads_of (asked_of format) (S.seen store.old).files (news_of list.now)) }
     ensures unwritten { IsUnwritten (S.seen store.old) (S.seen store.new) }
     ensures later { (S.seen store.old).faults ≤ (S.seen store.new).faults }
     ensures synced { Syncs (is_ok result) (S.seen store.old) (S.seen store.new) }

@@ -8,6 +8,7 @@ use Rattle.batch_commands.proofs.WantingLemmas.{wanting_since}
 use Rattle.std.specs.Prelude.{is_ok}
 use Rattle.id_names.specs.NamesFile.{NameLine}
 use Rattle.outside.specs.World.{World}
+use Rattle.quota_map.specs.Asked.{asked_of}
 use Rattle.quota_map.specs.View.{IsView}
 use Rattle.refusals.specs.Outcome.{Passed}
 use Rattle.run_steps.specs.Taking.{input_said}
@@ -68,13 +69,13 @@ returns-in-Ok-clause-commits g c = λ datagrams line told input_told.
     let old = (S.seen c.args.store.now).files in
     let input = (g.I.Source.seen c.args.input.now).left in
     let start : Outside = record { files = old; input = input; datagrams = datagrams } in
-    let next = λ (lines : List NameLine). Opening common.kind common.format file (ReadSteps lines c.args.from file c.args.now) in
+    let next = λ (lines : List NameLine). Opening common.kind (asked_of common.format) file (ReadSteps lines c.args.from file c.args.now) in
     let steps = BatchSteps common c.args.from file (record { now = c.args.now; line = line }) in
     let ended = is_ok c.apply_named.result in
     phase_committed _ _ ended ended (next names) steps file old (S.seen between).files (S.seen last).files input input datagrams (λ worlds. S.commits worlds between last)
     (λ worlds. S.commits worlds c.args.store.now last) read.leaves.files
-    (λ all value seen asked said. subst (λ (w : World). MakeTogether common.format file c.args.now asked.edits w value) (sym read.leaves.files)
-    (all names (read.read told) value (subst (λ (w : World). IsView (w file) common.kind common.format (Ok value)) read.leaves.files seen) asked
+    (λ all value seen asked said. subst (λ (w : World). MakeTogether (asked_of common.format) file c.args.now asked.edits w value) (sym read.leaves.files)
+    (all names (read.read told) value (subst (λ (w : World). IsView (w file) common.kind (asked_of common.format) (Ok value)) read.leaves.files seen) asked
     (subst (λ (w : World). input_said c.args.from (batch_step names c.args.from) w input ≡ Passed asked) read.leaves.files said)))
     (λ well. well) (λ worlds it. S.commits_on [] worlds _ _ _ read.commits it)
     (λ world to. comes_looked (λ (files : World). Then (names_seen common.kind common.names files) next) start world

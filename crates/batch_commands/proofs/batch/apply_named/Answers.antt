@@ -2,6 +2,7 @@ use Rattle.std.proofs.Common.{◌≡◌, inl, inr, Ok, List, ℕ, refl, sym, sub
 use Rattle.std.proofs.lemmas.Result.{on_ok_weaker}
 use Rattle.file_blocks.specs.Block.{file_of}
 use Rattle.outside.specs.World.{World}
+use Rattle.quota_map.specs.Asked.{asked_of}
 use Rattle.quota_map.specs.View.{IsView}
 use Rattle.outside.proofs.FrameLemmas.{keeps_other_two-then, syncs-after_read, syncs-read}
 use Rattle.run_steps.proofs.OpeningLemmas.{not_opened, unwritten}
@@ -23,10 +24,10 @@ pub returns-in-Ok-clause-carries : goal.returns-in-Ok-clause-carries
 returns-in-Ok-clause-carries g c = λ out err link out_tells err_tells link_tells.
     let opened = c.in-Ok.ensures in
     let file = c.as_str.ensures in
-    carries_opening c.args.file c.args.kind c.args.format _ _ _ _ _ _ _ _ _ (rw file at opened.leaves)
+    carries_opening c.args.file c.args.kind (asked_of c.args.format) _ _ _ _ _ _ _ _ _ (rw file at opened.leaves)
     (λ told. rw file at (opened.seen told)) (λ cause said may. may)
     (λ value view. c.apply_opened.ensures.carries opened.as_asked value (λ told. opened.held told value (rw (sym file) at (view told)))
-    (λ told. subst (λ (files : World). IsView (files c.args.file) c.args.kind c.args.format (Ok value)) (sym opened.leaves.files) (view told)) out err link out_tells err_tells link_tells)
+    (λ told. subst (λ (files : World). IsView (files c.args.file) c.args.kind (asked_of c.args.format) (Ok value)) (sym opened.leaves.files) (view told)) out err link out_tells err_tells link_tells)
 
 pub returns-in-Ok-clause-synced : goal.returns-in-Ok-clause-synced
 returns-in-Ok-clause-synced g c = λ told. syncs-after_read _ _ _ _ c.in-Ok.ensures.leaves (c.apply_opened.ensures.synced told)
@@ -34,7 +35,7 @@ returns-in-Ok-clause-synced g c = λ told. syncs-after_read _ _ _ _ c.in-Ok.ensu
 pub returns-in-Err-clause-carries : goal.returns-in-Err-clause-carries
 returns-in-Err-clause-carries g c = λ out err link out_tells err_tells link_tells.
     rw (c.of.ensures, c.opening_cause.ensures)
-    (not_opened c.args.kind c.args.format c.args.file _ _ _ _ _ _ c.in-Err.fault
+    (not_opened c.args.kind (asked_of c.args.format) c.args.file _ _ _ _ _ _ c.in-Err.fault
     (rw c.as_str.ensures at c.in-Err.ensures.refused) (rw c.as_str.ensures at c.in-Err.ensures.leaves) (λ cause may. inl (inr may)))
 
 pub returns-in-Ok-clause-others : goal.returns-in-Ok-clause-others
@@ -52,7 +53,7 @@ returns-in-Ok-clause-reads g c = λ none.
     let view = (rw file at opened.seen) told in
     let value = view.0 in
     let few = c.apply_opened.ensures.reads opened.as_asked value (λ is. opened.held is value (rw (sym file) at view.1))
-    (λ is. subst (λ (files : World). IsView (files c.args.file) c.args.kind c.args.format (Ok value)) (sym opened.leaves.files) view.1) none in
+    (λ is. subst (λ (files : World). IsView (files c.args.file) c.args.kind (asked_of c.args.format) (Ok value)) (sym opened.leaves.files) view.1) none in
     on_ok_weaker c.apply_opened.result (λ reads input_told.
     let opening = (rw file at opened.reads) told in
     let lines = reads told input_told in
@@ -81,14 +82,14 @@ returns-in-Ok-clause-commits g c = λ datagrams told input_told.
     let seen = (rw c.as_str.ensures at opened.seen) told in
     let value = seen.0 in
     let ended = is_ok c.apply_opened.result in
-    phase_committed _ _ ended ended (next value) (Opening c.args.kind c.args.format file next) file old (S.seen between).files (S.seen last).files input input datagrams
+    phase_committed _ _ ended ended (next value) (Opening c.args.kind (asked_of c.args.format) file next) file old (S.seen between).files (S.seen last).files input input datagrams
     (λ worlds. S.commits worlds between last) (λ worlds. S.commits worlds c.args.store.now last) opened.leaves.files
-    (λ all asked said. subst (λ (w : World). MakeTogether c.args.format file c.args.now asked.edits w value) (sym opened.leaves.files)
+    (λ all asked said. subst (λ (w : World). MakeTogether (asked_of c.args.format) file c.args.now asked.edits w value) (sym opened.leaves.files)
     (all value seen.1 asked (subst (λ (w : World). input_said c.args.from (batch_step c.args.names.now c.args.from) w input ≡ Passed asked) opened.leaves.files said)))
     (λ well. well) (λ worlds it. S.commits_on [] worlds _ _ _ opened.commits it)
-    (λ world to. comes_opened c.args.kind c.args.format file next start value world seen.1 to)
+    (λ world to. comes_opened c.args.kind (asked_of c.args.format) file next start value world seen.1 to)
     (c.apply_opened.ensures.commits datagrams told input_told value (opened.held told value (rw (sym c.as_str.ensures) at seen.1))
-    (subst (λ (files : World). IsView (files file) c.args.kind c.args.format (Ok value)) (sym opened.leaves.files) seen.1))
+    (subst (λ (files : World). IsView (files file) c.args.kind (asked_of c.args.format) (Ok value)) (sym opened.leaves.files) seen.1))
 
 pub returns-in-Err-clause-commits : goal.returns-in-Err-clause-commits
 returns-in-Err-clause-commits g c = λ datagrams told input_told.

@@ -5,6 +5,7 @@ use Rattle.file_blocks.specs.Block.{file_of}
 use Rattle.outside.specs.Seen.{StoreSeen}
 use Rattle.outside.specs.World.{World}
 use Rattle.outside.proofs.FrameLemmas.{keeps_other_two-then, syncs-all, syncs-any, syncs-less, syncs-read, syncs-then}
+use Rattle.quota_map.specs.Asked.{asked_of}
 use Rattle.quota_map.specs.AnyFile.{HoldsAny}
 use Rattle.quota_map.specs.View.{IsView}
 use Rattle.refusals.specs.declared.reason.Refusal.{Refusal}
@@ -32,11 +33,11 @@ returns-in-Some-clause-carries g c = λ as_asked value held seen out err link ou
     (λ told. has_taken c.args.from (is_to_end asked) _ _ (took.behind (λ none. told.input))
     (λ all none. took.ended (ends_none asked.refusal all) none told.input)
     (λ some. ap (λ i. (g.I.Source.seen i).left) (took.untouched some))) (λ cause said may. may)
-    (then_refused _ _ _ c.args.names.now (input_name c.args.from) asked c.in-Some.refusal (LineEditMayRefuse c.args.format c.args.file) _ _ _ _
+    (then_refused _ _ _ c.args.names.now (input_name c.args.from) asked c.in-Some.refusal (LineEditMayRefuse (asked_of c.args.format) c.args.file) _ _ _ _
     c.in-Some.is may (inr (inr may.may))
     (rw c.as_slice.ensures.value at (c.in-Ok-edit_lines.ensures.carries as_asked value
     (λ told. subst (λ (files : World). HoldsAny g.S.Store.tells files c.args.opened value) (sym took.leaves.files) (held told))
-    (λ told. subst (λ (files : World). IsView (files c.args.file) c.args.kind c.args.format (Ok value)) (sym took.leaves.files) (seen told))
+    (λ told. subst (λ (files : World). IsView (files c.args.file) c.args.kind (asked_of c.args.format) (Ok value)) (sym took.leaves.files) (seen told))
     (g.I.Source.seen c.take_batch.new.input) out err link g.I.Source.tells out_tells err_tells link_tells)))
 
 pub returns-in-Ok-edit_lines-clause-carries : goal.returns-in-Ok-edit_lines-clause-carries
@@ -48,10 +49,10 @@ returns-in-Ok-edit_lines-clause-carries g c = λ as_asked value held seen out er
     (λ told. has_taken c.args.from (is_to_end asked) _ _ (took.behind (λ none. told.input))
     (λ all none. took.ended (ends_none asked.refusal all) none told.input)
     (λ some. ap (λ i. (g.I.Source.seen i).left) (took.untouched some))) (λ cause said may. may)
-    (then_ended _ _ _ asked (LineEditMayRefuse c.args.format c.args.file) _ _ _ _ c.in-None.is
+    (then_ended _ _ _ asked (LineEditMayRefuse (asked_of c.args.format) c.args.file) _ _ _ _ c.in-None.is
     (rw c.as_slice.ensures.value at (c.in-Ok-edit_lines.ensures.carries as_asked value
     (λ told. subst (λ (files : World). HoldsAny g.S.Store.tells files c.args.opened value) (sym took.leaves.files) (held told))
-    (λ told. subst (λ (files : World). IsView (files c.args.file) c.args.kind c.args.format (Ok value)) (sym took.leaves.files) (seen told))
+    (λ told. subst (λ (files : World). IsView (files c.args.file) c.args.kind (asked_of c.args.format) (Ok value)) (sym took.leaves.files) (seen told))
     (g.I.Source.seen c.take_batch.new.input) out err link g.I.Source.tells out_tells err_tells link_tells)))
 
 pub returns-in-Some-clause-synced : goal.returns-in-Some-clause-synced
@@ -79,10 +80,10 @@ returns-in-Ok-clause-carries g c = λ as_asked value held seen out err link out_
     (λ told. has_taken c.args.from (is_to_end asked) _ _ (took.behind (λ none. told.input))
     (λ all none. took.ended (ends_none asked.refusal all) none told.input)
     (λ some. ap (λ i. (g.I.Source.seen i).left) (took.untouched some))) (λ cause said may. may)
-    (then_stopped _ _ _ asked c.in-Err-edit_lines.refusal (LineEditMayRefuse c.args.format c.args.file) _ _ _ _ (λ cause said may. inl may)
+    (then_stopped _ _ _ asked c.in-Err-edit_lines.refusal (LineEditMayRefuse (asked_of c.args.format) c.args.file) _ _ _ _ (λ cause said may. inl may)
     (rw c.as_slice.ensures.value at (c.in-Err-edit_lines.ensures.carries as_asked value
     (λ told. subst (λ (files : World). HoldsAny g.S.Store.tells files c.args.opened value) (sym took.leaves.files) (held told))
-    (λ told. subst (λ (files : World). IsView (files c.args.file) c.args.kind c.args.format (Ok value)) (sym took.leaves.files) (seen told))
+    (λ told. subst (λ (files : World). IsView (files c.args.file) c.args.kind (asked_of c.args.format) (Ok value)) (sym took.leaves.files) (seen told))
     (g.I.Source.seen c.take_batch.new.input) out err link g.I.Source.tells out_tells err_tells link_tells)))
 
 pub returns-clause-carries : goal.returns-clause-carries
@@ -117,7 +118,7 @@ returns-in-Ok-edit_lines-clause-reads g c = λ as_asked value held seen none tol
     none (took.read told (λ is. input_told)) (ap (λ (s : StoreSeen). s.reads) unread)
     (rw c.as_slice.ensures.value at (c.in-Ok-edit_lines.ensures.reads as_asked value
     (λ told. subst (λ (w : World). HoldsAny S.tells w c.args.opened value) (sym files) (held told))
-    (λ told. subst (λ (w : World). IsView (w c.args.file) c.args.kind c.args.format (Ok value)) (sym files) (seen told)) told))
+    (λ told. subst (λ (w : World). IsView (w c.args.file) c.args.kind (asked_of c.args.format) (Ok value)) (sym files) (seen told)) told))
 
 pub returns-in-Some-clause-wanting : goal.returns-in-Some-clause-wanting
 returns-in-Some-clause-wanting g c =
@@ -140,14 +141,14 @@ returns-in-Some-clause-commits g c = λ datagrams told input_told value held see
     let last = c.edit_lines.new.store in
     let input = (g.I.Source.seen c.args.input.now).left in
     let left = (g.I.Source.seen c.take_batch.new.input).left in
-    applied_committed true false c.args.names.now c.args.from c.args.format c.args.file c.args.now value asked (S.seen c.args.store.now).files (S.seen between).files (S.seen last).files
+    applied_committed true false c.args.names.now c.args.from (asked_of c.args.format) c.args.file c.args.now value asked (S.seen c.args.store.now).files (S.seen between).files (S.seen last).files
     input left datagrams (λ worlds. S.commits worlds between last) (λ worlds. S.commits worlds c.args.store.now last) same (λ well. refl)
     (λ worlds it. S.commits_on [] worlds _ _ _ took.commits it) (took.read told input_told)
     (has_taken c.args.from (is_to_end asked) input left (took.behind input_told) (λ all none. took.ended (ends_none asked.refusal all) none (input_told none))
     (λ some. ap (λ i. (g.I.Source.seen i).left) (took.untouched some)))
     (rw c.as_slice.ensures.value at (c.in-Ok-edit_lines.ensures.commits told value
     (subst (λ (files : World). HoldsAny S.tells files c.args.opened value) (sym same) held)
-    (subst (λ (files : World). IsView (files c.args.file) c.args.kind c.args.format (Ok value)) (sym same) seen)))
+    (subst (λ (files : World). IsView (files c.args.file) c.args.kind (asked_of c.args.format) (Ok value)) (sym same) seen)))
 
 pub returns-in-Ok-edit_lines-clause-commits : goal.returns-in-Ok-edit_lines-clause-commits
 returns-in-Ok-edit_lines-clause-commits g c = λ datagrams told input_told value held seen.
@@ -159,14 +160,14 @@ returns-in-Ok-edit_lines-clause-commits g c = λ datagrams told input_told value
     let last = c.edit_lines.new.store in
     let input = (g.I.Source.seen c.args.input.now).left in
     let left = (g.I.Source.seen c.take_batch.new.input).left in
-    applied_committed true true c.args.names.now c.args.from c.args.format c.args.file c.args.now value asked (S.seen c.args.store.now).files (S.seen between).files (S.seen last).files
+    applied_committed true true c.args.names.now c.args.from (asked_of c.args.format) c.args.file c.args.now value asked (S.seen c.args.store.now).files (S.seen between).files (S.seen last).files
     input left datagrams (λ worlds. S.commits worlds between last) (λ worlds. S.commits worlds c.args.store.now last) same (λ well. well)
     (λ worlds it. S.commits_on [] worlds _ _ _ took.commits it) (took.read told input_told)
     (has_taken c.args.from (is_to_end asked) input left (took.behind input_told) (λ all none. took.ended (ends_none asked.refusal all) none (input_told none))
     (λ some. ap (λ i. (g.I.Source.seen i).left) (took.untouched some)))
     (rw c.as_slice.ensures.value at (c.in-Ok-edit_lines.ensures.commits told value
     (subst (λ (files : World). HoldsAny S.tells files c.args.opened value) (sym same) held)
-    (subst (λ (files : World). IsView (files c.args.file) c.args.kind c.args.format (Ok value)) (sym same) seen)))
+    (subst (λ (files : World). IsView (files c.args.file) c.args.kind (asked_of c.args.format) (Ok value)) (sym same) seen)))
 
 pub returns-in-Ok-clause-commits : goal.returns-in-Ok-clause-commits
 returns-in-Ok-clause-commits g c = λ datagrams told input_told value held seen.
@@ -178,14 +179,14 @@ returns-in-Ok-clause-commits g c = λ datagrams told input_told value held seen.
     let last = c.edit_lines.new.store in
     let input = (g.I.Source.seen c.args.input.now).left in
     let left = (g.I.Source.seen c.take_batch.new.input).left in
-    applied_committed false false c.args.names.now c.args.from c.args.format c.args.file c.args.now value asked (S.seen c.args.store.now).files (S.seen between).files (S.seen last).files
+    applied_committed false false c.args.names.now c.args.from (asked_of c.args.format) c.args.file c.args.now value asked (S.seen c.args.store.now).files (S.seen between).files (S.seen last).files
     input left datagrams (λ worlds. S.commits worlds between last) (λ worlds. S.commits worlds c.args.store.now last) same (λ well. well)
     (λ worlds it. S.commits_on [] worlds _ _ _ took.commits it) (took.read told input_told)
     (has_taken c.args.from (is_to_end asked) input left (took.behind input_told) (λ all none. took.ended (ends_none asked.refusal all) none (input_told none))
     (λ some. ap (λ i. (g.I.Source.seen i).left) (took.untouched some)))
     (rw c.as_slice.ensures.value at (c.in-Err-edit_lines.ensures.commits told value
     (subst (λ (files : World). HoldsAny S.tells files c.args.opened value) (sym same) held)
-    (subst (λ (files : World). IsView (files c.args.file) c.args.kind c.args.format (Ok value)) (sym same) seen)))
+    (subst (λ (files : World). IsView (files c.args.file) c.args.kind (asked_of c.args.format) (Ok value)) (sym same) seen)))
 
 pub returns-clause-commits : goal.returns-clause-commits
 returns-clause-commits g c = λ datagrams told input_told value held seen.

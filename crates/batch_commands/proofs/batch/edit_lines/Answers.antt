@@ -2,6 +2,7 @@ use Rattle.std.proofs.Common.{true, length, refl, sym, subst, arith, List, []}
 use Rattle.std.proofs.lemmas.Result.{on_ok_weaker}
 use Rattle.file_blocks.specs.Block.{file_of}
 use Rattle.outside.specs.World.{World}
+use Rattle.quota_map.specs.Asked.{asked_of}
 use Rattle.quota_map.specs.AnyFile.{HoldsAny}
 use Rattle.std.specs.Prelude.{is_ok}
 use Rattle.run_steps.specs.Done.{seen_of, tells_of}
@@ -23,7 +24,7 @@ pub returns-clause-carries : goal.returns-clause-carries
 returns-clause-carries g c = λ as_asked value held seen input out err link input_tells out_tells err_tells link_tells.
     let S = g.S.Store in
     let reads = c.in-NotMade.ensures.reads_only in
-    carries_read (LineSteps (way_of c.args.lines.now) c.args.file c.args.now c.args.lines.now value) line_uses (LineEditMayRefuse c.args.format c.args.file) (tells_of S.tells input_tells out_tells err_tells link_tells)
+    carries_read (LineSteps (way_of c.args.lines.now) c.args.file c.args.now c.args.lines.now value) line_uses (LineEditMayRefuse (asked_of c.args.format) c.args.file) (tells_of S.tells input_tells out_tells err_tells link_tells)
     (seen_of (S.seen c.args.store.now) input out err link) (S.seen c.edit_together.new.store) (seen_of (S.seen c.edit_all.new.store) input out err link) c.edit_all.result.ended reads
     (rw c.in-NotMade.ensures.back at (c.edit_all.ensures.carries (way_of c.args.lines.now) c.args.format as_asked value
     (λ told. subst (λ (files : World). HoldsAny S.tells files c.args.opened value) (sym reads.files) (held told)) input out err link input_tells out_tells err_tells link_tells))
@@ -62,7 +63,7 @@ returns-clause-commits g c = λ told value held view.
     let middle = (S.seen c.edit_together.new.store).files in
     let new = (S.seen c.edit_all.new.store).files in
     let latter = λ (worlds : List World). S.commits worlds c.edit_together.new.store c.edit_all.new.store in
-    let once = MakeTogether c.args.format c.args.file c.args.now c.args.lines.now old value in
+    let once = MakeTogether (asked_of c.args.format) c.args.file c.args.now c.args.lines.now old value in
     looked_before once once (is_ok c.edit_all.result.ended) steps c.args.file old middle new latter (λ worlds. S.commits worlds c.args.store.now c.edit_all.new.store) same (λ is. is)
     (λ worlds it. S.commits_on [] worlds _ _ _ c.in-NotMade.ensures.none_committed it)
     (placed_committed once (is_ok c.edit_all.result.ended) steps c.args.file middle new (length c.args.lines.now) latter (c.in-NotMade.ensures.together told value view)

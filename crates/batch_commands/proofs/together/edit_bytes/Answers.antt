@@ -9,6 +9,7 @@ use Rattle.batch_commands.proofs.RefusedLemmas.{not_together}
 use Rattle.batch_commands.proofs.TogetherLemmas.{not_made_weaker, only_read-none, wanting_carried}
 use Rattle.batch_commands.proofs.LinesCommittedLemmas.{fit_unrefused, unchanged_committed}
 use Rattle.batch_commands.proofs.together.edit_bytes.Goals as goal
+use Rattle.quota_map.specs.Asked.{asked_of}
 
 pub returns-in-Ok-Some-clause-carries : goal.returns-in-Ok-Some-clause-carries
 returns-in-Ok-Some-clause-carries g c = λ others several value stands view input out err link input_tells out_tells err_tells link_tells.
@@ -25,14 +26,14 @@ returns-clause-carries g c = λ others several value stands view input out err l
     let S = g.S.Store in
     let store = S.seen c.args.store.now in
     rw c.of.ensures
-    (wanting_carried (LineSteps (Together others) c.args.file c.args.now c.args.lines.now value) c.args.format c.args.file (tells_of S.tells input_tells out_tells err_tells link_tells) (seen_of store input out err link) store
+    (wanting_carried (LineSteps (Together others) c.args.file c.args.now c.args.lines.now value) (asked_of c.args.format) c.args.file (tells_of S.tells input_tells out_tells err_tells link_tells) (seen_of store input out err link) store
     (only_read-none {done = true} store store refl))
 
 pub returns-in-Ok-Some-clause-never : goal.returns-in-Ok-Some-clause-never
 returns-in-Ok-Some-clause-never g c = λ may value view.
     let made = rw c.as_str.ensures at (rw c.in-Ok-Some.field-0-is at c.in-Ok-Some.ensures.made) in
     let within = rw c.in-Ok-Some.field-0-is at c.in-Ok-Some.ensures.within in
-    not_made_weaker c.put_back.result _ _ (λ name some. not_together c.args.kind c.args.format c.args.file c.args.now 0 c.args.lines.now value c.args.whole c.in-Ok-Some.edited may within view (made 0 value view) some)
+    not_made_weaker c.put_back.result _ _ (λ name some. not_together c.args.kind (asked_of c.args.format) c.args.file c.args.now 0 c.args.lines.now value c.args.whole c.in-Ok-Some.edited may within view (made 0 value view) some)
     (c.put_back.ensures.refused c.args.format (length c.args.lines.now) c.args.whole may within)
 
 pub returns-in-Ok-None-clause-never : goal.returns-in-Ok-None-clause-never

@@ -1,5 +1,6 @@
 use Rattle.std.proofs.Common.{Some, refl, sym, arith}
 use Rattle.file_in_memory.specs.OneFile.{one_file_name, one_file_seen}
+use Rattle.quota_map.specs.Asked.{InFormat}
 use Rattle.quota_map.specs.AnyFile.{any_seen}
 use Rattle.run_steps.specs.Act.{InPlace, Together}
 use Rattle.batch_commands.specs.Batch.{LineEditMayRefuse}
@@ -27,5 +28,5 @@ returns-clause-within c = record { short = omega (arith, c.if-len-most.false); a
 pub returns-then-is_fault-clause-given_up : goal.returns-then-is_fault-clause-given_up
 returns-then-is_fault-clause-given_up c = λ value held.
     let all = c.edit_all-edited.ensures in
-    memory_failed (LineSteps InPlace c.args.file c.args.now c.args.lines.now value) (LineEditMayRefuse (Some (any_seen c.args.opened).format) c.args.file) (one_file_seen c.args.memory) (one_file_seen c.edit_all-edited.new.store) _ (c.if-is_fault.ensures.fault refl) all.memory
+    memory_failed (LineSteps InPlace c.args.file c.args.now c.args.lines.now value) (LineEditMayRefuse (InFormat (any_seen c.args.opened).format) c.args.file) (one_file_seen c.args.memory) (one_file_seen c.edit_all-edited.new.store) _ (c.if-is_fault.ensures.fault refl) all.memory
     (λ input out err link input_tells out_tells err_tells link_tells. all.carries InPlace (Some (any_seen c.args.opened).format) refl value (λ told. held) input out err link input_tells out_tells err_tells link_tells)

@@ -2,6 +2,7 @@ use Rattle.std.proofs.Common.{◌≡◌, ◌⊎◌, ◌+◌, ◌≤◌, Ok, Some
 use Rattle.std.specs.Prelude.{Option, List, false, is_ok, ℕ, ⊤}
 use Rattle.file_blocks.specs.Block.{bytes_of, file_of}
 use Rattle.outside.specs.World.{World}
+use Rattle.quota_map.specs.Asked.{asked_of}
 use Rattle.quota_map.specs.View.{IsView}
 use Rattle.run_steps.specs.Act.{Together, Way}
 use Rattle.run_steps.specs.Done.{seen_of, tells_of}
@@ -26,21 +27,21 @@ returns-in-Ok-Some-clause-carries g c = λ value view input out err link input_t
     let reads = c.in-Ok-Some.ensures.leaves in
     let tells = tells_of S.tells input_tells out_tells err_tells link_tells in
     let many = way_many c.args.lines.now (omega arith) in
-    subst (λ (w : Way). IfEnded c.edit_bytes.result (CarriesOut (LineSteps w c.args.file c.args.now c.args.lines.now value) line_uses (LineEditMayRefuse c.args.format c.args.file) tells
+    subst (λ (w : Way). IfEnded c.edit_bytes.result (CarriesOut (LineSteps w c.args.file c.args.now c.args.lines.now value) line_uses (LineEditMayRefuse (asked_of c.args.format) c.args.file) tells
     (seen_of (S.seen c.args.store.now) input out err link) (seen_of (S.seen c.edit_bytes.new.store) input out err link))) (sym many.2)
     (ended_read c.edit_bytes.result _ _ _ tells
     (seen_of (S.seen c.args.store.now) input out err link) (S.seen c.read_whole.new.store) (seen_of (S.seen c.edit_bytes.new.store) input out err link) reads
     (c.edit_bytes.ensures.carries many.0 many.1 value (λ told. subst (λ (w : World). StandsAlone w c.args.file c.in-Ok-Some.whole.bytes.items) (sym reads.files) (whole told))
-    (λ told. subst (λ (f : Option (List ℕ)). IsView f c.args.kind c.args.format (Ok value)) (whole told).named (view told))
+    (λ told. subst (λ (f : Option (List ℕ)). IsView f c.args.kind (asked_of c.args.format) (Ok value)) (whole told).named (view told))
     input out err link input_tells out_tells err_tells link_tells))
 
 pub returns-in-Err-clause-carries : goal.returns-in-Err-clause-carries
 returns-in-Err-clause-carries g c = λ value view input out err link input_tells out_tells err_tells link_tells.
     let S = g.S.Store in
     rw (c.of.ensures, c.load_cause.ensures)
-    (unread_carried (LineSteps (way_of c.args.lines.now) c.args.file c.args.now c.args.lines.now value) c.args.format c.args.file (tells_of S.tells input_tells out_tells err_tells link_tells)
+    (unread_carried (LineSteps (way_of c.args.lines.now) c.args.file c.args.now c.args.lines.now value) (asked_of c.args.format) c.args.file (tells_of S.tells input_tells out_tells err_tells link_tells)
     (seen_of (S.seen c.args.store.now) input out err link) (S.seen c.read_whole.new.store) c.in-Err.fault c.in-Err.ensures.leaves
-    (λ told. view_some _ c.args.kind c.args.format value (view told)) (rw c.as_str.ensures at c.in-Err.ensures.refused))
+    (λ told. view_some _ c.args.kind (asked_of c.args.format) value (view told)) (rw c.as_str.ensures at c.in-Err.ensures.refused))
 
 pub returns-in-Ok-Some-clause-reads : goal.returns-in-Ok-Some-clause-reads
 returns-in-Ok-Some-clause-reads g c =
@@ -59,7 +60,7 @@ returns-in-Ok-Some-clause-reads_more g c =
     not_made_weaker_all c.edit_bytes.result
     (λ told value view.
     let named : files file ≡ Some bytes = (whole told).named in
-    c.edit_bytes.ensures.never (pays told) value (subst (λ (f : Option (List ℕ)). IsView f c.args.kind c.args.format (Ok value)) named view))
+    c.edit_bytes.ensures.never (pays told) value (subst (λ (f : Option (List ℕ)). IsView f c.args.kind (asked_of c.args.format) (Ok value)) named view))
     (λ told value view never. inr never)
   where
     not_made_weaker_all : {T V : Type 0} {P : V → Type 0} {A B : V → Type 0} (attempt : Attempt) → (T → (value : V) → P value → IfNotMade attempt (λ name. A value)) → (T → (value : V) → P value → A value → B value)
@@ -85,7 +86,7 @@ returns-in-Ok-Some-clause-commits g c = λ told value view.
     (λ ended those. subst (λ (way : Way). CommitsFrom ⊤ (is_ok ended) (steps way) (ReplacesOnly file old) old new commits) (sym many.2)
     (looked_before ⊤ ⊤ (is_ok ended) (steps (Together many.0)) file old middle new latter commits same (λ is. is) (λ worlds it. S.commits_on [] worlds _ _ _ c.in-Ok-Some.ensures.commits it) those))
     (c.edit_bytes.ensures.commits told many.0 value (subst (λ (w : World). StandsAlone w file c.in-Ok-Some.whole.bytes.items) (sym same) whole)
-    (subst (λ (f : Option (List ℕ)). IsView f c.args.kind c.args.format (Ok value)) whole.named view))
+    (subst (λ (f : Option (List ℕ)). IsView f c.args.kind (asked_of c.args.format) (Ok value)) whole.named view))
 
 pub returns-in-Err-clause-commits : goal.returns-in-Err-clause-commits
 returns-in-Err-clause-commits g c = λ told value view.
@@ -104,7 +105,7 @@ returns-in-Ok-Some-clause-together g c =
     let pays = rw c.in-Ok-Some.field-0-is at c.in-Ok-Some.ensures.pays in
     let many = way_many lines (omega arith) in
     never_made c.edit_bytes.result (λ told value view together.
-    c.edit_bytes.ensures.fitting (pays told) many.0 value files (whole told).named (subst (λ (f : Option (List ℕ)). IsView f c.args.kind c.args.format (Ok value)) (whole told).named view)
+    c.edit_bytes.ensures.fitting (pays told) many.0 value files (whole told).named (subst (λ (f : Option (List ℕ)). IsView f c.args.kind (asked_of c.args.format) (Ok value)) (whole told).named view)
     (subst (λ (w : Way). AllFit w file c.args.now lines files value) many.2 together.fit))
   where
     never_made : {T V : Type 0} {P Q : V → Type 0} (attempt : Attempt) → (T → (value : V) → P value → Q value → IfNotMade attempt (λ _. ⊥)) → IfNotMade attempt (λ _. T → (value : V) → P value → Q value → ⊥)

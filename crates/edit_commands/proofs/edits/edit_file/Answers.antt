@@ -3,6 +3,7 @@ use Rattle.std.proofs.lemmas.Bool.{false≢true}
 use Rattle.outside.specs.World.{World}
 use Rattle.outside.proofs.FrameLemmas.{syncs-after_read, syncs-less, syncs-read}
 use Rattle.opened_file.proofs.CommittedLemmas.{once_behind}
+use Rattle.quota_map.specs.Asked.{asked_of}
 use Rattle.quota_map.specs.AnyFile.{any_seen}
 use Rattle.quota_map.specs.View.{fresh_seen}
 use Rattle.edit_steps.specs.EditStep.{edit_cause}
@@ -30,7 +31,7 @@ returns-in-Ok-write_warnings-clause-carries g c = λ input out link input_tells 
     let was = opened.fresh ∙ ap (λ (n : List ℕ). fresh_seen n (any_seen c.in-Ok.opened).format) name in
     let made = c.in-Ok-make_edit.ensures in
     let said = c.in-Ok-write_warnings.ensures in
-    carries_opening c.args.file c.args.kind c.args.format _ _ _ _ _ _ (g.S.Store.seen c.open_file.new.store) _ _
+    carries_opening c.args.file c.args.kind (asked_of c.args.format) _ _ _ _ _ _ (g.S.Store.seen c.open_file.new.store) _ _
     (rw name at opened.leaves) (λ told. rw name at (opened.seen told)) (λ cause may allowed. allowed) (λ value view.
     let held = λ (told : IsTrue g.S.Store.tells). opened.held told value (rw (sym name) at (view told)) in
     carries_looking _ _ _ _ _ _ _ (edit_made c.args.file (edit_meant c.args.edit.now c.args.invocation.now) value
@@ -48,7 +49,7 @@ returns-in-Err-write_warnings-clause-carries g c = λ input out link input_tells
     let said = c.in-Err-write_warnings.ensures in
     let warns = skips_warn c.args.edit.now c.in-Ok-make_edit.skipped made.skips said.some in
     rw c.of.ensures
-    (carries_opening c.args.file c.args.kind c.args.format _ _ _ _ _ _ (g.S.Store.seen c.open_file.new.store) _ _
+    (carries_opening c.args.file c.args.kind (asked_of c.args.format) _ _ _ _ _ _ (g.S.Store.seen c.open_file.new.store) _ _
     (rw name at opened.leaves) (λ told. rw name at (opened.seen told)) (λ cause may allowed. allowed) (λ value view.
     let held = λ (told : IsTrue g.S.Store.tells). opened.held told value (rw (sym name) at (view told)) in
     carries_looking _ _ _ _ _ _ _ (edit_unsaid c.args.file (edit_meant c.args.edit.now c.args.invocation.now) value
@@ -64,20 +65,20 @@ returns-in-Err-make_edit-clause-carries g c = λ input out link input_tells out_
     let made = c.in-Err-make_edit.ensures in
     let keeps = keeps_format c.args.edit.now c.args.invocation.now in
     rw (c.of-in-Err-make_edit.ensures, c.edit_cause.ensures)
-    (carries_opening c.args.file c.args.kind c.args.format _ _ _ _ _ _ (g.S.Store.seen c.open_file.new.store) _ _
+    (carries_opening c.args.file c.args.kind (asked_of c.args.format) _ _ _ _ _ _ (g.S.Store.seen c.open_file.new.store) _ _
     (rw name at opened.leaves) (λ told. rw name at (opened.seen told)) (λ cause may allowed. allowed) (λ value view.
     let held = λ (told : IsTrue g.S.Store.tells). opened.held told value (rw (sym name) at (view told)) in
     carries_looking _ _ _ _ _ _ _ (edit_unmade c.args.file (edit_meant c.args.edit.now c.args.invocation.now) value
     (warnings c.args.invocation.line (skipped_by c.args.edit.now value)) _ _ _ _ _ _ c.in-Err-make_edit.fault held
     (any_refused c.args.file _ _ _ _ _ _ _ value c.in-Err-make_edit.fault keeps was held made.edits)
     (any_cause _ _ _ _ _ _ c.args.file _ c.in-Err-make_edit.fault keeps was made.edits)
-    (file_edit_may c.args.format c.args.edit.now c.args.file c.args.invocation.now (edit_cause c.in-Err-make_edit.fault) c.args.file
-    (edit_may c.args.format c.args.file _ _ _ _ _ _ (any_seen c.in-Ok.opened).format c.in-Err-make_edit.fault was opened.as_asked made.edits)))))
+    (file_edit_may (asked_of c.args.format) c.args.edit.now c.args.file c.args.invocation.now (edit_cause c.in-Err-make_edit.fault) c.args.file
+    (edit_may (asked_of c.args.format) c.args.file _ _ _ _ _ _ (any_seen c.in-Ok.opened).format c.in-Err-make_edit.fault was opened.as_asked made.edits)))))
 
 pub returns-in-Err-clause-carries : goal.returns-in-Err-clause-carries
 returns-in-Err-clause-carries g c = λ input out link input_tells out_tells link_tells.
     rw (c.of-in-Err.ensures, c.opening_cause.ensures)
-    (not_opened c.args.kind c.args.format c.args.file _ _ _ _ _ _ c.in-Err.fault
+    (not_opened c.args.kind (asked_of c.args.format) c.args.file _ _ _ _ _ _ c.in-Err.fault
     (rw c.as_str.ensures at c.in-Err.ensures.refused) (rw c.as_str.ensures at c.in-Err.ensures.leaves) (λ cause may. inr (inl may)))
 
 pub returns-in-Err-write_warnings-clause-named : goal.returns-in-Err-write_warnings-clause-named
@@ -159,7 +160,7 @@ returns-in-Ok-write_warnings-clause-commits g c = λ input datagrams told.
     let alone = edits_alone-after c.args.file _ _ _ _ opened.leaves (edits_alone-edits c.args.file _ _ _ _ _ _ _ _ was made.edits) in
     made_committed _ _ c.args.file _ _ _ _ (λ worlds. g.met.S.Store.commits_more worlds _ _)
     (once_behind g.S.Store.commits g.S.Store.commits_on _ _ _ _ _ _ opened.commits made.commits (λ whole. whole))
-    (comes_stepped c.args.kind c.args.format c.args.edit.now c.args.file c.args.invocation _ _ _ view.0 opened.leaves.files (rw name at view.1)
+    (comes_stepped c.args.kind (asked_of c.args.format) c.args.edit.now c.args.file c.args.invocation _ _ _ view.0 opened.leaves.files (rw name at view.1)
     (made_stepped InPlace c.args.file _ _ _ _ _ _ _ view.0 c.in-Ok-make_edit.skipped (keeps_format c.args.edit.now c.args.invocation.now) was told
     (opened.held told view.0 view.1) made.edits))
     alone.others
@@ -174,7 +175,7 @@ returns-in-Err-write_warnings-clause-commits g c = λ input datagrams told.
     let alone = edits_alone-after c.args.file _ _ _ _ opened.leaves (edits_alone-edits c.args.file _ _ _ _ _ _ _ _ was made.edits) in
     made_committed _ _ c.args.file _ _ _ _ (λ worlds. g.met.S.Store.commits_more worlds _ _)
     (once_behind g.S.Store.commits g.S.Store.commits_on _ _ _ _ _ _ opened.commits made.commits (λ whole. whole))
-    (comes_stepped c.args.kind c.args.format c.args.edit.now c.args.file c.args.invocation _ _ _ view.0 opened.leaves.files (rw name at view.1)
+    (comes_stepped c.args.kind (asked_of c.args.format) c.args.edit.now c.args.file c.args.invocation _ _ _ view.0 opened.leaves.files (rw name at view.1)
     (made_stepped InPlace c.args.file _ _ _ _ _ _ _ view.0 c.in-Ok-make_edit.skipped (keeps_format c.args.edit.now c.args.invocation.now) was told
     (opened.held told view.0 view.1) made.edits))
     alone.others
@@ -189,7 +190,7 @@ returns-in-Err-make_edit-clause-commits g c = λ input datagrams told.
     let alone = edits_alone-after c.args.file _ _ _ _ opened.leaves (edits_alone-edits c.args.file _ _ _ _ _ _ _ _ was made.edits) in
     refused_committed _ c.args.file _ _ _ _ (λ worlds. g.met.S.Store.commits_more worlds _ _)
     (once_behind g.S.Store.commits g.S.Store.commits_on _ _ _ _ _ _ opened.commits made.commits (λ whole. whole))
-    (λ whole. comes_stepped c.args.kind c.args.format c.args.edit.now c.args.file c.args.invocation _ _ _ view.0 opened.leaves.files (rw name at view.1)
+    (λ whole. comes_stepped c.args.kind (asked_of c.args.format) c.args.edit.now c.args.file c.args.invocation _ _ _ view.0 opened.leaves.files (rw name at view.1)
     (refused_stepped InPlace c.args.file _ _ _ _ _ _ _ view.0 c.in-Err-make_edit.fault (keeps_format c.args.edit.now c.args.invocation.now) was told
     (opened.held told view.0 view.1) made.edits whole))
     alone.others

@@ -2,6 +2,7 @@ use Rattle.std.proofs.Common.{Ok, inl, inr, refl, sym, ap, ◌∙◌, arith, IsT
 use Rattle.opened_file.specs.FileSeen.{FileSeen}
 use Rattle.quota_value.specs.QuotaValue.{QuotaValue}
 use Rattle.outside.proofs.FrameLemmas.{only_reads-any, syncs-after_read, syncs-less, syncs-read}
+use Rattle.quota_map.specs.Asked.{asked_of}
 use Rattle.quota_map.specs.AnyFile.{any_seen}
 use Rattle.quota_map.specs.View.{IsView}
 use Rattle.refusals.specs.declared.cause.Cause.TheVariants.{SinkFault}
@@ -22,7 +23,7 @@ returns-in-Ok-write_form-clause-carries g c = λ input err link input_tells err_
     let got = c.in-Ok-get.ensures in
     let wrote = c.in-Ok-write_form.ensures in
     let written = λ (told : IsTrue g.S.Store.tells) (out_told : IsTrue g.O.Sink.tells) (value : QuotaValue)
-    (view : IsView ((g.S.Store.seen c.args.store.now).files c.args.file) c.args.kind c.args.format (Ok value)).
+    (view : IsView ((g.S.Store.seen c.args.store.now).files c.args.file) c.args.kind (asked_of c.args.format) (Ok value)).
     rw (got.found value (opened.held told value (rw (sym file) at view))) at rw c.as_str-in-Ok-get.ensures at (wrote.ok out_told) in
     shown_whole _ _ _ (form_on c.args.kind c.args.names.now c.args.file c.args.id) _ _ _ _ _
     (record {
@@ -42,7 +43,7 @@ returns-in-Err-write_form-clause-carries g c = λ input err link input_tells err
     let wrote = c.in-Err-write_form.ensures in
     let old = seen_of (g.S.Store.seen c.args.store.now) input (g.O.Sink.seen c.args.out.now) err link in
     rw c.of.ensures
-    (shown_in_part c.args.kind c.args.format c.args.file (form_on c.args.kind c.args.names.now c.args.file c.args.id) _ old _ _ SinkFault
+    (shown_in_part c.args.kind (asked_of c.args.format) c.args.file (form_on c.args.kind c.args.names.now c.args.file c.args.id) _ old _ _ SinkFault
     (record {
       seen = λ told. rw file at (opened.seen told);
       reads = only_reads-any c.args.file _ _ _ (rw file at opened.leaves)
@@ -61,7 +62,7 @@ returns-in-Err-get-clause-carries g c = λ input err link input_tells err_tells 
     let old = seen_of (g.S.Store.seen c.args.store.now) input (g.O.Sink.seen c.args.out.now) err link in
     let after = g.S.Store.seen c.get.new.store in
     rw (c.of-in-Err-get.ensures, c.file_cause.ensures)
-    (shown_in_part c.args.kind c.args.format c.args.file (form_on c.args.kind c.args.names.now c.args.file c.args.id) _ old after _
+    (shown_in_part c.args.kind (asked_of c.args.format) c.args.file (form_on c.args.kind c.args.names.now c.args.file c.args.id) _ old after _
     (file_cause c.in-Err-get.fault)
     (record {
       seen = λ told. rw file at (opened.seen told);
@@ -74,14 +75,14 @@ returns-in-Err-get-clause-carries g c = λ input err link input_tells err_tells 
       reason = λ stated.
           lookup_reason showing_uses old (with_out old after (g.O.Sink.seen c.args.out.now)) _ stated _ _ c.in-Err-get.fault opened.leaves.later
           (λ told none. let good = opened.seen told in none good.0 (opened.held told good.0 good.1)) got.looks.refused;
-      may = inr (lookup_may c.args.format c.args.file (any_seen c.in-Ok.opened).format _ _ _ c.in-Err-get.fault opened.as_asked got.looks.refused
+      may = inr (lookup_may (asked_of c.args.format) c.args.file (any_seen c.in-Ok.opened).format _ _ _ c.in-Err-get.fault opened.as_asked got.looks.refused
           got.looks.may);
     }))
 
 pub returns-in-Err-clause-carries : goal.returns-in-Err-clause-carries
 returns-in-Err-clause-carries g c = λ input err link input_tells err_tells link_tells.
     rw (c.of-in-Err.ensures, c.opening_cause.ensures)
-    (not_opened c.args.kind c.args.format c.args.file _ _ _ _ _ _ c.in-Err.fault
+    (not_opened c.args.kind (asked_of c.args.format) c.args.file _ _ _ _ _ _ c.in-Err.fault
     (rw c.as_str.ensures at c.in-Err.ensures.refused) (rw c.as_str.ensures at c.in-Err.ensures.leaves) (λ cause may. inr may))
 
 pub returns-in-Ok-write_form-clause-synced : goal.returns-in-Ok-write_form-clause-synced

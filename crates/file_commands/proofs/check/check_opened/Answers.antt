@@ -5,6 +5,7 @@ use Rattle.quota_types.specs.declared.file_kind.Format.{Format}
 use Rattle.quota_types.specs.declared.file_kind.Kind.{Kind}
 use Rattle.opened_file.specs.FileSeen.{FileSeen}
 use Rattle.outside.proofs.FrameLemmas.{only_reads-then, syncs-after_read, syncs-read}
+use Rattle.quota_map.specs.Asked.{asked_of}
 use Rattle.quota_map.specs.AnyFile.{any_seen}
 use Rattle.quota_map.specs.View.{IsOpenedAs}
 use Rattle.quota_map.proofs.SeenLemmas.{view_kind}
@@ -28,16 +29,16 @@ returns-in-Ok-read_value-clause-carries g c = λ out err link out_tells err_tell
     let read = c.in-Ok-read_value.ensures in
     let found = c.in-Ok-read_value.value in
     let file = c.as_str.ensures in
-    let as_asked : IsOpenedAs c.args.format found.format = subst (λ (f : Format). IsOpenedAs c.args.format f) (sym read.format)
+    let as_asked : IsOpenedAs (asked_of c.args.format) found.format = subst (λ (f : Format). IsOpenedAs (asked_of c.args.format) f) (sym read.format)
     opened.as_asked in
-    carries_opening c.args.file c.args.kind c.args.format (UsageSteps c.args.kind c.args.device c.args.from c.args.file c.args.now) _
+    carries_opening c.args.file c.args.kind (asked_of c.args.format) (UsageSteps c.args.kind c.args.device c.args.from c.args.file c.args.now) _
     (UsageMayRefuse (value_in found) c.args.from c.args.file) _ _ _ (g.S.Store.seen c.read_value.new.store) _ _
     (only_reads-then c.args.file _ _ _ (rw file at opened.leaves) (rw (ap (λ (s : FileSeen). s.name) opened.fresh ∙ file) at read.leaves))
     (λ told. rw file at (opened.seen told)) (λ cause said allowed. inr (value_in found, as_asked, read.kept, allowed))
     (λ value view. carries_same c.args.file (UsageSteps c.args.kind c.args.device c.args.from c.args.file c.args.now) (value_in found) value
     _ _ _ _ _ _
     (λ told. read.value value (opened.held told value (rw (sym file) at (view told)))
-    (view_kind _ c.args.kind c.args.format value (view told)))
+    (view_kind _ c.args.kind (asked_of c.args.format) value (view told)))
     (carries_as _ _ _ _ _ _ _ _ (ap (λ (k : Kind). UsageSteps k c.args.device c.args.from c.args.file c.args.now (value_in found))
     read.kind)
     (c.check_value.ensures.carries out err link out_tells err_tells link_tells)))
@@ -59,7 +60,7 @@ returns-in-Err-read_value-clause-carries g c = λ out err link out_tells err_tel
     let read = c.in-Err-read_value.ensures in
     let file = c.as_str.ensures in
     rw (c.of.ensures, c.file_cause.ensures)
-    (not_read_whole c.args.kind c.args.format c.args.file (UsageSteps c.args.kind c.args.device c.args.from c.args.file c.args.now) _ _ _ _
+    (not_read_whole c.args.kind (asked_of c.args.format) c.args.file (UsageSteps c.args.kind c.args.device c.args.from c.args.file c.args.now) _ _ _ _
     _
     (any_seen c.in-Ok.opened).format _ _ c.in-Err-read_value.fault opened.as_asked
     (only_reads-then c.args.file _ _ _ (rw file at opened.leaves) (rw (ap (λ (s : FileSeen). s.name) opened.fresh ∙ file) at read.leaves))
@@ -70,7 +71,7 @@ returns-in-Err-read_value-clause-carries g c = λ out err link out_tells err_tel
 pub returns-in-Err-clause-carries : goal.returns-in-Err-clause-carries
 returns-in-Err-clause-carries g c = λ out err link out_tells err_tells link_tells.
     rw (c.of-in-Err.ensures, c.opening_cause.ensures)
-    (not_opened c.args.kind c.args.format c.args.file (UsageSteps c.args.kind c.args.device c.args.from c.args.file c.args.now) _ _ _ _ _
+    (not_opened c.args.kind (asked_of c.args.format) c.args.file (UsageSteps c.args.kind c.args.device c.args.from c.args.file c.args.now) _ _ _ _ _
     c.in-Err.fault
     (rw c.as_str.ensures at c.in-Err.ensures.refused) (rw c.as_str.ensures at c.in-Err.ensures.leaves) (λ cause may. inl may))
 
@@ -81,10 +82,10 @@ returns-in-Ok-read_value-clause-anew g c =
     let file = c.as_str.ensures in
     on_ok_weaker c.check_value.result
     (λ anew told. anew_since c.in-Ok-read_value.value.kind c.args.kind (λ (f : Format). f ≡ c.in-Ok-read_value.value.format)
-    (IsOpenedAs c.args.format) c.args.file c.args.file _ _ (g.S.Store.seen c.check_value.new.store)
+    (IsOpenedAs (asked_of c.args.format)) c.args.file c.args.file _ _ (g.S.Store.seen c.check_value.new.store)
     (only_reads-then c.args.file _ _ _ (rw file at opened.leaves) (rw (ap (λ (s : FileSeen). s.name) opened.fresh ∙ file) at read.leaves))
     read.kind
-    (λ f is. subst (λ (g : Format). IsOpenedAs c.args.format g) (sym (is ∙ read.format)) opened.as_asked) (anew told))
+    (λ f is. subst (λ (g : Format). IsOpenedAs (asked_of c.args.format) g) (sym (is ∙ read.format)) opened.as_asked) (anew told))
     c.check_value.ensures.anew
 
 pub returns-in-Ok-read_value-clause-commits : goal.returns-in-Ok-read_value-clause-commits
@@ -99,12 +100,12 @@ returns-in-Ok-read_value-clause-commits g c = λ datagrams told input_told.
     let next = UsageSteps c.args.kind c.args.device c.args.from c.args.file c.args.now in
     let value = (rw file at (opened.seen told)).0 in
     let view = (rw file at (opened.seen told)).1 in
-    let is : value_in found ≡ value = read.value value (opened.held told value (rw (sym file) at view)) (view_kind _ c.args.kind c.args.format value view) in
+    let is : value_in found ≡ value = read.value value (opened.held told value (rw (sym file) at view)) (view_kind _ c.args.kind (asked_of c.args.format) value view) in
     committed_since (is_ok c.check_value.result) (UsageSteps found.kind c.args.device c.args.from c.args.file c.args.now (value_in found))
-    (Opening c.args.kind c.args.format c.args.file next) c.args.file
+    (Opening c.args.kind (asked_of c.args.format) c.args.file next) c.args.file
     (record { files = (S.seen c.read_value.new.store).files; input = left; datagrams = datagrams }) old _ _ _
     (read.leaves.files ∙ opened.leaves.files) (λ worlds. g.met.S.Store.commits_behind_none worlds _ _ _ (g.met.S.Store.commits_behind_none [] _ _ _ opened.commits read.commits))
-    (λ world to. comes_opened c.args.kind c.args.format c.args.file next old value world view
+    (λ world to. comes_opened c.args.kind (asked_of c.args.format) c.args.file next old value world view
     (subst (λ (v : QuotaValue). ComesTo (next v) old world) is
     (subst (λ (k : Kind). ComesTo (UsageSteps k c.args.device c.args.from c.args.file c.args.now (value_in found)) old world) read.kind to)))
     (c.check_value.ensures.commits datagrams told input_told)

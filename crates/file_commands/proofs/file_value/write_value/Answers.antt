@@ -1,8 +1,9 @@
-use Rattle.std.proofs.Common.{ℕ, List, Ok, Some, sym, subst, arith, true, false}
+use Rattle.std.proofs.Common.{ℕ, List, Ok, sym, subst, arith, true, false}
 use Rattle.outside.proofs.FrameLemmas.{syncs-all}
 use Rattle.quota_types.specs.declared.record.Entry.{Entry}
 use Rattle.quota_value.specs.Listed.{value_of}
 use Rattle.opened_file.proofs.ReplaceLemmas.{replacement_name-ne}
+use Rattle.quota_map.specs.Asked.{InFormat}
 use Rattle.quota_map.specs.Replacing.{flags_in}
 use Rattle.quota_map.specs.View.{IsView}
 use Rattle.quota_map.proofs.ReplacedLemmas.{replaced-refused, replaced-synced, replaced-only}
@@ -24,8 +25,8 @@ returns-in-Ok-clause-carries g c = λ input out err link input_tells out_tells e
     let files = (g.S.Store.seen c.replace_file.new.store).files in
     replace_made c.args.file (value_in value) _ _ _ _
     (λ told.
-    subst (λ (n : List ℕ). IsView (files n) value.kind (Some value.format) (Ok (value_in value))) file
-    (subst (λ (l : List Entry). IsView (files c.as_str.result.now) value.kind (Some value.format)
+    subst (λ (n : List ℕ). IsView (files n) value.kind (InFormat value.format) (Ok (value_in value))) file
+    (subst (λ (l : List Entry). IsView (files c.as_str.result.now) value.kind (InFormat value.format)
     (Ok (value_of value.kind value.format value.grace (flags_in value.format value.flags) l))) list
     (done.seen told (omega arith)))) (rw file at done.leaves.files) done.leaves.later
     (rw (needed_of value c.requires.in_order) (rw list at done.few))
@@ -70,8 +71,8 @@ returns-in-Ok-clause-commits g c = λ input datagrams told.
     (built_few value c.as_slice.result.now bytes c.requires.in_order list stands) (built_seen value c.as_slice.result.now bytes c.args.file old.files list stands)
     (replaced-only old.files c.args.file bytes))
     (λ well. comes_fitting c.args.file (value_in value) old new (rw (needed_of value c.requires.in_order) (rw list at made.few))
-    (subst (λ (n : List ℕ). IsView (new n) value.kind (Some value.format) (Ok (value_in value))) file
-    (subst (λ (l : List Entry). IsView (new c.as_str.result.now) value.kind (Some value.format)
+    (subst (λ (n : List ℕ). IsView (new n) value.kind (InFormat value.format) (Ok (value_in value))) file
+    (subst (λ (l : List Entry). IsView (new c.as_str.result.now) value.kind (InFormat value.format)
     (Ok (value_of value.kind value.format value.grace (flags_in value.format value.flags) l))) list
     (made.seen told (omega arith)))) (rw file at made.leaves.files))
     (rw file at made.leaves.files) (rw file at made.commits told)

@@ -1,8 +1,9 @@
-use Rattle.std.proofs.Common.{ℕ, List, Some, Ok, IsTrue, sym, subst, arith, false, [], append-nil}
+use Rattle.std.proofs.Common.{ℕ, List, Ok, IsTrue, sym, subst, arith, false, [], append-nil}
 use Rattle.quota_types.specs.declared.record.Entry.{Entry}
 use Rattle.quota_value.specs.Listed.{ids_of, value_of}
 use Rattle.outside.proofs.FrameLemmas.{syncs-all, syncs-then}
 use Rattle.opened_file.proofs.ReplaceLemmas.{replacement_name-ne}
+use Rattle.quota_map.specs.Asked.{InFormat}
 use Rattle.quota_map.specs.Replacing.{flags_in}
 use Rattle.quota_map.specs.View.{IsView}
 use Rattle.quota_map.proofs.ReplacedLemmas.{replaced-refused, replaced-synced, replaced-only, replaced_until}
@@ -29,8 +30,8 @@ returns-in-Ok-clause-carries g c = λ input err link input_tells err_tells link_
     let value = c.args.value.now in
     let store = g.S.Store.seen c.replace_file.new.store in
     let view = λ (told : IsTrue g.S.Store.tells).
-    subst (λ (n : List ℕ). IsView (store.files n) value.kind (Some value.format) (Ok (value_in value))) file
-    (subst (λ (l : List Entry). IsView (store.files c.as_str.result.now) value.kind (Some value.format)
+    subst (λ (n : List ℕ). IsView (store.files n) value.kind (InFormat value.format) (Ok (value_in value))) file
+    (subst (λ (l : List Entry). IsView (store.files c.as_str.result.now) value.kind (InFormat value.format)
     (Ok (value_of value.kind value.format value.grace (flags_in value.format value.flags) l)))
     c.as_slice.ensures.value (made.seen told (omega arith))) in
     carries_changed c.args.file (value_in value) _ showing_uses _ _ _ store _ _ (λ told. (view told, rw file at made.leaves.files))
@@ -75,8 +76,8 @@ returns-in-Ok-clause-commits g c = λ input datagrams told.
     (built_seen value c.as_slice.result.now bytes c.args.file old.files list stands) (replaced-only old.files c.args.file bytes))
     (λ well. comes_same (WrittenSteps c.args.count c.args.file c.args.now (value_in value)) old between new
     (comes_replaced c.args.file (value_in value) _ old between
-    (subst (λ (n : List ℕ). IsView (between n) value.kind (Some value.format) (Ok (value_in value))) file
-    (subst (λ (l : List Entry). IsView (between c.as_str.result.now) value.kind (Some value.format)
+    (subst (λ (n : List ℕ). IsView (between n) value.kind (InFormat value.format) (Ok (value_in value))) file
+    (subst (λ (l : List Entry). IsView (between c.as_str.result.now) value.kind (InFormat value.format)
     (Ok (value_of value.kind value.format value.grace (flags_in value.format value.flags) l))) list
     (made.seen told (omega arith)))) only) same)
     (subst (λ (files : World). ReplacesOnly c.args.file old.files files) (sym same) only)

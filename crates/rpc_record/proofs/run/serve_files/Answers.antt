@@ -7,6 +7,7 @@ use Rattle.stream_words.specs.Words.{StreamAsked}
 use Rattle.rpc_record.specs.Run.{seen_of, tells_of}
 use Rattle.rpc_record.proofs.RunLemmas.{finishing, late_or, late_worded, no_link, no_sink, no_source, no_usage, opened_ends, placed_nowhere, unopened, unwritten-then, wanting_ends}
 use Rattle.rpc_record.proofs.run.serve_files.Goals as goal
+use Rattle.quota_map.specs.Asked.{asked_of}
 
 pub returns-in-Ok-first_file-clause-carried : goal.returns-in-Ok-first_file-clause-carried
 returns-in-Ok-first_file-clause-carried g c =
@@ -46,7 +47,7 @@ returns-clause-placed g c =
 pub returns-clause-worded : goal.returns-clause-worded
 returns-clause-worded g c =
     let S = g.S.Store in
-    no_usage c.args.format c.args.exports.now c.in-Err.refusal.cause c.in-Err.refusal.name
+    no_usage (asked_of c.args.format) c.args.exports.now c.in-Err.refusal.cause c.in-Err.refusal.name
     (c.in-Err.ensures.unopened nothing_exported finishing no_source no_sink no_sink no_link true true true true
     (λ told. serves_nothing S.tells (S.seen c.args.store.now).files c.new-opened.result c.new-opened.ensures.empty)).may_refuse
 

@@ -3,6 +3,7 @@ use Rattle.rquota_serve.specs.Exports.{Serves, exports_seen}
 use Rattle.rpc_record.specs.Run.{seen_of}
 use Rattle.rpc_record.proofs.RunLemmas.{listens_and_serves, listens_and_stops, serving_may, serving_reason}
 use Rattle.rpc_record.proofs.run.serve_opened.Goals as goal
+use Rattle.quota_map.specs.Asked.{asked_of}
 
 pub returns-in-Ok-serve_stream-clause-ends : goal.returns-in-Ok-serve_stream-clause-ends
 returns-in-Ok-serve_stream-clause-ends g c = λ told.
@@ -30,4 +31,4 @@ pub returns-in-Err-serve_stream-clause-may : goal.returns-in-Err-serve_stream-cl
 returns-in-Err-serve_stream-clause-may g c =
     let stopped = c.in-Err-serve_stream.ensures in
     rw (c.of.ensures, c.stream_cause.ensures)
-    (serving_may c.args.format c.args.file (exports_seen c.args.opened.now) c.in-Err-serve_stream.fault _ _ _ c.requires.asked stopped.looks.may stopped.looks.refused)
+    (serving_may (asked_of c.args.format) c.args.file (exports_seen c.args.opened.now) c.in-Err-serve_stream.fault _ _ _ c.requires.asked stopped.looks.may stopped.looks.refused)

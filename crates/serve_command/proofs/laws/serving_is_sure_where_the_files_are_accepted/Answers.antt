@@ -5,5 +5,5 @@ use Rattle.serve_command.proofs.StepLemmas.{sure_answering, sure_opening_all}
 use Rattle.serve_command.proofs.laws.serving_is_sure_where_the_files_are_accepted.Goals as goal
 
 pub returns : goal.returns
-returns c format calls port exports invocation old exported are =
-    sure_opening_all format exports nothing_exported exported (λ (e : ExportedValues). Starting port (AnsweringSteps e calls)) old are (sure_answering exported calls old)
+returns c asked calls port exports invocation old exported are =
+    sure_opening_all asked exports nothing_exported exported (λ (e : ExportedValues). Starting port (AnsweringSteps e calls)) old are (sure_answering exported calls old)

@@ -6,5 +6,5 @@ use Rattle.serve_command.proofs.StepLemmas.{looks_answering, looks_opening_all}
 use Rattle.serve_command.proofs.laws.serving_looks_first.Goals as goal
 
 pub returns : goal.returns
-returns c format calls port exports invocation =
-    looks_opening_all false format exports nothing_exported (λ (exported : ExportedValues). Starting port (AnsweringSteps exported calls)) (λ exported. looks_answering false exported calls)
+returns c asked calls port exports invocation =
+    looks_opening_all false asked exports nothing_exported (λ (exported : ExportedValues). Starting port (AnsweringSteps exported calls)) (λ exported. looks_answering false exported calls)

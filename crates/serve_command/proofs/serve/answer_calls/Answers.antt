@@ -1,5 +1,6 @@
 use Rattle.std.proofs.Common.{◌+◌, ◌*◌, ◌≤◌, ℕ, sym, subst, ◌∙◌}
 use Rattle.outside.proofs.FrameLemmas.{syncs-none}
+use Rattle.quota_map.specs.Asked.{asked_of}
 use Rattle.quota_map.proofs.AnyLemmas.{any_few_gets}
 use Rattle.outside.specs.Count.{Rose}
 use Rattle.run_steps.specs.Done.{seen_of, tells_of}
@@ -17,7 +18,7 @@ returns-then-is_err-clause-carries g c = λ exported input out err input_tells o
     let L = g.L.Link in
     let rose : Rose (L.seen c.args.link.now).faults (L.seen c.start.new.self).faults = of_refused _ c.start.result (sym c.is_err.ensures.value ∙ c.if-is_err.true) c.start.ensures.cause in
     rw c.of.ensures
-    (unstarted_carried exported c.args.calls c.args.port c.args.format c.args.file (tells_of S.tells input_tells out_tells err_tells L.tells)
+    (unstarted_carried exported c.args.calls c.args.port (asked_of c.args.format) c.args.file (tells_of S.tells input_tells out_tells err_tells L.tells)
     (seen_of (S.seen c.args.store.now) input out err (L.seen c.args.link.now)) (L.seen c.start.new.self) c.start.ensures.left c.start.ensures.answers
     (of_refused _ c.start.result (sym c.is_err.ensures.value ∙ c.if-is_err.true) c.start.ensures.fault) rose c.start.ensures.later)
 
@@ -60,7 +61,7 @@ returns-in-Err-clause-carries g c = λ exported input out err input_tells out_te
       started = of_passed _ c.start.result (sym c.is_err.ensures.value ∙ c.if-is_err.false) c.start.ensures.started;
       later = c.start.ensures.later;
     })
-    (stopped_carried exported c.args.calls c.args.format c.args.file (exports_seen c.args.opened.now) c.in-Err.fault (Serves S.tells (S.seen c.args.store.now).files c.args.opened.now) tells
+    (stopped_carried exported c.args.calls (asked_of c.args.format) c.args.file (exports_seen c.args.opened.now) c.in-Err.fault (Serves S.tells (S.seen c.args.store.now).files c.args.opened.now) tells
     (with_start old started) (S.seen c.serve.new.store) (L.seen c.serve.new.link)
     (record { files = stopped.looks.leaves.files; writes = stopped.looks.leaves.writes; started = stopped.started; store_later = stopped.looks.leaves.later; link_later = stopped.later })
     serves stopped.stopped
