@@ -1,5 +1,5 @@
 -- A run over streams: what comes of its files and of its connections, and how it ends.
-use Rattle.std.proofs.Common.{◌≡◌, ◌≢◌, ◌⊎◌, ◌≤◌, ℕ, Bool, true, IsTrue, IfErr, IfSome, List, [], ◌∷◌, ◌++◌, Option, None, Some, Result, Ok, Err, inl, inr, refl, sym, ap, subst, ◌∙◌, arith}
+use Rattle.std.proofs.Common.{◌≡◌, ◌≢◌, ◌⊎◌, ◌≤◌, ◌+◌, ◌*◌, ℕ, Bool, true, IsTrue, IfErr, IfSome, List, [], ◌∷◌, ◌++◌, Option, None, Some, Result, Ok, Err, inl, inr, refl, sym, ap, subst, ◌∙◌, arith}
 use Rattle.std.specs.Prelude.{slice_get, IsErr}
 use Rattle.std.specs.List.{All}
 use Rattle.std.specs.Result.{result_err}
@@ -19,9 +19,9 @@ use Rattle.refusals.specs.Refusals.{nowhere, refusal_of}
 use Rattle.refusals.specs.Status.{end_status, status_of}
 use Rattle.refusals.specs.declared.cause.Cause.{Cause}
 use Rattle.refusals.specs.declared.cause.Cause.TheVariants.{Damaged, LinkFault, Memory, SinkFault, SourceFault, StoreFault, Usage}
-use Rattle.refusals.specs.declared.cause.UsageKind.{UsageKind}
 use Rattle.refusals.specs.declared.reason.Refusal.{Refusal}
 use Rattle.refusals.proofs.GroupLemmas.{words_alone}
+use Rattle.rquota_serve.specs.Adding.{reads_of}
 use Rattle.rquota_serve.specs.ExportedValues.{ExportedValues, nothing_exported, with_export}
 use Rattle.rquota_serve.specs.ExportSeen.{ExportSeen}
 use Rattle.rquota_serve.specs.Refusal.{IsAnswerFault, MayRefuseOne}
@@ -29,16 +29,17 @@ use Rattle.run_steps.specs.Act.{Act}
 use Rattle.run_steps.specs.Carrying.{CarriesOut}
 use Rattle.run_steps.specs.Done.{IsUnwritten, IsWorldTold, Outside, RunSeen, RunTells, outside_of, seen_of as all_seen, tells_of as all_tell}
 use Rattle.run_steps.specs.Meaning.{EndsBy}
+use Rattle.run_steps.specs.Opening.{MayRefuseOpening}
 use Rattle.run_steps.specs.Run.{HasReason, HasSteps, IsPlacedBy}
 use Rattle.run_steps.specs.Steps.{Finish, Steps}
 use Rattle.run_steps.proofs.ShowingLemmas.{damage_may}
-use Rattle.serve_steps.specs.Exporting.{AnsweringMayRefuse, AreExported, ExportingMayRefuse, OpeningAll, first_file, serve_uses}
+use Rattle.serve_steps.specs.Exporting.{AnsweringMayRefuse, AreExported, ExportingMayRefuse, OpeningAll, first_file, news_of, serve_uses}
 use Rattle.serve_steps.specs.ServeCauses.{IsAsAsked}
 use Rattle.serve_steps.proofs.ExportingLemmas.{exported_once}
 use Rattle.stream_words.specs.Words.{StreamAsked}
 use Rattle.rpc_record.specs.Faults.{OnConn, file_in, stream_cause}
 use Rattle.rpc_record.specs.Run.{AreServed, CarriesWords, Ends, EndsServing, FailsToListen, IsFirstRefusal, IsOpeningReason, IsServingReason, IsStopped, IsUnopened, ListensAndServes, ListensAndStops, StreamSeen, StreamTells, seen_of}
-use Rattle.rpc_record.specs.Serving.{ServesConns, StopsServing}
+use Rattle.rpc_record.specs.Serving.{ServesConns, StopsServing, connection_reads}
 use Rattle.rpc_record.specs.declared.stream_fault.StreamFault.{StreamFault}
 use Rattle.rpc_record.specs.declared.stream_fault.StreamFault.TheVariants.{Conn as ConnFailed, File as FileFailed}
 
@@ -108,16 +109,17 @@ placed_nowhere refusal placed =
     let input_line = placed.input_line refl in
     λ i. record { line = line i; input_line = input_line i }
 
-no_words : (asked : Asked) (list : List ExportOption) (kind : UsageKind) (word : ℕ) (name : List ℕ) → ExportingMayRefuse asked list (Usage kind word) name → ⊥
-no_words asked [] kind word name may = may
-no_words asked (export ∷ list) kind word name (inl may) = may
-no_words asked (export ∷ list) kind word name (inr may) = no_words asked list kind word name may
+not_refused : (asked : Asked) (list : List ExportOption) (cause : Cause) (name : List ℕ) → ((file : List ℕ) → MayRefuseOpening asked file cause name → ⊥)
+    → ExportingMayRefuse asked list cause name → ⊥
+not_refused asked [] cause name never may = may
+not_refused asked (export ∷ list) cause name never (inl may) = never export.file may
+not_refused asked (export ∷ list) cause name never (inr may) = not_refused asked list cause name never may
 
 -- and is none of the words
 pub no_usage : (asked : Asked) (list : List ExportOption) (cause : Cause) (name : List ℕ) → ExportingMayRefuse asked list cause name → status_of cause ≢ 2
 no_usage asked list cause name may two =
     let words = words_alone cause two in
-    no_words asked list words.0 words.1 name (subst (λ (c : Cause). ExportingMayRefuse asked list c name) words.2 may)
+    not_refused asked list (Usage words.0 words.1) name (λ file may. may) (subst (λ (c : Cause). ExportingMayRefuse asked list c name) words.2 may)
 
 -- Connections that are served once it listens.
 
@@ -247,12 +249,14 @@ pub opened_ends : {T : Type 0} (asked : StreamAsked) (tells : StreamTells) (old 
     → old.faults ≤ mid.faults → (IsTrue tells.store → AreServed asked old.files exported) → (IsTrue tells.store → serves exported)
     → EndsServing serves asked.port asked.connections tells.conns (seen_of mid conns) new (result_err result)
     → IfErr result (λ (said : Refusal). AnsweringMayRefuse (asked_of asked.format) (first_file asked.exports) said.cause said.name)
+    → (IsTrue tells.store → mid.reads ≤ old.reads + reads_of (asked_of asked.format) old.files (news_of asked.exports)) → new.store.reads ≤ mid.reads + connection_reads * asked.connections
     → Ends asked tells (seen_of old conns) new (result_err result)
-opened_ends asked tells old mid conns new serves exported result later are holds ends may = inr (record {
+opened_ends asked tells old mid conns new serves exported result later are holds ends may opening serving = inr (record {
   accepted = λ told. (exported, are told);
   ends = ends_before (λ (other : ExportedValues). IsTrue tells.store × AreServed asked old.files other) serves asked.port asked.connections tells.conns old mid conns new (result_err result) later
       (λ other is. subst serves (exported_once (asked_of asked.format) old.files asked.exports nothing_exported exported other (are is.0) is.1) (holds is.0)) ends;
   may = if_err_some (λ (said : Refusal). AnsweringMayRefuse (asked_of asked.format) (first_file asked.exports) said.cause said.name) result may;
+  reads = λ told. omega (arith, opening told, serving);
 })
 
 -- there was not enough memory, and it did not listen
@@ -297,6 +301,38 @@ ends_sure asked tells old new (Some refusal) exported told are unfailed heard (i
         ⊎ IsStopped (λ (other : ExportedValues). IsTrue tells.store × AreServed asked old.store.files other) asked.port asked.connections tells.conns old new refusal.cause → ⊥
     by (inl fails) = heard fails.failed
     by (inr stopped) = serving_sure (λ (other : ExportedValues). IsTrue tells.store × AreServed asked old.store.files other) old new refusal.cause exported (told, are) unfailed heard stopped.reason
+
+opening_failed : (failed said : Type 0) (asked : Asked) (list : List ExportOption) (cause : Cause) (name : List ℕ) → status_of cause ≡ 4
+    → IsOpeningReason failed (ExportingMayRefuse asked list cause name × said) cause → failed
+opening_failed failed said asked list StoreFault name four reason = reason
+opening_failed failed said asked list SourceFault name four reason = absurd (not_refused asked list SourceFault name (λ file may. may) reason.0)
+opening_failed failed said asked list SinkFault name four reason = absurd (not_refused asked list SinkFault name (λ file may. may) reason.0)
+opening_failed failed said asked list LinkFault name four reason = absurd (not_refused asked list LinkFault name (λ file may. may) reason.0)
+opening_failed failed said asked list _ name four reason = absurd (omega (arith, four))
+
+serving_failed : (serves : ExportedValues → Type 0) (old new : StreamSeen) (cause : Cause) → status_of cause ≡ 4 → IsServingReason serves old new cause
+    → Rose old.store.faults new.store.faults ⊎ Rose old.conns.listener_faults new.conns.listener_faults
+serving_failed serves old new LinkFault four reason = inr reason
+serving_failed serves old new StoreFault four reason = inl reason
+serving_failed serves old new (Damaged damage) four reason = absurd (omega (arith, four))
+serving_failed serves old new _ four reason = absurd reason
+
+ends_failed : (asked : StreamAsked) (tells : StreamTells) (old new : StreamSeen) (refusal : Refusal) → status_of refusal.cause ≡ 4 → Ends asked tells old new (Some refusal)
+    → Rose old.store.faults new.store.faults ⊎ Rose old.conns.listener_faults new.conns.listener_faults
+ends_failed asked tells old new refusal four (inl unopened) = inl (opening_failed _ _ (asked_of asked.format) asked.exports refusal.cause refusal.name four unopened.reason)
+ends_failed asked tells old new refusal four (inr opened) = by opened.ends
+  where
+    by : FailsToListen tells.conns old.conns new.conns refusal.cause
+        ⊎ IsStopped (λ (other : ExportedValues). IsTrue tells.store × AreServed asked old.store.files other) asked.port asked.connections tells.conns old new refusal.cause
+        → Rose old.store.faults new.store.faults ⊎ Rose old.conns.listener_faults new.conns.listener_faults
+    by (inl fails) = inr fails.failed
+    by (inr stopped) = serving_failed (λ (other : ExportedValues). IsTrue tells.store × AreServed asked old.store.files other) old new refusal.cause four stopped.reason
+
+-- it ends with status 4 only where a call on the store failed, or one of `listen` and `accept`
+pub carried_failed : (asked : Result StreamAsked Fault) (tells : StreamTells) (old new : StreamSeen) (refusal : Refusal) → status_of refusal.cause ≡ 4 → CarriesWords asked tells old new (Some refusal)
+    → Rose old.store.faults new.store.faults ⊎ Rose old.conns.listener_faults new.conns.listener_faults
+carried_failed (Ok asked) tells old new refusal four carried = ends_failed asked tells old new refusal four carried
+carried_failed (Err met) tells old new refusal four carried = let two = usage_status (Err met) tells old new (Some refusal) carried refl in absurd (omega (arith, two, four))
 
 -- Frames.
 

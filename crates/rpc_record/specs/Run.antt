@@ -1,6 +1,6 @@
 -- What a run over streams does: the files that its words name are opened, then it listens, and then connections are served. Source: this
 -- project's own, after the manual page of rpc.rquotad.
-use Rattle.std.specs.Prelude.{◌≡◌, ◌⊎◌, ℕ, Bool, IsTrue, IfSome, IsSomeAnd, List, [], ◌∷◌, Option, None, Some, Result, Ok, Err, ⊤}
+use Rattle.std.specs.Prelude.{◌≡◌, ◌≤◌, ◌+◌, ◌*◌, ◌⊎◌, ℕ, Bool, IsTrue, IfSome, IsSomeAnd, List, [], ◌∷◌, Option, None, Some, Result, Ok, Err, ⊤}
 use Rattle.network.specs.Connections.{ConnsSeen, KeepsConnections, listened_at}
 use Rattle.opened_file.specs.declared.quota_file.OpenFault.{OpenFault}
 use Rattle.option_words.specs.declared.export_option.ExportOption.{ExportOption}
@@ -18,11 +18,12 @@ use Rattle.refusals.specs.Status.{end_status}
 use Rattle.refusals.specs.declared.cause.Cause.{Cause}
 use Rattle.refusals.specs.declared.cause.Cause.TheVariants.{Damaged, LinkFault, Memory, StoreFault, Usage}
 use Rattle.refusals.specs.declared.reason.Refusal.{Refusal}
+use Rattle.rquota_serve.specs.Adding.{reads_of}
 use Rattle.rquota_serve.specs.ExportedValues.{ExportedValues, nothing_exported}
 use Rattle.run_steps.specs.Opening.{opening_cause}
-use Rattle.serve_steps.specs.Exporting.{AnsweringMayRefuse, AreExported, ExportingMayRefuse, first_file}
+use Rattle.serve_steps.specs.Exporting.{AnsweringMayRefuse, AreExported, ExportingMayRefuse, first_file, news_of}
 use Rattle.stream_words.specs.Words.{StreamAsked}
-use Rattle.rpc_record.specs.Serving.{ServesConns, StopsServing}
+use Rattle.rpc_record.specs.Serving.{ServesConns, StopsServing, connection_reads}
 
 -- what is seen of the store and of the connections
 pub record StreamSeen : Type 0 where
@@ -103,12 +104,18 @@ EndsServing serves port connections tells old new None = IsTrue tells → Listen
 EndsServing serves port connections tells old new (Some refusal) =
     FailsToListen tells old.conns new.conns refusal.cause ⊎ IsStopped serves port connections tells old new refusal.cause
 
+-- How many calls of `read` it takes at most to serve connections out of these files: those of opening each, and for each connection
+-- those of its answers.
+abbrev pub stream_reads : StreamAsked → World → ℕ
+stream_reads asked files = reads_of (asked_of asked.format) files (news_of asked.exports) + connection_reads * asked.connections
+
 -- All files were opened, and it served the values that they are seen as. A damage that was not seen when the files were opened is
--- said to be one of the first file.
+-- said to be one of the first file. However it ended, no more was read than that takes.
 pub record IsOpened (asked : StreamAsked) (tells : StreamTells) (old new : StreamSeen) (refusal : Option Refusal) : Type 0 where
   pub accepted : IsTrue tells.store → (exported : ExportedValues) × AreServed asked old.store.files exported
   pub ends : EndsServing (λ exported. IsTrue tells.store × AreServed asked old.store.files exported) asked.port asked.connections tells.conns old new refusal
   pub may : IfSome refusal (λ said. AnsweringMayRefuse (asked_of asked.format) (first_file asked.exports) said.cause said.name)
+  pub reads : IsTrue tells.store → new.store.reads ≤ old.store.reads + stream_reads asked old.store.files
 
 -- The run.
 

@@ -1,13 +1,16 @@
-ghost use Rattle.std.specs.Prelude.{◌≡◌, ◌≢◌, ◌≤◌, ◌⊎◌, ◌↔◌, [], Ok, false, IsErr, IsTrue, IfErr, OnOk};
+ghost use Rattle.std.specs.Prelude.{◌≡◌, ◌≢◌, ◌≤◌, ◌+◌, ◌*◌, ◌⊎◌, ◌↔◌, [], Ok, false, is_ok, IsErr, IsTrue, IfErr, OnOk};
 ghost use Rattle.std.specs.List.{All};
 ghost use Rattle.std.specs.Result.{result_err};
 ghost use Rattle.option_words.specs.Given.{exports_given};
 ghost use Rattle.option_words.specs.Items.{texts_of};
 ghost use Rattle.outside.specs.Count.{Rose};
+ghost use Rattle.outside.specs.ManyCalls.{Syncs};
+ghost use Rattle.outside.specs.Unsynced.{AddsNone};
 ghost use Rattle.refusals.specs.Refusals.{nowhere};
 ghost use Rattle.refusals.specs.Status.{status_of};
 ghost use Rattle.rpc_record.specs.Faults.{stream_cause};
 ghost use Rattle.rpc_record.specs.Run.{AreServed, CarriesWords, Ends, EndsServing, Runs, seen_of, tells_of};
+ghost use Rattle.rpc_record.specs.Serving.{connection_reads};
 ghost use Rattle.rquota_serve.specs.ExportedValues.{ExportedValues};
 ghost use Rattle.rquota_serve.specs.Exports.{Serves, exports_seen};
 ghost use Rattle.run_steps.specs.Done.{IsUnwritten};
@@ -58,9 +61,15 @@ pub fn run_stream<S: Store, C: Conns, E: Sink>(
         → ¬ (Rose (C.seen conns.old).listener_faults (C.seen conns.new).listener_faults) → (result ≡ 0) ⊎ (result ≡ 5) }
     // Refused words, a file that is refused and lack of memory leave the connections alone: it did not listen.
     ensures conns { (result ≡ 1) ⊎ ((result ≡ 2) ⊎ (result ≡ 5)) → conns.new ≡ conns.old }
+    // Status 4 comes only where a call on the store failed, or one of `listen` and `accept`.
+    ensures failed { result ≡ 4 → Rose (S.seen store.old).faults (S.seen store.new).faults
+        ⊎ Rose (C.seen conns.old).listener_faults (C.seen conns.new).listener_faults }
     // A connection is open behind it only where a file failed.
     ensures shut { result ≢ 3 → result ≢ 4 → C.is_open conns.new ≡ false }
     ensures err { result ≡ 0 → err.new ≡ err.old }
+    // Where it was done, or no call on the store failed, no name is unsynced that was not.
+    ensures synced { (result ≡ 0) ⊎ (¬ (Rose (S.seen store.old).faults (S.seen store.new).faults))
+        → AddsNone (S.seen store.old).unsynced (S.seen store.new).unsynced }
     // No file is changed, and no count of faults falls.
     ensures unwritten { IsUnwritten (S.seen store.old) (S.seen store.new) }
     ensures store_later { (S.seen store.old).faults ≤ (S.seen store.new).faults }
@@ -93,6 +102,7 @@ fn carry_words<S: Store, C: Conns>(
     ensures shut { OnOk result (C.is_open conns.new ≡ false) }
     ensures unwritten { IsUnwritten (S.seen store.old) (S.seen store.new) }
     ensures store_later { (S.seen store.old).faults ≤ (S.seen store.new).faults }
+    ensures synced { Syncs (is_ok result) (S.seen store.old) (S.seen store.new) }
     ensures listener_later { (C.seen conns.old).listener_faults ≤ (C.seen conns.new).listener_faults }
     ensures connection_later { (C.seen conns.old).connection_faults ≤ (C.seen conns.new).connection_faults }
     ensures commits { S.commits [] store.old store.new }
@@ -126,6 +136,7 @@ fn carry_out<S: Store, C: Conns>(
     ensures shut { OnOk result (C.is_open conns.new ≡ false) }
     ensures unwritten { IsUnwritten (S.seen store.old) (S.seen store.new) }
     ensures store_later { (S.seen store.old).faults ≤ (S.seen store.new).faults }
+    ensures synced { Syncs (is_ok result) (S.seen store.old) (S.seen store.new) }
     ensures listener_later { (C.seen conns.old).listener_faults ≤ (C.seen conns.new).listener_faults }
     ensures connection_later { (C.seen conns.old).connection_faults ≤ (C.seen conns.new).connection_faults }
     ensures commits { S.commits [] store.old store.new }
@@ -164,6 +175,7 @@ fn serve_files<S: Store, C: Conns>(
     ensures shut { OnOk result (C.is_open conns.new ≡ false) }
     ensures unwritten { IsUnwritten (S.seen store.old) (S.seen store.new) }
     ensures store_later { (S.seen store.old).faults ≤ (S.seen store.new).faults }
+    ensures synced { Syncs (is_ok result) (S.seen store.old) (S.seen store.new) }
     ensures listener_later { (C.seen conns.old).listener_faults ≤ (C.seen conns.new).listener_faults }
     ensures connection_later { (C.seen conns.old).connection_faults ≤ (C.seen conns.new).connection_faults }
     ensures commits { S.commits [] store.old store.new }
@@ -196,9 +208,11 @@ fn serve_opened<S: Store, C: Conns>(
     ensures may { IfErr result (λ refusal. AnsweringMayRefuse (asks_of format) file refusal.cause refusal.name) }
     ensures placed { IfErr result (λ refusal. refusal.place ≡ nowhere) }
     ensures late { IfErr result (λ refusal. (status_of refusal.cause ≡ 3) ⊎ (status_of refusal.cause ≡ 4)) }
+    ensures reads { (S.seen store.new).reads ≤ (S.seen store.old).reads + connection_reads * connections }
     ensures shut { OnOk result (C.is_open conns.new ≡ false) }
     ensures unwritten { IsUnwritten (S.seen store.old) (S.seen store.new) }
     ensures store_later { (S.seen store.old).faults ≤ (S.seen store.new).faults }
+    ensures synced { Syncs (is_ok result) (S.seen store.old) (S.seen store.new) }
     ensures listener_later { (C.seen conns.old).listener_faults ≤ (C.seen conns.new).listener_faults }
     ensures connection_later { (C.seen conns.old).connection_faults ≤ (C.seen conns.new).connection_faults }
     ensures commits { S.commits [] store.old store.new }

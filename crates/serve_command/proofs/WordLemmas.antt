@@ -1,31 +1,17 @@
 -- What words give to `rquotad`: one call at least, and files that may be exported one after another.
-use Rattle.std.proofs.Common.{◌≡◌, ◌∙◌, ℕ, ◌+◌, ◌<◌, ◌≤◌, Bool, true, false, not, ◌&&◌, ◌||◌, if◌then◌else◌, nat_lt, IsTrue, List, [], ◌∷◌, ◌++◌, length, Option, None, Some, IfSome, Result, Ok, refl, sym, ap, subst, arith, length-append}
-use Rattle.std.specs.Prelude.{codes, nat_le}
-use Rattle.std.specs.List.{list_any}
-use Rattle.std.specs.Option.{option_and_then, option_map}
-use Rattle.std.specs.Str.{bytes_eq}
+use Rattle.std.proofs.Common.{◌≡◌, ℕ, ◌+◌, ◌<◌, ◌≤◌, Bool, false, not, List, [], ◌∷◌, ◌++◌, length, Option, None, Some, IfSome, Result, Ok, refl, subst, arith}
+use Rattle.std.specs.Prelude.{nat_le}
+use Rattle.std.specs.Option.{option_and_then}
 use Rattle.std.proofs.lemmas.Bool.Decides.{nat_tests}
-use Rattle.std.proofs.lemmas.List.Folds.{list_any-append}
-use Rattle.std.proofs.lemmas.Bool.{or_from, or_parts}
-use Rattle.std.proofs.lemmas.Option.{same_Some}
-use Rattle.std.proofs.lemmas.Slice.Eq.{bytes_eq-Decides}
-use Rattle.quota_types.specs.Kind.{kinds_eq}
-use Rattle.quota_types.proofs.KindLemmas.{kinds_eq-same, kinds_eq-true}
 use Rattle.quota_types.specs.declared.file_kind.Kind.{Kind}
-use Rattle.quota_types.specs.declared.file_kind.Kind.TheVariants.{User, Group, Project}
 use Rattle.input_text.specs.Numeral.{number_of}
-use Rattle.opened_file.specs.FileSeen.{FileSeen}
-use Rattle.outside.proofs.WorldLemmas.{bytes_eq-true}
-use Rattle.rquota_serve.specs.ExportedValues.{names_eq}
-use Rattle.rquota_serve.specs.ExportSeen.{ExportSeen, is_exported as is_served, is_named}
 use Rattle.refusals.specs.declared.cause.UsageKind.TheVariants.{BadValue, BadFileName, Repeated}
-use Rattle.option_words.specs.declared.export_option.ExportOption.{ExportOption}
 use Rattle.option_words.specs.declared.word_fault.Fault.{Fault}
 use Rattle.option_words.specs.declared.switch.Setting.{Setting}
 use Rattle.option_words.specs.declared.switch.Setting.TheVariants.{QuotaFormat, Names, Proto, Input, Device, Formats, Calls, Port}
 use Rattle.option_words.specs.Fault.{fault, unless, with_value}
 use Rattle.option_words.specs.FileName.{is_file_name}
-use Rattle.option_words.specs.Given.{GivenOptions, has, is_exported, kind_word, nothing_given, put, put_export, with_item, with_items}
+use Rattle.option_words.specs.Given.{GivenOptions, has, is_exported, nothing_given, put, put_export, with_item, with_items}
 use Rattle.option_words.specs.Items.{Item, Raised, Set, Exported, Unknown, Unfinished, Plain}
 use Rattle.option_words.specs.Values.{conversion_of, format_of, is_export_path, kind_of, number_within, within}
 use Rattle.command_words.specs.Asked.{command_of}
@@ -35,72 +21,8 @@ use Rattle.command_words.specs.declared.mode.Mode.{Mode}
 use Rattle.command_words.specs.declared.mode.Mode.TheVariants.{Reporting, Limiting, Copying, Batching, SettingGrace, SettingTimes, Printing, Applying, Checking, Converting, Serving, Scripting, Generating}
 use Rattle.command_words.proofs.FormedLemmas.{HoldsOfFormed, holds_of_asked, then_ok, unless_ok, with_value_ok}
 use Rattle.serve_steps.specs.Exporting.{MayExport}
+use Rattle.serve_steps.proofs.NamedLemmas.{kind_words, may_behind, unnamed}
 use Rattle.serve_command.specs.Words.{CanServe}
-
--- Exports behind exports.
-
-may-now : (few free : Bool) → few ≡ true → free ≡ false → IsTrue (few && not free)
-may-now true false one two = refl
-may-now false free one two = absurd (cc)
-may-now true true one two = absurd (cc)
-
-few-now : (count : ℕ) → count < 16 → nat_lt count 16 ≡ true
-few-now count less = grind (arith, nat_tests)
-
--- one of these exports has this path and kind
-abbrev named_so : (path : List ℕ) → Kind → List ExportOption → Bool
-named_so path kind list = list_any (λ (e : ExportOption). names_eq e.path e.kind path kind) list
-
-may_behind : (before : List ExportSeen) (list : List ExportOption) (export : ExportOption) → MayExport before list → length before + length list < 16 → is_served before export.path export.kind ≡ false
-    → named_so export.path export.kind list ≡ false → MayExport before (list ++ export ∷ [])
-may_behind before [] export may few free others = (may-now _ _ (few-now (length before) (omega (arith, few))) free, λ file. tt)
-may_behind before (first ∷ list) export may few free others = (
-  may.0,
-  λ (file : FileSeen).
-      let seen : ExportSeen = record { path = first.path; kind = first.kind; file = file } in
-      let mine : names_eq first.path first.kind export.path export.kind ≡ false = (or_parts _ _ others).0 in
-      may_behind (before ++ seen ∷ []) list export (may.1 file) (omega (arith, few, length-append before (seen ∷ [])))
-      (list_any-append (is_named export.path export.kind) before (seen ∷ []) ∙ or_from _ _ free (or_from _ _ mine refl)) (or_parts _ _ others).1,
-)
-
--- The words of kinds.
-
-kind_words : (word : List ℕ) (kind : Kind) → kind_of word ≡ Some kind → kind_word kind ≡ word
-kind_words word kind is = by (bytes_eq (codes "user") word) (bytes_eq (codes "group") word) (bytes_eq (codes "project") word) refl refl refl is
-  where
-    by : (user group project : Bool) → bytes_eq (codes "user") word ≡ user → bytes_eq (codes "group") word ≡ group → bytes_eq (codes "project") word ≡ project
-        → option_map (λ (entry : List ℕ × Kind). entry.1) (if user then Some (codes "user", User) else if group then Some (codes "group", Group)
-        else if project then Some (codes "project", Project) else None) ≡ Some kind → kind_word kind ≡ word
-    by true group project there other third same = let kinds : User ≡ kind = cc in subst (λ (k : Kind). kind_word k ≡ word) kinds (bytes_eq-true _ _ there)
-    by false true project here there third same = let kinds : Group ≡ kind = cc in subst (λ (k : Kind). kind_word k ≡ word) kinds (bytes_eq-true _ _ there)
-    by false false true here other there same = let kinds : Project ≡ kind = cc in subst (λ (k : Kind). kind_word k ≡ word) kinds (bytes_eq-true _ _ there)
-    by false false false here other third same = absurd (cc)
-
-word_kind : (kind : Kind) → kind_of (kind_word kind) ≡ Some kind
-word_kind User = refl
-word_kind Group = refl
-word_kind Project = refl
-
--- two kinds have one word where they are one
-one_kind : (one kind : Kind) → kind_word one ≡ kind_word kind → one ≡ kind
-one_kind one kind same = same_Some one kind (sym (word_kind one) ∙ ap kind_of same ∙ word_kind kind)
-
-kinds_by : (one kind : Kind) → bytes_eq (kind_word one) (kind_word kind) ≡ kinds_eq one kind
-kinds_by one kind = by (bytes_eq (kind_word one) (kind_word kind)) (kinds_eq one kind) refl refl
-  where
-    by : (words kinds : Bool) → bytes_eq (kind_word one) (kind_word kind) ≡ words → kinds_eq one kind ≡ kinds → words ≡ kinds
-    by true true same also = refl
-    by false false other also = refl
-    by true false same other =
-        sym (kinds_eq-same one) ∙ ap (kinds_eq one) (one_kind one kind (bytes_eq-true _ _ same)) ∙ other
-    by false true other same =
-        sym other ∙ (bytes_eq-Decides (kind_word one) (kind_word kind)).1 (ap kind_word (kinds_eq-true one kind same))
-
-same_named : (path word : List ℕ) (kind : Kind) (list : List ExportOption) → kind_word kind ≡ word → is_exported path word list ≡ named_so path kind list
-same_named path word kind [] is = refl
-same_named path word kind (export ∷ list) is =
-    ap (λ (b : Bool). (bytes_eq export.path path && b) || is_exported path word list) (ap (bytes_eq (kind_word export.kind)) (sym is) ∙ kinds_by export.kind kind)
-    ∙ ap (λ (b : Bool). names_eq export.path export.kind path kind || b) (same_named path word kind list is)
 
 -- What is given.
 
@@ -152,7 +74,7 @@ given_export path kind file word told new free is given =
     given_as _ new done.1 (record {
       calls = given.calls;
       exports = may_behind [] told.exports (record { path = path; kind = found.0; file = file }) given.exports (omega (arith, few-before (length told.exports) few.0)) refl
-          (sym (same_named path kind found.0 told.exports (kind_words kind found.0 found.1)) ∙ free);
+          (unnamed path kind found.0 told.exports (kind_words kind found.0 found.1) free);
     })
 
 given_item : (item : Item) (told new : GivenOptions) → with_item item told ≡ Ok new → IsGiven told → IsGiven new

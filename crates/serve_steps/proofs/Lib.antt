@@ -1,1 +1,2 @@
 pub mod ExportingLemmas
+pub mod NamedLemmas

@@ -1,4 +1,5 @@
 use Rattle.std.proofs.Common.{◌≡◌, true, inl}
+use Rattle.outside.proofs.FrameLemmas.{syncs-less, syncs-then}
 use Rattle.rquota_serve.specs.ExportedValues.{nothing_exported}
 use Rattle.rquota_serve.specs.Exports.{Serves}
 use Rattle.serve_steps.specs.Exporting.{first_file}
@@ -18,7 +19,7 @@ returns-in-Ok-first_file-clause-carried g c =
     let named : c.in-Ok-first_file.file ≡ first_file c.args.exports.now = c.in-Ok-first_file.ensures.copied in
     opened_ends asked (tells_of S.tells C.tells) (S.seen c.args.store.now) (S.seen c.add_all.new.store) (C.seen c.args.conns.now)
     (seen_of (S.seen c.serve_opened.new.store) (C.seen c.serve_opened.new.conns)) (Serves S.tells (S.seen c.add_all.new.store).files c.add_all.new.exports) opened.0 c.serve_opened.result
-    c.add_all.ensures.later opened.1 opened.2 c.serve_opened.ensures.ends (rw named at c.serve_opened.ensures.may)
+    c.add_all.ensures.later opened.1 opened.2 c.serve_opened.ensures.ends (rw named at c.serve_opened.ensures.may) c.in-Ok.ensures.reads c.serve_opened.ensures.reads
 
 pub returns-in-Ok-clause-carried : goal.returns-in-Ok-clause-carried
 returns-in-Ok-clause-carried g c =
@@ -59,3 +60,12 @@ returns-in-Ok-first_file-clause-conns g c = late_or _ c.serve_opened.result c.se
 
 pub returns-in-Ok-first_file-clause-unwritten : goal.returns-in-Ok-first_file-clause-unwritten
 returns-in-Ok-first_file-clause-unwritten g c = unwritten-then _ _ _ c.add_all.ensures.unwritten c.serve_opened.ensures.unwritten
+
+pub returns-in-Ok-first_file-clause-synced : goal.returns-in-Ok-first_file-clause-synced
+returns-in-Ok-first_file-clause-synced g c = syncs-then _ _ _ c.in-Ok.ensures.synced c.serve_opened.ensures.synced
+
+pub returns-in-Ok-clause-synced : goal.returns-in-Ok-clause-synced
+returns-in-Ok-clause-synced g c = syncs-less _ _ c.in-Ok.ensures.synced
+
+pub returns-clause-synced : goal.returns-clause-synced
+returns-clause-synced g c = c.in-Err.ensures.synced

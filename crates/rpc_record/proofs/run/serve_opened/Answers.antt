@@ -32,3 +32,6 @@ returns-in-Err-serve_stream-clause-may g c =
     let stopped = c.in-Err-serve_stream.ensures in
     rw (c.of.ensures, c.stream_cause.ensures)
     (serving_may (asked_of c.args.format) c.args.file (exports_seen c.args.opened.now) c.in-Err-serve_stream.fault _ _ _ c.requires.asked stopped.looks.may stopped.looks.refused)
+
+pub returns-then-clause-synced : goal.returns-in-Err-clause-synced
+returns-then-clause-synced g c = syncs-none _
