@@ -2,10 +2,12 @@
 # Measures, in one run, tree files (vfsv1) of as many blocks as there may be, which are 4 GiB: how long quotacheck takes to make
 # one with room for two blocks more, of a listing of 3,900,403 users, and setquota -b for few and for 524,288 lines, of which one
 # finds that file full; each with the most memory that the program holds. It fails where the lines are not made in place, or the
-# file has not just the records of those before that one. Then a file whose 4,194,304 blocks are free but for two, once in a list
-# of ascending blocks, and once in one that leads far from each to the next: opening it for a look-up beside one reading in pieces
-# of 1,024 bytes, the ratio of their times (the best of five each), and the most memory that the program holds beside 16 bytes a
-# block. Where there are less than 6 GiB of free space, or of memory, it measures nothing.
+# file has not just the records of those before that one. Then rquotad keeps that file in memory, and has to tell the limits of
+# users whose records stand in each part of it. Then a file whose 4,194,304 blocks are free but for two, in a list of ascending
+# blocks, of descending ones, as users leave who came one after another, and in one that leads far from each to the next: opening
+# it for a look-up beside one reading in pieces of 1,024 bytes, from its beginning on and in the order of its list, the ratios of
+# their times (the best of five each), and the most memory that the program holds beside 16 bytes a block. Where there are less
+# than 6 GiB of free space, or 10 of memory, it measures nothing.
 . "$(dirname "${BASH_SOURCE[0]}")/measure.sh"
 "$top/bin/quota_cli" --version >said
 limit=4194304
@@ -94,9 +96,9 @@ has_size() {
     if [ "$(stat -c %s t)" != $(($1 * 1024)) ]; then wrong "the file has $(stat -c %s t) bytes"; fi
 }
 
-# (The file takes 4 GiB, and is made in memory.)
-if [ "$(df -Pk . | awk 'NR == 2 { print $4 }')" -lt 6291456 ] || awk '/^MemAvailable:/ { exit $2 >= 6291456 }' /proc/meminfo; then
-    echo 'there are less than 6 GiB of free space, or of memory: nothing is measured'
+# (The file takes 4 GiB, and is made in memory; rquotad keeps as much.)
+if [ "$(df -Pk . | awk 'NR == 2 { print $4 }')" -lt 6291456 ] || awk '/^MemAvailable:/ { exit $2 >= 10485760 }' /proc/meminfo; then
+    echo 'there are less than 6 GiB of free space, or 10 of memory: nothing is measured'
     exit
 fi
 awk -v users="$users" 'BEGIN { for (at = 0; at < users; at++) print at * 256, 100, 1, at + 1, 8 }' >owners
@@ -126,7 +128,19 @@ wanted <all >want.txt
 shown t >shown.txt
 diff want.txt shown.txt | sed 4q
 cmp want.txt shown.txt
-rm -f t t.undo lines all want.txt shown.txt
+
+# A file that is served is kept in memory, each part of it: 64 users from the first to the last one.
+port=$("$top/tests/serve_client.py" free)
+measured 'rquotad of that file, for 64 calls' rquotad --calls 64 --port "$port" --export /home user t &
+serving=$!
+for ((at = 1; at <= 64; at++)); do
+    id=$((at * (users / 64) * 256))
+    while ! "$top/bin/quota_client" quota "$port" $id $id /home >told 2>&1; do sleep 1; done
+    if [ "$(awk 'NR == 1 { print $2 }' told)" != 4 ]; then wrong "of $id it tells $(cat told)"; fi
+done
+wait "$serving"
+if [ "$(cat status said)" != 0 ]; then wrong "rquotad: status $(cat status said)"; fi
+rm -f t t.undo lines all want.txt shown.txt told
 
 # free STEP: makes a file whose blocks are free but for the header and the root; from each the list leads so many blocks on, and
 # around.
@@ -141,12 +155,38 @@ with open("free", "wb") as file:
         file.write(struct.pack("<I1020x", 2 + (at + step) % rest if (at + step) % rest else 0))
 PY
 }
+
+# followed: a program that reads a file once, in pieces of 1,024 bytes, each of which begins with the number of the next one.
+followed() {
+    "${CC:-cc}" -O2 -x c -o followed - <<'C'
+#include <fcntl.h>
+#include <stdint.h>
+#include <stdio.h>
+#include <unistd.h>
+
+int main(int count, char **words) {
+    unsigned char block[1024];
+    int file = open(words[1], O_RDONLY);
+    uint32_t next = 2;
+    while (next != 0) {
+        if (pread(file, block, sizeof block, (off_t)next * 1024) != sizeof block) return 1;
+        next = block[0] | block[1] << 8 | block[2] << 16 | (uint32_t)block[3] << 24;
+    }
+    return 0;
+}
+C
+}
+
+followed
 look=("$program" edquota --print -u 7 free)
 # shellcheck disable=SC2034
 reading=(dd if=free of=/dev/null bs=1024)
-for step in 1 1000003; do
+# shellcheck disable=SC2034
+following=(./followed free)
+for step in 1 -1 1000003; do
     free $step
     sync
     beside "a file of free blocks, each $step behind the one before" look 'one reading' reading
+    beside 'the same' look 'one reading in the order of its list' following
     echo "memory: at most $(held "${look[@]}") KiB, 16 bytes a block $((limit / 64)) KiB"
 done
