@@ -26,7 +26,7 @@ returns-clause-carries g c = λ as_asked value held seen input out err link inpu
     let reads = c.in-NotMade.ensures.reads_only in
     carries_read (LineSteps (way_of c.args.lines.now) c.args.file c.args.now c.args.lines.now value) line_uses (LineEditMayRefuse (asked_of c.args.format) c.args.file) (tells_of S.tells input_tells out_tells err_tells link_tells)
     (seen_of (S.seen c.args.store.now) input out err link) (S.seen c.edit_together.new.store) (seen_of (S.seen c.edit_all.new.store) input out err link) c.edit_all.result.ended reads
-    (rw c.in-NotMade.ensures.back at (c.edit_all.ensures.carries (way_of c.args.lines.now) c.args.format as_asked value
+    (rw c.in-NotMade.ensures.back at (c.edit_all.ensures.carries (way_of c.args.lines.now) (asked_of c.args.format) as_asked value
     (λ told. subst (λ (files : World). HoldsAny S.tells files c.args.opened value) (sym reads.files) (held told)) input out err link input_tells out_tells err_tells link_tells))
 
 pub returns-clause-wanting : goal.returns-clause-wanting
@@ -43,7 +43,7 @@ returns-clause-reads g c = λ as_asked value held seen.
     let old = seen_of (S.seen c.edit_together.new.store) no_source no_sink no_sink no_link in
     let new = seen_of (S.seen c.edit_all.new.store) no_source no_sink no_sink no_link in
     let way = way_of c.args.lines.now in
-    let carried = rw c.in-NotMade.ensures.back at (c.edit_all.ensures.carries way c.args.format as_asked value
+    let carried = rw c.in-NotMade.ensures.back at (c.edit_all.ensures.carries way (asked_of c.args.format) as_asked value
     (λ told. subst (λ (files : World). HoldsAny S.tells files c.args.opened value) (sym reads.files) (held told)) no_source no_sink no_sink no_link true true true true) in
     told_first _ c.edit_all.result.ended (λ told.
     placed_reads c.args.file c.args.now c.args.lines.now value (S.seen c.args.store.now).reads (S.seen c.edit_together.new.store).reads (S.seen c.edit_all.new.store).reads

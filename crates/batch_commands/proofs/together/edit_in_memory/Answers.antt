@@ -21,7 +21,7 @@ returns-in-Ok-clause-edits c =
     let opening = c.in-Ok.ensures in
     let some = opening.seen refl in
     let has = opened_bytes _ c.args.name.now c.args.whole.bytes.items (one_file_seen c.new-memory.result) (one_file_seen c.open_file.new.store) named c.new-memory.ensures.seen opening.leaves in
-    rw file at (c.in_ok-edit_opened-in-Ok.ensures.edits c.args.whole.bytes.items (rw (sym file) at has) c.args.format opening.as_asked some.0 (opening.held refl some.0 some.1))
+    rw file at (c.in_ok-edit_opened-in-Ok.ensures.edits c.args.whole.bytes.items (rw (sym file) at has) (asked_of c.args.format) opening.as_asked some.0 (opening.held refl some.0 some.1))
 
 pub returns-clause-opens : goal.returns-clause-opens
 returns-clause-opens c = λ none value view.

@@ -1,4 +1,4 @@
-use Rattle.std.proofs.Common.{Some, refl, sym, arith}
+use Rattle.std.proofs.Common.{refl, sym, arith}
 use Rattle.file_in_memory.specs.OneFile.{one_file_name, one_file_seen}
 use Rattle.quota_map.specs.Asked.{InFormat}
 use Rattle.quota_map.specs.AnyFile.{any_seen}
@@ -29,4 +29,4 @@ pub returns-then-is_fault-clause-given_up : goal.returns-then-is_fault-clause-gi
 returns-then-is_fault-clause-given_up c = λ value held.
     let all = c.edit_all-edited.ensures in
     memory_failed (LineSteps InPlace c.args.file c.args.now c.args.lines.now value) (LineEditMayRefuse (InFormat (any_seen c.args.opened).format) c.args.file) (one_file_seen c.args.memory) (one_file_seen c.edit_all-edited.new.store) _ (c.if-is_fault.ensures.fault refl) all.memory
-    (λ input out err link input_tells out_tells err_tells link_tells. all.carries InPlace (Some (any_seen c.args.opened).format) refl value (λ told. held) input out err link input_tells out_tells err_tells link_tells)
+    (λ input out err link input_tells out_tells err_tells link_tells. all.carries InPlace (InFormat (any_seen c.args.opened).format) refl value (λ told. held) input out err link input_tells out_tells err_tells link_tells)
