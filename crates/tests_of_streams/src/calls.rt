@@ -95,7 +95,12 @@ pub(crate) fn came_as(
     }
     let failing = Vec::from_slice(alloc, failing)?;
     let conns = MemConns::new(alloc, list, failing)?;
-    Ok(ShortReads { conns, most, cut })
+    Ok(ShortReads {
+        conns,
+        most,
+        cut,
+        closed: 0,
+    })
 }
 
 /// Whether these bytes were written on the connection at a place.

@@ -10,6 +10,8 @@ mod calls;
 #[cfg(test)]
 mod cut_rows;
 #[cfg(test)]
+mod damage_rows;
+#[cfg(test)]
 mod marker_rows;
 #[cfg(test)]
 mod parts;
@@ -21,5 +23,7 @@ mod running;
 mod short_reads;
 #[cfg(test)]
 mod stream_rows;
+#[cfg(test)]
+mod turning;
 #[cfg(test)]
 mod word_rows;

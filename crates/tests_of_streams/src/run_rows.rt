@@ -1,5 +1,5 @@
 use crate::calls::{BACK, FRONT, MIDDLE, ONE_ANSWER, ONE_CALL, TWO_ANSWERS, TWO_CALLS, Times};
-use crate::running::{ONE, PLAIN, Run, TWO, Way, end_of, holds};
+use crate::running::{ONE, PLAIN, Run, TWO, Way, end_of, holds, reads_of};
 use std::alloc::Global;
 use std::process::Abort;
 
@@ -52,10 +52,10 @@ fn calls_of(alloc: Global, row: &Run<'_>, most: u64) -> u64 {
 fn is_ended_by_each(alloc: Global, row: &Run<'_>) -> bool {
     let count = calls_of(alloc, row, 100);
     let store: &[u64] = &[count.saturating_add(1)];
-    let Ok(plain) = end_of(alloc, row, PLAIN) else {
+    let Ok(reads) = reads_of(alloc, row) else {
         return false;
     };
-    plain.reads > 0 && count >= plain.reads && holds(alloc, row, Way { store, ..PLAIN })
+    reads > 0 && count >= reads && holds(alloc, row, Way { store, ..PLAIN })
 }
 
 /// A call in one fragment, which is 84 bytes long.

@@ -1,5 +1,6 @@
 use crate::calls::{Came, GRACE, ONE_CALL, TWO_CALLS, Times, USERS, came_as, have_written};
 use memory_objects::{MemSink, MemStore};
+use outside::Store;
 use quota_types::{Format, Kind};
 use rpc_record::run_stream;
 use std::alloc::{AllocError, Global};
@@ -43,12 +44,13 @@ pub(crate) const PLAIN: Way<'static> = Way {
     cut: 0,
 };
 
-/// How a run went: its status, what was said, how often the store was read, and whether a row's port and writings came of it.
+/// How a run went: its status, what was said, how many connections were closed, and whether a row's port and writings came of
+/// it.
 #[derive(Drop)]
 pub(crate) struct End {
     pub(crate) status: u8,
     pub(crate) said: Vec<u8>,
-    pub(crate) reads: u64,
+    pub(crate) closed: u64,
     pub(crate) is_listened: bool,
     pub(crate) is_written: bool,
 }
@@ -74,29 +76,49 @@ pub(crate) fn store_with(alloc: Global, failing: &[u64]) -> Result<MemStore, All
     }
 }
 
-/// How a row goes in a way.
-pub(crate) fn end_of(alloc: Global, row: &Run<'_>, way: Way<'_>) -> Result<End, AllocError> {
+/// How a row goes in a way over a store.
+pub(crate) fn end_over<S: Store>(
+    alloc: Global,
+    row: &Run<'_>,
+    way: Way<'_>,
+    store: &mut S,
+) -> Result<End, AllocError> {
     let words = words_of(alloc, row.words)?;
-    let mut store = store_with(alloc, way.store)?;
     let mut short = came_as(alloc, row.came, row.failing, way.most, way.cut)?;
     let mut err = MemSink::new(Vec::new(alloc), Vec::from_slice(alloc, way.err)?);
-    let status = run_stream(alloc, &words, &mut store, &mut short, &mut err);
+    let status = run_stream(alloc, &words, store, &mut short, &mut err);
     Ok(End {
         status,
         said: Vec::from_slice(alloc, err.bytes())?,
-        reads: store.reads(),
+        closed: short.closed,
         is_listened: short.conns.port() == row.port,
         is_written: have_written(alloc, &short.conns, row.written)?,
     })
 }
 
+/// How a row goes in a way.
+pub(crate) fn end_of(alloc: Global, row: &Run<'_>, way: Way<'_>) -> Result<End, AllocError> {
+    let mut store = store_with(alloc, way.store)?;
+    end_over(alloc, row, way, &mut store)
+}
+
+/// How often a row reads the store where no call fails.
+pub(crate) fn reads_of(alloc: Global, row: &Run<'_>) -> Result<u64, AllocError> {
+    let mut store = store_with(alloc, &[])?;
+    let _ = end_over(alloc, row, PLAIN, &mut store)?;
+    Ok(store.reads())
+}
+
+/// Whether a run went as a row says.
+pub(crate) fn is_as_said(row: &Run<'_>, end: &End) -> bool {
+    let is_said = end.said.as_slice() == row.line.as_bytes();
+    end.status == row.status && is_said && end.is_listened && end.is_written
+}
+
 /// Whether a row holds in a way.
 pub(crate) fn holds(alloc: Global, row: &Run<'_>, way: Way<'_>) -> bool {
     match end_of(alloc, row, way) {
-        Ok(end) => {
-            let is_said = end.said.as_slice() == row.line.as_bytes();
-            end.status == row.status && is_said && end.is_listened && end.is_written
-        }
+        Ok(end) => is_as_said(row, &end),
         Err(_) => false,
     }
 }

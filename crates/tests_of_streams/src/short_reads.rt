@@ -2,13 +2,14 @@ use memory_network::MemConns;
 use rpc_record::{ConnFault, Conns};
 
 /// Connections in memory whose reads take no more than so many bytes, and none of which takes bytes before a cut and behind
-/// it.
+/// it. They count how many of them are closed.
 #[derive(Drop)]
 pub(crate) struct ShortReads {
     pub(crate) conns: MemConns,
     pub(crate) most: usize,
     /// How many bytes stand before the cut; 0 where there is none.
     pub(crate) cut: usize,
+    pub(crate) closed: u64,
 }
 
 impl Conns for ShortReads {
@@ -49,6 +50,7 @@ impl Conns for ShortReads {
     }
 
     fn close(&mut self) {
+        self.closed = self.closed.saturating_add(1);
         self.conns.close();
     }
 }
