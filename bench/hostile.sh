@@ -1,8 +1,9 @@
 #!/usr/bin/env bash
-# Tries the built program on damaged files and on hostile datagrams, many of each, which one seed makes, so that each case can be
-# made again by its number. It is no part of the gate.
-# usage: [SEED=NUMBER] [JOBS=NUMBER] bench/hostile.sh [files|datagrams [COUNT [FIRST]]]
-#   With no words: 200,000 files, and then 1,000,000 datagrams. FIRST is the number of the first case, 0 without it.
+# Tries the built programs on damaged files, on hostile datagrams and on hostile streams, many of each, which one seed makes, so
+# that each case can be made again by its number. It is no part of the gate.
+# usage: [SEED=NUMBER] [JOBS=NUMBER] bench/hostile.sh [files|datagrams|streams [COUNT [FIRST]]]
+#   With no words: 200,000 files, then 1,000,000 datagrams, and then 1,000,000 streams. FIRST is the number of the first case, 0
+#   without it.
 #   SEED: 1 without it. JOBS: how many processes there are at a time, as many as processors without it.
 # It prints what the cases came to, the worst memory and time, and how long it took, and ends with status 1 where a case failed.
 # What failed is kept in a folder that it names. Each run is traced for what it takes, which the system has to allow (ptrace(2)).
@@ -32,33 +33,43 @@
 # and ends with status 0 after just so many. The replies are, byte for byte and in their order, those that docs/COMMANDS.md and
 # docs/FORMATS.md ask for (the seconds that are left are those of the moments at which it was sent and received), and no further
 # ones. A server takes nothing more of the heap than one that meets sound calls alone, nor of the stack but for where it begins.
+#
+# A stream is one to thirty calls as records of one or more fragments, half of them changed as a datagram is, and the stream with
+# up to three changes: of a number, mostly that of a head, with bytes put in, taken out or cut off, with up to 2,000 heads alone
+# put in, or with a record of 4,096 bytes or 4,097 in front; each 25th has sound calls alone, and each 100,000th a call that ends
+# with the last byte that is read of a connection, or one behind it. Each is sent at once or in pieces. Each `rquotad_tcp` takes
+# up to 5,000 of them, one connection for each, and ends with status 0 after just so many. The replies on each are, byte for byte
+# and in their order, those to its whole records up to the first that is cut off or too long, and no further ones; about one
+# client in 50 resets its connection and reads none. What a server takes is judged as it is for datagrams.
 set -euo pipefail
 shopt -s inherit_errexit
 top=$(cd "$(dirname "${BASH_SOURCE[0]}")/.." && pwd)
 what=${1-}
 case $what in
-'' | files | datagrams) ;;
+'' | files | datagrams | streams) ;;
 *)
     sed -n '/^# usage/,/^# What/{s/^# //;p}' "${BASH_SOURCE[0]}" >&2
     exit 2
     ;;
 esac
-"$top/bin/quota_cli" --version
-program=$top/crates/quota_program/out/quota_program
+case $what in streams) ;; *) "$top/bin/quota_cli" --version ;; esac
+case $what in '' | streams) "$top/bin/rquotad_tcp" --version ;; esac
 room=/dev/shm
 if ! { [ -d "$room" ] && [ -w "$room" ]; }; then room=${TMPDIR:-/tmp}; fi
 work=$(mktemp -d -p "$room")
 trap 'rm -rf "$work"' EXIT
 kept=$(mktemp -d)
 
-# try WHAT COUNT FIRST: tries so many cases from that one on.
+# try WHAT PROGRAM COUNT FIRST: tries so many cases from that one on.
 try() {
+    local program=$top/crates/$2/out/$2
     echo "$1:"
-    PYTHONPATH=$top/tests python3 -B "$top/bench/hostile_$1.py" "$program" "${SEED:-1}" "$3" "$2" "${JOBS:-$(nproc)}" "$work" "$kept"
+    PYTHONPATH=$top/tests python3 -B "$top/bench/hostile_$1.py" "$program" "${SEED:-1}" "$4" "$3" "${JOBS:-$(nproc)}" "$work" "$kept"
 }
 
 status=0
-if [ "$what" != datagrams ]; then try files "${2:-200000}" "${3:-0}" || status=1; fi
-if [ "$what" != files ]; then try datagrams "${2:-1000000}" "${3:-0}" || status=1; fi
+case $what in '' | files) try files quota_program "${2:-200000}" "${3:-0}" || status=1 ;; esac
+case $what in '' | datagrams) try datagrams quota_program "${2:-1000000}" "${3:-0}" || status=1 ;; esac
+case $what in '' | streams) try streams rquotad_tcp "${2:-1000000}" "${3:-0}" || status=1 ;; esac
 if ! rmdir "$kept" 2>/dev/null; then echo "what failed is in $kept" >&2; fi
 exit "$status"

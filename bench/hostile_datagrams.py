@@ -228,7 +228,7 @@ class Served:
     """The files that one server has, in the folder where it runs."""
 
     def __init__(self, seed, form, runner):
-        self.form, self.values, self.words, self.known = form, {}, [], []
+        self.form, self.values, self.exports, self.known = form, {}, [], []
         for at, (path, kind) in enumerate(EXPORTS):
             if kind not in kinds_of(form):
                 continue
@@ -236,14 +236,15 @@ class Served:
             runner.write("q%d" % at, sound.data)
             value = flat_value(sound.data, kind, form) if form in FLAT else Tree(sound.data, kind, form).value()
             self.values[path.encode(), kind] = value
-            self.words += ["--export", path, kind, "q%d" % at]
+            self.exports.append((path, kind, "q%d" % at))
             self.known += sound.ids
-        if form in FLAT or seed % 2:
-            self.words += ["--format", form]
+        self.is_asked = form in FLAT or seed % 2 == 1
 
 
 class Shard:
     """The cases that one server meets."""
+
+    what = "datagrams"
 
     def __init__(self, program, seed, folder, form):
         self.seed, self.runner = seed, Runner(program, tempfile.mkdtemp(dir=folder))
@@ -252,8 +253,12 @@ class Shard:
 
     def serve(self, cases):
         """Sends the datagrams of these cases, a sound one first, and looks at the replies; what the server took."""
-        port = free_port()
-        words = ["rquotad", "--calls", str(len(cases) + 1), "--port", str(port), *self.served.words]
+        port = free_port(socket.SOCK_DGRAM)
+        words = ["rquotad", "--calls", str(len(cases) + 1), "--port", str(port)]
+        for export in self.served.exports:
+            words += ["--export", *export]
+        if self.served.is_asked:
+            words += ["--format", self.served.form]
         self.runner.start(words)
         sock = connected(port)
         sock.settimeout(SECONDS)
@@ -327,8 +332,9 @@ def name_of(reply):
     return ("", "limits", "no quota", "denied")[numbers[6]] if numbers[6:] else "done"
 
 
-def free_port():
-    with socket.socket(socket.AF_INET, socket.SOCK_DGRAM) as sock:
+def free_port(kind):
+    """A port that is free for sockets of a kind."""
+    with socket.socket(socket.AF_INET, kind) as sock:
         sock.bind(("127.0.0.1", 0))
         return sock.getsockname()[1]
 
@@ -337,20 +343,20 @@ def free_port():
 shards = {}
 
 
-def shard_of(program, seed, folder, form):
-    """The shard of a format. What a server takes that meets the calls that are sound is measured before all others."""
+def shard_of(made, program, seed, folder, form):
+    """The shard of a format. What a server takes that meets the cases that are sound is measured before all others."""
     if form not in shards:
-        shard = Shard(program, seed, folder, form)
+        shard = made(program, seed, folder, form)
         first = FORMATS.index(form)
         shard.taken = shard.serve([number for number in range(first, len(FORMATS) * EACH * 1000, len(FORMATS)) if is_sound(number)])
         shards[form] = shard
     return shards[form]
 
 
-def served(task):
-    """Serves some cases, and tells what they came to."""
+def served_by(made, task):
+    """Serves some cases by a shard that is made so, and tells what they came to."""
     program, seed, folder, kept, form, cases = task
-    shard = shard_of(program, seed, folder, form)
+    shard = shard_of(made, program, seed, folder, form)
     shard.counts, taken, failed = collections.Counter(), shard.taken, []
     try:
         taken = shard.serve(cases)
@@ -358,19 +364,24 @@ def served(task):
         want(more[0] <= 0 and more[1] <= STACK, "it took %d KiB, and %d KiB of stack," % taken, "%d and %d more" % more)
     except Wrong as why:
         failed = [cases[0]]
-        with open(os.path.join(kept, "datagrams-%d" % cases[0]), "w") as file:
+        with open(os.path.join(kept, "%s-%d" % (made.what, cases[0])), "w") as file:
             file.write("%s, cases %d to %d\n%s\n" % (form, cases[0], cases[-1], why))
     return shard.counts, failed, (*taken, *beyond(taken, shard.taken))
 
 
-def parts_of(cases):
+def served(task):
+    return served_by(Shard, task)
+
+
+def parts_of(cases, most=CALLS):
     """The cases of each format, as many at once as one server takes."""
     for at, form in enumerate(FORMATS):
         own = cases[(at - cases.start) % len(FORMATS) :: len(FORMATS)]
-        for start in range(0, len(own), CALLS):
-            yield form, own[start : start + CALLS]
+        for start in range(0, len(own), most):
+            yield form, own[start : start + most]
 
+
+MEMORY = "most memory of a server: %d KiB, and %d KiB of stack; more than with sound calls: at most %d KiB, and %d KiB of stack"
 
 if __name__ == "__main__":
-    memory = "most memory of a server: %d KiB, and %d KiB of stack; more than with sound calls: at most %d KiB, and %d KiB of stack"
-    try_all(sys.argv[1:], parts_of, served, "servers", memory)
+    try_all(sys.argv[1:], parts_of, served, "servers", MEMORY)

@@ -109,6 +109,7 @@ served-end serves now arrival marker left piece old new came so_far takes end = 
   connection = hearing arrival (length so_far.heard + length piece) so_far.written;
   is = (behind-piece serves now arrival marker left piece old new so_far takes).0;
   came = refl;
+  few = omega (arith, so_far.few, ap length (sym end ∙ takes.bytes), length-append piece (unread new));
   answered = λ exported serve. record {
     whole = λ read write.
         written-heard serves now arrival marker left old so_far exported serve arrival.bytes
@@ -127,6 +128,7 @@ served-full serves now arrival marker left current came none so_far = record {
   connection = hearing arrival (length so_far.heard) so_far.written;
   is = so_far.is;
   came = refl;
+  few = omega (arith, so_far.few);
   answered = λ exported serve. record {
     whole = λ read write.
         written-heard serves now arrival marker left current so_far exported serve arrival.bytes
@@ -144,6 +146,7 @@ served-unread serves now arrival marker left old new came so_far failed = record
   connection = with_failed_read (hearing arrival (length so_far.heard) so_far.written);
   is = failed ∙ ap (option_map with_failed_read) so_far.is;
   came = refl;
+  few = omega (arith, so_far.few);
   answered = λ exported serve. record {
     whole = λ read write. absurd (false≢true (sym read));
     unread = λ read.
@@ -183,6 +186,7 @@ served-long serves now arrival marker left piece old between new came fits so_fa
       connection = hearing arrival (length so_far.heard + length piece) (so_far.written ++ answers.written);
       is = answers.current ∙ ap (option_map (with_written answers.written)) at.0;
       came = refl;
+      few = omega (arith, so_far.few, fits);
       answered = λ exported serve. record {
         whole = λ read write.
             let cut = cut-piece now exported so_far.heard piece (drop (length so_far.heard + length piece) arrival.bytes) arrival.bytes (omega (arith, so_far.few, fits)) at.1 in
@@ -217,6 +221,7 @@ served-unwritten serves now arrival marker left piece old between new came fits 
       connection = with_failed_write part.written (hearing arrival (length so_far.heard + length piece) so_far.written);
       is = part.current ∙ ap (option_map (with_failed_write part.written)) at.0;
       came = refl;
+      few = omega (arith, so_far.few, fits);
       answered = λ exported serve. record {
         whole = λ read write. absurd (false≢true (sym write));
         unread = λ no. absurd (false≢true no);
@@ -234,5 +239,6 @@ begun-part serves now arrival marker left piece old between new came fits so_far
       connection = hearing arrival (length so_far.heard + length piece) (so_far.written ++ part.written);
       is = part.current ∙ ap (option_map (with_written part.written)) at.0;
       came = refl;
+      few = omega (arith, so_far.few, fits);
       answered = begins-part serves now arrival marker left piece with_written old between new came fits so_far takes part;
     }

@@ -9,13 +9,14 @@ use Rattle.network.specs.Connections.{AcceptsNext, Arrival, ChangesCurrent, Clos
 use Rattle.opened_file.specs.declared.quota_file.FileFault.{FileFault}
 use Rattle.rquota_serve.specs.ExportedValues.{ExportedValues}
 use Rattle.rquota_serve.specs.Looking.{ExportsAt, LooksUpIn}
-use Rattle.rpc_record.specs.Serving.{IsAnswered, IsAnsweredInPart, IsBegun, IsServed, ServesConns, StopsServing, arrival_of}
+use Rattle.rpc_record.specs.Serving.{IsAnswered, IsAnsweredInPart, IsBegun, IsServed, ServesConns, StopsServing, TakesFew, arrival_of}
 
 -- no connection was served
 pub serves-none : (serves : ExportedValues → Type 0) (conns : ConnsSeen) → ServesConns serves 0 conns conns
 serves-none serves conns = record {
   served = [];
   number = refl;
+  taken = All-nil TakesFew;
   arrived = refl;
   closed = sym (append-nil conns.closed);
   answered = λ exported is. All-nil (IsAnswered exported);
@@ -26,6 +27,7 @@ pub serves-then : (serves : ExportedValues → Type 0) (one two : ℕ) (old mid 
 serves-then serves one two old mid new first second = record {
   served = first.served ++ second.served;
   number = omega (arith, length-append first.served second.served, first.number, second.number);
+  taken = All-append TakesFew first.served second.served first.taken second.taken;
   arrived =
       first.arrived ∙ ap (λ (l : List Arrival). map arrival_of first.served ++ l) second.arrived
       ∙ sym (append_assoc (map arrival_of first.served) (map arrival_of second.served) new.left)
@@ -39,6 +41,8 @@ pub stops-then : (serves : ExportedValues → Type 0) (one two most : ℕ) (old 
 stops-then serves one two most old mid new within first second = record {
   served = first.served ++ second.served;
   few = omega (arith, length-append first.served second.served, first.number, second.few, within);
+  taken = All-append TakesFew first.served second.served first.taken second.taken;
+  open = second.open;
   arrived =
       first.arrived ∙ ap (λ (l : List Arrival). map arrival_of first.served ++ l) second.arrived
       ∙ sym (append_assoc (map arrival_of first.served) (map arrival_of second.served) (map arrival_of (option_to_list new.current) ++ new.left))
@@ -53,6 +57,7 @@ pub serves-before : (before after : ExportedValues → Type 0) (count : ℕ) (ol
 serves-before before after count old new stays served = record {
   served = served.served;
   number = served.number;
+  taken = served.taken;
   arrived = served.arrived;
   closed = served.closed;
   answered = λ exported is. served.answered exported (stays exported is);
@@ -62,6 +67,8 @@ pub stops-before : (before after : ExportedValues → Type 0) (count : ℕ) (old
 stops-before before after count old new stays stopped = record {
   served = stopped.served;
   few = stopped.few;
+  taken = stopped.taken;
+  open = stopped.open;
   arrived = stopped.arrived;
   closed = stopped.closed;
   answered = λ exported is. stopped.answered exported (stays exported is);
@@ -82,6 +89,8 @@ unaccepted serves old new left closed shut =
     record {
       served = [];
       few = omega arith;
+      taken = All-nil TakesFew;
+      open = subst (λ (c : Option Connection). IfSome c TakesFew) (sym none) tt;
       arrived = sym left ∙ ap (λ (c : Option Connection). map arrival_of (option_to_list c) ++ new.left) (sym none);
       closed = closed ∙ sym (append-nil old.closed);
       answered = λ exported is. All-nil (IsAnswered exported);
@@ -94,6 +103,7 @@ pub served-one : (serves : ExportedValues → Type 0) (moment : ℕ) (old begun 
 served-one serves moment old begun done new accepts closed served changes closes left = record {
   served = served.connection ∷ [];
   number = refl;
+  taken = All-cons TakesFew served.connection [] served.few (All-nil TakesFew);
   arrived = accepts.next ∙ ap (λ (l : List Arrival). accepts.arrival ∷ l) (sym (left ∙ changes.left)) ∙ ap (λ (a : Arrival). a ∷ new.left) (sym served.came);
   closed = closes.closed ∙ ap (λ (c : Option Connection). done.closed ++ option_to_list c) served.is
       ∙ ap (λ (l : List Connection). l ++ served.connection ∷ []) (changes.closed ∙ closed);
@@ -106,6 +116,8 @@ pub begun-one : (serves : ExportedValues → Type 0) (moment : ℕ) (old begun n
 begun-one serves moment old begun new accepts closed part changes = record {
   served = [];
   few = omega arith;
+  taken = All-nil TakesFew;
+  open = subst (λ (c : Option Connection). IfSome c TakesFew) (sym part.is) part.few;
   arrived = accepts.next ∙ ap (λ (l : List Arrival). accepts.arrival ∷ l) (sym changes.left) ∙ ap (λ (a : Arrival). a ∷ new.left) (sym part.came)
       ∙ ap (λ (c : Option Connection). map arrival_of (option_to_list c) ++ new.left) (sym part.is);
   closed = changes.closed ∙ closed ∙ sym (append-nil old.closed);

@@ -1,5 +1,5 @@
 -- Connections that are served one after another.
-use Rattle.std.specs.Prelude.{◌≡◌, ℕ, ◌*◌, ◌<◌, false, IsTrue, IfSome, List, ◌++◌, length, map, take, Option, Some}
+use Rattle.std.specs.Prelude.{◌≡◌, ℕ, ◌*◌, ◌<◌, ◌≤◌, false, IsTrue, IfSome, List, ◌++◌, length, map, take, Option, Some}
 use Rattle.std.specs.List.{All}
 use Rattle.std.specs.Option.{option_to_list}
 use Rattle.network.specs.Connections.{Arrival, Connection, ConnsSeen}
@@ -26,11 +26,16 @@ pub record IsAnswered (exported : ExportedValues) (connection : Connection) : Ty
 abbrev pub IsAnsweredInPart : ExportedValues → Connection → Type 0
 IsAnsweredInPart exported connection = Begins connection.written (answers_of exported connection.bytes connection.moment)
 
+-- no more bytes of a connection were taken than 16,777,216
+abbrev pub TakesFew : Connection → Type 0
+TakesFew connection = connection.taken ≤ 16777216
+
 -- the connection that came so was served
 pub record IsServed (serves : ExportedValues → Type 0) (arrival : Arrival) (current : Option Connection) : Type 0 where
   pub connection : Connection
   pub is : current ≡ Some connection
   pub came : arrival_of connection ≡ arrival
+  pub few : TakesFew connection
   pub answered : (exported : ExportedValues) → serves exported → IsAnswered exported connection
 
 -- the connection that came so was served in part
@@ -38,6 +43,7 @@ pub record IsBegun (serves : ExportedValues → Type 0) (arrival : Arrival) (cur
   pub connection : Connection
   pub is : current ≡ Some connection
   pub came : arrival_of connection ≡ arrival
+  pub few : TakesFew connection
   pub answered : (exported : ExportedValues) → serves exported → IsAnsweredInPart exported connection
 
 -- how many calls of `read` the answers of a connection take at most: each of its bytes may end a record
@@ -48,6 +54,7 @@ connection_reads = any_get_reads * 16777216
 pub record ServesConns (serves : ExportedValues → Type 0) (count : ℕ) (old new : ConnsSeen) : Type 0 where
   pub served : List Connection
   pub number : length served ≡ count
+  pub taken : All TakesFew served
   pub arrived : old.left ≡ map arrival_of served ++ new.left
   pub closed : new.closed ≡ old.closed ++ served
   pub answered : (exported : ExportedValues) → serves exported → All (IsAnswered exported) served
@@ -57,6 +64,8 @@ pub record ServesConns (serves : ExportedValues → Type 0) (count : ℕ) (old n
 pub record StopsServing (serves : ExportedValues → Type 0) (count : ℕ) (old new : ConnsSeen) : Type 0 where
   pub served : List Connection
   pub few : length served < count
+  pub taken : All TakesFew served
+  pub open : IfSome new.current TakesFew
   pub arrived : old.left ≡ map arrival_of served ++ (map arrival_of (option_to_list new.current) ++ new.left)
   pub closed : new.closed ≡ old.closed ++ served
   pub answered : (exported : ExportedValues) → serves exported → All (IsAnswered exported) served
