@@ -1,9 +1,9 @@
 use Rattle.std.proofs.Common.{inr}
+use Rattle.quota_map.specs.Asked.{asked_of}
 use Rattle.rquota_serve.specs.Exports.{Serves, exports_seen}
 use Rattle.rpc_record.specs.Run.{seen_of}
 use Rattle.rpc_record.proofs.RunLemmas.{listens_and_serves, listens_and_stops, serving_may, serving_reason}
 use Rattle.rpc_record.proofs.run.serve_opened.Goals as goal
-use Rattle.quota_map.specs.Asked.{asked_of}
 
 pub returns-in-Ok-serve_stream-clause-ends : goal.returns-in-Ok-serve_stream-clause-ends
 returns-in-Ok-serve_stream-clause-ends g c = λ told.
@@ -32,6 +32,3 @@ returns-in-Err-serve_stream-clause-may g c =
     let stopped = c.in-Err-serve_stream.ensures in
     rw (c.of.ensures, c.stream_cause.ensures)
     (serving_may (asked_of c.args.format) c.args.file (exports_seen c.args.opened.now) c.in-Err-serve_stream.fault _ _ _ c.requires.asked stopped.looks.may stopped.looks.refused)
-
-pub returns-then-clause-synced : goal.returns-in-Err-clause-synced
-returns-then-clause-synced g c = syncs-none _
