@@ -145,7 +145,7 @@ listens_and_stops serves port connections old heard new listened kept keeps stop
     served = stopped.served;
     few = stopped.few;
     taken = stopped.taken;
-    open = stopped.open;
+    at_hand = stopped.at_hand;
     arrived = sym kept.left ∙ stopped.arrived;
     closed = stopped.closed ∙ ap (λ (l : List Connection). l ++ stopped.served) kept.closed;
     answered = stopped.answered;
@@ -215,7 +215,7 @@ stops_before before after port connections old new stays stops = record {
     served = stops.served.served;
     few = stops.served.few;
     taken = stops.served.taken;
-    open = stops.served.open;
+    at_hand = stops.served.at_hand;
     arrived = stops.served.arrived;
     closed = stops.served.closed;
     answered = λ exported is. stops.served.answered exported (stays exported is);

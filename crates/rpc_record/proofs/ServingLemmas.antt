@@ -42,7 +42,7 @@ stops-then serves one two most old mid new within first second = record {
   served = first.served ++ second.served;
   few = omega (arith, length-append first.served second.served, first.number, second.few, within);
   taken = All-append TakesFew first.served second.served first.taken second.taken;
-  open = second.open;
+  at_hand = second.at_hand;
   arrived =
       first.arrived ∙ ap (λ (l : List Arrival). map arrival_of first.served ++ l) second.arrived
       ∙ sym (append_assoc (map arrival_of first.served) (map arrival_of second.served) (map arrival_of (option_to_list new.current) ++ new.left))
@@ -68,7 +68,7 @@ stops-before before after count old new stays stopped = record {
   served = stopped.served;
   few = stopped.few;
   taken = stopped.taken;
-  open = stopped.open;
+  at_hand = stopped.at_hand;
   arrived = stopped.arrived;
   closed = stopped.closed;
   answered = λ exported is. stopped.answered exported (stays exported is);
@@ -90,7 +90,7 @@ unaccepted serves old new left closed shut =
       served = [];
       few = omega arith;
       taken = All-nil TakesFew;
-      open = subst (λ (c : Option Connection). IfSome c TakesFew) (sym none) tt;
+      at_hand = subst (λ (c : Option Connection). IfSome c TakesFew) (sym none) tt;
       arrived = sym left ∙ ap (λ (c : Option Connection). map arrival_of (option_to_list c) ++ new.left) (sym none);
       closed = closed ∙ sym (append-nil old.closed);
       answered = λ exported is. All-nil (IsAnswered exported);
@@ -117,7 +117,7 @@ begun-one serves moment old begun new accepts closed part changes = record {
   served = [];
   few = omega arith;
   taken = All-nil TakesFew;
-  open = subst (λ (c : Option Connection). IfSome c TakesFew) (sym part.is) part.few;
+  at_hand = subst (λ (c : Option Connection). IfSome c TakesFew) (sym part.is) part.few;
   arrived = accepts.next ∙ ap (λ (l : List Arrival). accepts.arrival ∷ l) (sym changes.left) ∙ ap (λ (a : Arrival). a ∷ new.left) (sym part.came)
       ∙ ap (λ (c : Option Connection). map arrival_of (option_to_list c) ++ new.left) (sym part.is);
   closed = changes.closed ∙ closed ∙ sym (append-nil old.closed);

@@ -65,7 +65,7 @@ pub record StopsServing (serves : ExportedValues → Type 0) (count : ℕ) (old 
   pub served : List Connection
   pub few : length served < count
   pub taken : All TakesFew served
-  pub open : IfSome new.current TakesFew
+  pub at_hand : IfSome new.current TakesFew
   pub arrived : old.left ≡ map arrival_of served ++ (map arrival_of (option_to_list new.current) ++ new.left)
   pub closed : new.closed ≡ old.closed ++ served
   pub answered : (exported : ExportedValues) → serves exported → All (IsAnswered exported) served
