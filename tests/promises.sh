@@ -1,10 +1,12 @@
 #!/usr/bin/env bash
-# Looks whether docs/PROMISES.md and docs/ARCHITECTURE.md name what is there. In a table of PROMISES under a heading with
-# names of crates, what stands between backticks as a contract has to stand in one of these crates, or in one that they
-# stand on, or that the row names: functions, types, definitions, modules, clauses of the named functions (where a type is
-# named, of it or of its trait), and fields of the named records. Other words of a row are looked for where they have the
-# form of a function with its type, of a definition or of a file. In ARCHITECTURE the files that the tables name have to be
-# there. Proves nothing, and takes less than a second; ends with status 1 where something is not found.
+# Looks whether docs/PROMISES.md and docs/ARCHITECTURE.md name what is there, and whether PROMISES can be read. In PROMISES what
+# stands in brackets behind a sentence says it: `f`: `c` is a clause c of a function, type or trait f (where a type is named, of
+# it or of its trait), `R.x` a field x of a record R, and any other name a function, type, definition or module. All of it has
+# to stand in a crate that the heading or the row names, or in one that it stands on; where they name none, in any crate. Each
+# row below a heading with names of crates has such a bracket. Other words are looked for where they have the form of a
+# function with its type, of a definition or of a file. PROMISES has at most 7,000 words, and 25 a sentence. In ARCHITECTURE
+# the files that the tables name have to be there. Proves nothing, and takes a few seconds; ends with status 1 where something
+# is not found or is too long.
 # usage: tests/promises.sh
 cd "$(dirname "${BASH_SOURCE[0]}")/.." || exit 1
 exec python3 - <<'PY'
@@ -55,12 +57,12 @@ class Crate:
 
     ITEM = re.compile(r"\b(fn|struct|enum|trait|type|const|mod|use|ghost)\s+(\w+)")
     IMPL = re.compile(r"^(?:unsafe )?impl\b(?:<[^{]*?>)?\s+(?:(\w+)[^{]*?\s+for\s+)?&?(?:mut )?(\w+)", re.M)
-    CLAUSE = re.compile(r"^\s*(?:(?:ensures|requires|invariant)\*?|where)\s+(\w+)\s*\{|^\s*ghost\s+(\w+):\s*\{", re.M)
-    DEFINED = re.compile(r"^(?:(?:abbrev|unfoldable|type|pub|data|record)\s+)+((?:\w+'?\s+)+)(?:\([^)]*\)\s*|\{[^}]*\}\s*)*:", re.M)
+    CLAUSE = re.compile(r"^\s*(?:(?:ensures|requires|invariant)\*?|where)\s+(\w+)\s*\{|^\s*ghost\s+(\w+)(?::\s*\{| = )", re.M)
+    DEFINED = re.compile(r"^(?:  (?=abbrev|record|data|unfoldable))?(?:(?:abbrev|unfoldable|type|pub|data|record)\s+)+((?:\w+'?\s+)+)(?:\([^)]*\)\s*|\{[^}]*\}\s*)*:", re.M)
     RECORD = re.compile(r"^(?:pub )?record\s+(\w+)((?:.*\n)(?:(?:[ \t].*)?\n)*)", re.M)
 
     def __init__(self, name):
-        self.words, self.clauses, self.traits_of, self.fields, self.named = {name}, {}, {}, {}, {}
+        self.words, self.clauses, self.traits_of, self.fields = {name}, {}, {}, {}
         for path in files_of(name, "src", ".rt"):
             module = os.path.basename(path)[:-3]
             self.words.add(module)
@@ -73,9 +75,6 @@ class Crate:
                 names = re.findall(r"^\s+(?:pub\s+)?((?:\w+'?\s+)*\w+'?)\s*:", body, re.M)
                 self.words.add(record)
                 self.fields.setdefault(record, set()).update(it for row in names for it in row.split())
-                self.named.setdefault(record, set()).update(re.findall(r"\b[A-Z]\w+", body))
-            for defined, body in re.findall(r"^(\w+)\b[^:\n]*=((?:.*\n)(?:[ \t].*\n)*)", text, re.M):
-                self.named.setdefault(defined, set()).update(re.findall(r"\b[A-Z]\w+", body))
 
     def read_code(self, module, text):
         self.words.update(re.findall(r"^\s*(?:pub )?(\w+)\s*[:,({]", text, re.M))
@@ -95,10 +94,8 @@ class Crate:
             for known in (marks, owner_at):
                 before = [names for at, names in known if at < clause.start()]
                 owners += before[-1] if before else ()
-            end = re.compile(r"^\s*(?:ensures|requires|ghost|fn|pub|\{)", re.M).search(text, clause.end())
-            cited = re.findall(r"\b[A-Z]\w+", text[clause.end() : end.start() if end else len(text)])
             for owner in owners:
-                self.clauses.setdefault(owner, {}).setdefault(clause.group(1) or clause.group(2), set()).update(cited)
+                self.clauses.setdefault(owner, set()).add(clause.group(1) or clause.group(2))
 
 
 @functools.cache
@@ -130,53 +127,30 @@ def crates_of_row(heading, row):
 NAME = re.compile(r"^[A-Za-z_]\w*'?(?:::\w+)*$")
 
 
-def cited_by(owners, label, crates):
-    """The definitions that a clause of some functions or types cites, and those that these cite; None where there is no
-    such clause. With no owners it is a clause of any."""
-    found, there = set(), False
-    for crate in crates:
-        for owner, clauses in crate_of(crate).clauses.items():
-            if (not owners or owner in owners) and label in clauses:
-                there = True
-                found |= clauses[label]
-    found |= {it for crate in crates for name in found for it in crate_of(crate).named.get(name, ())}
-    return found if there else None
+def missing_of_bracket(bracket, crates):
+    """What a bracket names as saying a sentence and is not there."""
+    for part in bracket.split(";"):
+        subjects, is_clause = [], False
+        for gap, token in re.findall(r"([^`]*)`([^`]*)`", part):
+            is_clause = is_clause or ":" in gap
+            record, dot, field = token.partition(".")
+            if dot:
+                if not any(field in crate_of(crate).fields.get(record, ()) for crate in crates):
+                    yield f"field {field} of {record}"
+            elif is_clause:
+                for subject in subjects:
+                    owners = owners_of(subject, crates)
+                    if not any(token in crate_of(crate).clauses.get(it, ()) for crate in crates for it in owners):
+                        yield f"clause {token} of {subject}"
+            elif NAME.match(token):
+                subjects.append(token)
+                if token not in USES and not is_there(token, crates):
+                    yield token
 
 
-def missing_of_contract(cell, crates):
-    """What a cell names as a contract and is not there. Behind `clause` or `field` come names of these, up to a word in
-    between other than `and`; a field is one of the record that is named before it, or that the clause before it cites."""
-    subjects, records, role = [], None, "subject"
-    for piece, token in re.findall(r"([^`]*)`([^`]*)`", cell):
-        if re.search(r"\b(?:clauses?|invariants)\b", piece):
-            role = "clause"
-            if re.search(r"\b(?:others|steps)\b", piece):
-                subjects = []
-        elif re.search(r"\b(?:fields?|whose)\b", piece):
-            role = "field"
-        elif role == "subject" or not re.fullmatch(r"\s*(?:,|and|, and)\s*", piece):
-            role = "subject"
-        if token in FOREIGN or not NAME.match(token):
-            continue
-        if role == "clause" and not token[0].isupper():
-            cited = cited_by(set().union(*(owners_of(it, crates) for it in subjects)), token, crates)
-            records = cited or set()
-            if cited is None:
-                yield f"clause {token} of {', '.join(subjects)}"
-        elif role == "field" and not token[0].isupper():
-            if not any(token in crate_of(crate).fields.get(it, ()) for crate in crates for it in records or ()):
-                yield f"field {token} of {', '.join(subjects)}"
-        else:
-            role = "subject"
-            subjects = [token, *subjects]
-            records = {token.split("::")[-1]} if token[0].isupper() else records
-            if not is_there(token, crates):
-                yield token
-
-
-def missing_of_text(cell, crates):
-    """What another cell names in the form of a function with its type, of a definition or of a file, and is not there."""
-    for token in re.findall(r"`([^`]*)`", cell):
+def missing_of_text(text, crates):
+    """What a text names in the form of a function with its type, of a definition or of a file, and is not there."""
+    for token in re.findall(r"`([^`]*)`", text):
         if token in FOREIGN:
             continue
         if re.fullmatch(r"(?:\w+/)*\w+\.(?:rt|antt|md|sh|py|txt)", token):
@@ -197,18 +171,52 @@ def is_file(token, crates):
     )
 
 
+MOST_WORDS = 7000
+MOST_A_SENTENCE = 25
+BRACKET = re.compile(r"\s*\[([^\]]*)\]")
+SENTENCE = re.compile(r"[.!?](?=[\s*)]|$)")
+
+
+def blocks_of(text):
+    """The headings, rows and paragraphs of a document, each with the number of its first line."""
+    first, block = 0, []
+    for number, line in enumerate([*text.splitlines(), ""], 1):
+        if block and (not line.strip() or line.startswith(("#", "- ", "| "))):
+            yield first, " ".join(block)
+            block = []
+        if line.strip():
+            first = first if block else number
+            block.append(line.strip())
+
+
 def look_at_promises(path):
-    heading = []
-    for number, line in enumerate(text_of(path).splitlines(), 1):
-        if line.startswith("#"):
-            heading = [it for it in re.findall(r"\w+", line) if it in USES]
-        if not (heading and line.startswith("| ")) or line.startswith("| Promise "):
+    chapter, section = [], []
+    for number, block in blocks_of(text_of(path)):
+        if block.startswith("#"):
+            named = [it for it in re.findall(r"\w+", block) if it in USES]
+            chapter, section = (chapter, named) if block.startswith("###") else (named, [])
             continue
-        cells = line.strip("|").split(" | ")
-        crates = crates_of_row(heading, line)
-        for at, cell in enumerate(cells):
-            for it in missing_of_contract(cell, crates) if at == 1 else missing_of_text(cell, crates):
+        crates = crates_of_row([*section, *chapter], block) or USES
+        brackets = BRACKET.findall(block)
+        if (section or chapter) and block.startswith("- ") and not brackets:
+            yield f"{path}:{number}: what says this row"
+        for bracket in brackets:
+            for it in missing_of_bracket(bracket, crates):
                 yield f"{path}:{number}: {it}"
+        for it in missing_of_text(BRACKET.sub("", block), USES):
+            yield f"{path}:{number}: {it}"
+
+
+def too_long(path):
+    """Whether a document has more words, or longer sentences, than one reads."""
+    text = text_of(path)
+    words = sum(1 for it in text.split() if re.search(r"\w", it))
+    prose = " ".join(BRACKET.sub("", block) for _, block in blocks_of(text) if not block.startswith("#"))
+    mean = sum(1 for it in prose.split() if re.search(r"\w", it)) / max(1, len(SENTENCE.findall(prose)))
+    if words > MOST_WORDS:
+        yield f"{path} has {words:,} words, and {MOST_WORDS:,} at most are read"
+    if mean > MOST_A_SENTENCE:
+        yield f"{path} has {mean:.1f} words a sentence, and {MOST_A_SENTENCE} at most are read"
 
 
 def look_at_files(path):
@@ -222,9 +230,12 @@ def look_at_files(path):
 
 
 missing = [*look_at_promises("docs/PROMISES.md"), *look_at_files("docs/ARCHITECTURE.md")]
+long = [*too_long("docs/PROMISES.md")]
 for it in missing:
     print(f"promises: not there: {it}")
-if not missing:
-    print("promises: what the documents name is there")
-sys.exit(1 if missing else 0)
+for it in long:
+    print(f"promises: {it}")
+if not missing and not long:
+    print("promises: what the documents name is there, and PROMISES can be read")
+sys.exit(1 if missing or long else 0)
 PY
