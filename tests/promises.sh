@@ -1,15 +1,15 @@
 #!/usr/bin/env bash
-# Looks whether docs/PROMISES.md and docs/ARCHITECTURE.md name what is there, and whether PROMISES can be read. In PROMISES what
+# Looks whether docs/PROMISES.md and docs/ARCHITECTURE.md name what is there. In PROMISES what
 # stands in brackets behind a sentence says it: `f`: `c` is a clause c of a function, type or trait f (where a type is named, of
 # it or of its trait), `R.x` a field x of a record R, and any other name a function, type, definition or module. All of it has
 # to stand in a crate that the heading or the row names, or in one that it stands on; where they name none, in any crate. Each
 # row below a heading with names of crates has such a bracket. Other words are looked for where they have the form of a
-# function with its type, of a definition or of a file. PROMISES has at most 7,000 words, and 25 a sentence. In ARCHITECTURE
-# the files that the tables name have to be there. Proves nothing, and takes a few seconds; ends with status 1 where something
-# is not found or is too long.
+# function with its type, of a definition or of a file. In ARCHITECTURE the files that the tables name have to be there. At
+# last it looks whether the documents are short enough (tests/lengths.sh). Proves nothing, and takes a few seconds; ends with
+# status 1 where something is not found, or is too long.
 # usage: tests/promises.sh
 cd "$(dirname "${BASH_SOURCE[0]}")/.." || exit 1
-exec python3 - <<'PY'
+python3 - <<'PY' || exit
 import functools
 import os
 import re
@@ -171,10 +171,7 @@ def is_file(token, crates):
     )
 
 
-MOST_WORDS = 7000
-MOST_A_SENTENCE = 25
 BRACKET = re.compile(r"\s*\[([^\]]*)\]")
-SENTENCE = re.compile(r"[.!?](?=[\s*)]|$)")
 
 
 def blocks_of(text):
@@ -207,18 +204,6 @@ def look_at_promises(path):
             yield f"{path}:{number}: {it}"
 
 
-def too_long(path):
-    """Whether a document has more words, or longer sentences, than one reads."""
-    text = text_of(path)
-    words = sum(1 for it in text.split() if re.search(r"\w", it))
-    prose = " ".join(BRACKET.sub("", block) for _, block in blocks_of(text) if not block.startswith("#"))
-    mean = sum(1 for it in prose.split() if re.search(r"\w", it)) / max(1, len(SENTENCE.findall(prose)))
-    if words > MOST_WORDS:
-        yield f"{path} has {words:,} words, and {MOST_WORDS:,} at most are read"
-    if mean > MOST_A_SENTENCE:
-        yield f"{path} has {mean:.1f} words a sentence, and {MOST_A_SENTENCE} at most are read"
-
-
 def look_at_files(path):
     for number, line in enumerate(text_of(path).splitlines(), 1):
         if not line.startswith("| "):
@@ -230,12 +215,10 @@ def look_at_files(path):
 
 
 missing = [*look_at_promises("docs/PROMISES.md"), *look_at_files("docs/ARCHITECTURE.md")]
-long = [*too_long("docs/PROMISES.md")]
 for it in missing:
     print(f"promises: not there: {it}")
-for it in long:
-    print(f"promises: {it}")
-if not missing and not long:
-    print("promises: what the documents name is there, and PROMISES can be read")
-sys.exit(1 if missing or long else 0)
+if not missing:
+    print("promises: what the documents name is there")
+sys.exit(1 if missing else 0)
 PY
+exec tests/lengths.sh
