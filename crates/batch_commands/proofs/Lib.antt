@@ -4,12 +4,11 @@ pub mod BatchLemmas
 pub mod CountLemmas
 pub mod FullLemmas
 pub mod LinesCommittedLemmas
-pub mod LookLemmas
-pub mod MeaningLemmas
 pub mod MemoryLemmas
 pub mod OverLemmas
 pub mod ReachLemmas
 pub mod ReadsLemmas
 pub mod RefusedLemmas
+pub mod SoundLemmas
 pub mod TogetherLemmas
 pub mod WantingLemmas

@@ -40,7 +40,7 @@ use Rattle.batch_commands.specs.FullForLines.{AllFit}
 use Rattle.batch_commands.specs.LinesCommitted.{ComeInTurn, CommitsEach, CommitsFrom, CommitsUpTo}
 use Rattle.batch_commands.specs.Together.{IfEnded, IsMadeInMemory, StandsAlone, memory_seen, refusal_in}
 use Rattle.batch_commands.proofs.BatchLemmas.{AreMade, lines_add, made_more, made_none, more_acts, none_acts}
-use Rattle.batch_commands.proofs.MeaningLemmas.{lines_sure}
+use Rattle.batch_commands.proofs.SoundLemmas.{lines_sure}
 use Rattle.batch_commands.proofs.MemoryLemmas.{no_link, no_sink, no_source}
 use Rattle.batch_commands.proofs.OverLemmas.{lines_over}
 use Rattle.batch_commands.proofs.TogetherLemmas.{only_file-at}

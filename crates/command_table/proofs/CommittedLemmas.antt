@@ -1,5 +1,5 @@
 -- What the commands of the table commit.
-use Rattle.std.proofs.Common.{◌≡◌, Bool, IsTrue, List, [], Result, Ok, refl, sym, subst}
+use Rattle.std.proofs.Common.{◌≡◌, Bool, List, [], Result, Ok, refl, sym, subst}
 use Rattle.outside.specs.World.{World}
 use Rattle.refusals.specs.declared.reason.Refusal.{Refusal}
 use Rattle.command_words.specs.declared.command.Command.{Command}
@@ -9,7 +9,7 @@ use Rattle.run_steps.specs.declared.invocation.Invocation.{Invocation}
 use Rattle.run_steps.proofs.CommittedLemmas.{looked_committed}
 use Rattle.std.proofs.lemmas.List.Elements.{All-weaker}
 use Rattle.command_table.specs.CarriedOut.{CommandCommits}
-use Rattle.command_table.specs.Description.{Description, MayCommit}
+use Rattle.descriptions.specs.Description.{Description, MayCommit}
 use Rattle.command_table.specs.Table.{asked_by}
 use Rattle.command_table.proofs.CommandLemmas.{only_itself}
 

@@ -13,7 +13,7 @@ use Rattle.run_steps.specs.Carrying.{CarriesOut}
 use Rattle.run_steps.specs.Run.{Uses}
 use Rattle.run_steps.specs.Writes.{ReadsWithin}
 use Rattle.run_steps.specs.declared.invocation.Invocation.{Invocation}
-use Rattle.command_table.specs.Description.{Description, IsOnlyRead, IsLeftByEdit, ChangesWithin, MayCommit}
+use Rattle.descriptions.specs.Description.{Description, IsOnlyRead, IsLeftByEdit, ChangesWithin, MayCommit}
 
 -- a cause is a fault of something outside, or lack of memory
 abbrev pub StopsIt : Cause → Type 0

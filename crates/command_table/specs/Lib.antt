@@ -1,5 +1,3 @@
 pub mod CarriedOut
-pub mod Conditions
-pub mod Description
 pub mod Table
 pub mod Views

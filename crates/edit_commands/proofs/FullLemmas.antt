@@ -31,12 +31,11 @@ use Rattle.run_steps.specs.Carrying.{AreDoneThen}
 use Rattle.run_steps.specs.Taking.{input_name}
 use Rattle.run_steps.specs.declared.invocation.Invocation.{Invocation}
 use Rattle.run_steps.proofs.DoingLemmas.{doing_ends}
-use Rattle.edit_commands.specs.Apply.{ApplySteps, FormSteps, form_outcome, form_step}
-use Rattle.edit_commands.specs.Edits.{EditSteps, FileEditSteps, said_acts, warnings}
+use Rattle.edit_commands.specs.Apply.{ApplySteps, FormSteps, form_outcome, form_step, IsFullForForm}
+use Rattle.edit_commands.specs.Edits.{EditSteps, FileEditSteps, said_acts, warnings, IsFullForWords}
 use Rattle.edit_steps.specs.EditStep.{changed, is_too_large}
 use Rattle.edit_commands.specs.EditWords.{edit_meant, edit_read, names_wanted, skipped_by}
 use Rattle.edit_steps.specs.Fits.{IsFullFor}
-use Rattle.edit_commands.specs.FullForEdit.{IsFullForForm, IsFullForWords}
 use Rattle.edit_commands.specs.declared.edit.EditWords.{EditWords}
 use Rattle.edit_commands.specs.declared.edit.FileEdit.{FileEdit}
 use Rattle.edit_commands.specs.declared.edit.FileEdit.TheVariants.{Limits}

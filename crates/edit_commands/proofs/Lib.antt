@@ -5,9 +5,8 @@ pub mod EditFileLemmas
 pub mod EditLemmas
 pub mod FormLemmas
 pub mod FullLemmas
-pub mod LookLemmas
 pub mod MadeLemmas
-pub mod MeaningLemmas
 pub mod RefusedEditLemmas
+pub mod SoundLemmas
 pub mod WarningLemmas
 pub mod WordLemmas

@@ -1,5 +1,5 @@
 -- `edquota --apply`. Source: the manual page of edquota; that the limits are read from a form is this project's own.
-use Rattle.std.specs.Prelude.{◌≡◌, ◌⊎◌, ℕ, true, false, List, Option, Result, Ok, Err}
+use Rattle.std.specs.Prelude.{◌≡◌, ◌⊎◌, ℕ, true, false, List, Option, Result, Ok, Err, Some}
 use Rattle.id_names.specs.FirstMatch.{first_name}
 use Rattle.id_names.specs.NamesFile.{NameLine}
 use Rattle.input_text.specs.declared.line_reader.LineFault.TheVariants.{Source, Long, TooLarge as PastTotal}
@@ -13,17 +13,26 @@ use Rattle.refusals.specs.declared.cause.Cause.{Cause}
 use Rattle.refusals.specs.declared.cause.Cause.TheVariants.{SourceFault, LongLine, TooLarge, BadForm}
 use Rattle.command_words.specs.declared.command.Common.{Common}
 use Rattle.edit_commands.specs.declared.edit.FileEdit.TheVariants.{Limits}
-use Rattle.run_steps.specs.Naming.{MayBeNames, NamesMayRefuse}
+use Rattle.run_steps.specs.Naming.{MayBeNames, NamesMayRefuse, names_seen}
 use Rattle.refusals.specs.Outcome.{Outcome, Passed, Refused}
 use Rattle.run_steps.specs.Run.{Uses}
 use Rattle.run_steps.specs.Steps.{Naming, Steps, Then}
-use Rattle.run_steps.specs.Taking.{AForm, InputMayRefuse, Taking, input_name, reading}
+use Rattle.run_steps.specs.Taking.{AForm, InputMayRefuse, Taking, input_name, reading, input_said}
 use Rattle.refusals.specs.Refusals.{refusal_of}
 use Rattle.run_steps.specs.declared.invocation.Invocation.{Invocation}
 use Rattle.edit_commands.specs.Edits.{FileEditMayRefuse, FileEditSteps}
 use Rattle.run_steps.specs.Changing.{edit_uses}
 use Rattle.run_steps.specs.Numbers.{identifier_of}
 use Rattle.quota_map.specs.Asked.{Asked, asked_of}
+use Rattle.quota_value.specs.QuotaValue.{QuotaValue}
+use Rattle.outside.specs.World.{World}
+use Rattle.quota_map.specs.View.{IsView}
+use Rattle.set_edit.specs.Edits.{limits_edit}
+use Rattle.refusals.specs.declared.reason.Refusal.{Refusal}
+use Rattle.run_steps.specs.Done.{Outside}
+use Rattle.edit_steps.specs.Fits.{Fits, IsFullFor}
+use Rattle.descriptions.specs.Description.{Description, file_given, looks_at, row}
+use Rattle.edit_commands.specs.Print.{faulty_print}
 
 -- what is said of a form that gives no limits, where this is said of what it is read from
 abbrev pub form_cause : Cause → FormFault → Cause
@@ -80,3 +89,37 @@ abbrev pub ApplyMayRefuse : Common → Option (List ℕ) → List ℕ → List �
 ApplyMayRefuse common from word file cause name =
     NamesMayRefuse common.names cause name
     ⊎ ((names : List NameLine) × MayBeNames common.names names × NamedApplyMayRefuse (asked_of common.format) from word file names cause name)
+
+-- The files have no room for the limits of a form: its word and its input were read with the names that the files had at the start.
+pub record IsFullForForm (common : Common) (from : Option (List ℕ)) (word file : List ℕ) (now : ℕ) (old : Outside) (files : World) (blocks limit : ℕ) : Type 0 where
+  pub names : List NameLine
+  pub id : ℕ
+  pub limits : FourLimits
+  pub known : names_seen common.kind common.names old.files ≡ Passed names
+  pub read : identifier_of names word ≡ Passed id
+  pub said : input_said from (form_step common.kind names file id from) old.files old.input ≡ Passed limits
+  pub full : IsFullFor common.kind (asked_of common.format) (limits_edit id limits now) (files file) blocks limit
+
+-- The description.
+
+-- a form that is applied: the word is known, the form is that of the identifier, the file is accepted, and its limits fit
+abbrev pub CanApply : Common → Option (List ℕ) → (word file : List ℕ) → Invocation → Outside → Type 0
+CanApply common from word file invocation old =
+    (names : List NameLine) × (id : ℕ) × (limits : FourLimits) × (value : QuotaValue) × (new : QuotaValue)
+    × (names_seen common.kind common.names old.files ≡ Passed names) × (identifier_of names word ≡ Passed id)
+    × (input_said from (form_step common.kind names file id from) old.files old.input ≡ Passed limits)
+    × IsView (old.files file) common.kind (asked_of common.format) (Ok value) × Fits (limits_edit id limits invocation.now) (old.files file) value new
+
+-- a form becomes the limits of an identifier
+abbrev pub applying : Common → Option (List ℕ) → (name file : List ℕ) → Description
+applying common input name file = record (row (ApplySteps common input name file) (apply_uses input) (ApplyMayRefuse common input name file)) {
+  faulty = faulty_print common name;
+  edits = Some file;
+  alone = Some file;
+  most_writes = Some 12;
+  looks = looks_at (file_given common file) common.names input;
+  needs_room = true;
+  full = λ (invocation : Invocation) (old : Outside) (files : World) (refusal : Refusal) (blocks limit : ℕ).
+      (refusal.name ≡ file) × IsFullForForm common input name file invocation.now old files blocks limit;
+  suffices = CanApply common input name file;
+}

@@ -61,6 +61,11 @@ abbrev pub words_warn : EditWords → Bool
 words_warn (TimeWords name block inode) = true
 words_warn _ = false
 
+-- an edit that words ask for may need room in the blocks of a file; new grace periods need none
+abbrev pub words_need_room : EditWords → Bool
+words_need_room (GraceWords block inode) = false
+words_need_room _ = true
+
 -- an edit may skip times, of which it then warns
 abbrev pub edit_warns : FileEdit → Bool
 edit_warns (Times id block inode) = true

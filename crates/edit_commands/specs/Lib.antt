@@ -4,4 +4,3 @@ pub mod Edits
 pub mod EditsInPart
 pub mod Made
 pub mod Print
-pub mod FullForEdit

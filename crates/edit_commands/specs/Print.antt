@@ -1,5 +1,5 @@
 -- `edquota --print`. Source: the manual page of edquota; that the limits are shown as a form is this project's own.
-use Rattle.std.specs.Prelude.{◌≡◌, ◌⊎◌, ℕ, List, [], Option, None, is_none, if◌then◌else◌}
+use Rattle.std.specs.Prelude.{◌≡◌, ◌⊎◌, ℕ, List, [], Option, None, is_none, if◌then◌else◌, Ok}
 use Rattle.id_names.specs.FirstMatch.{first_name}
 use Rattle.id_names.specs.NamesFile.{NameLine}
 use Rattle.quota_types.specs.declared.file_kind.Kind.{Kind}
@@ -10,14 +10,17 @@ use Rattle.set_edit.specs.Times.{record_in}
 use Rattle.refusals.specs.declared.cause.Cause.{Cause}
 use Rattle.refusals.specs.declared.reason.Refusal.{Refusal}
 use Rattle.command_words.specs.declared.command.Common.{Common}
-use Rattle.run_steps.specs.Naming.{MayBeNames, NamesMayRefuse}
+use Rattle.run_steps.specs.Naming.{MayBeNames, NamesMayRefuse, names_seen}
 use Rattle.refusals.specs.Outcome.{Passed, Refused, refusal_in}
 use Rattle.refusals.specs.Refusals.{refusal_of}
 use Rattle.run_steps.specs.Steps.{Naming, Steps, Then}
 use Rattle.run_steps.specs.declared.invocation.Invocation.{Invocation}
-use Rattle.run_steps.specs.Showing.{ShowingMayRefuse, ShowingSteps}
+use Rattle.run_steps.specs.Showing.{ShowingMayRefuse, ShowingSteps, showing_uses}
 use Rattle.run_steps.specs.Numbers.{identifier_of}
 use Rattle.quota_map.specs.Asked.{Asked, asked_of}
+use Rattle.quota_map.specs.View.{IsView}
+use Rattle.run_steps.specs.Done.{Outside}
+use Rattle.descriptions.specs.Description.{Description, file_given, looks_at, row}
 
 -- the form of an identifier in a file of this name: of its record, or of one of zeros
 abbrev pub form_on : Kind → List NameLine → List ℕ → ℕ → QuotaValue → List ℕ
@@ -45,3 +48,19 @@ abbrev pub PrintMayRefuse : Common → List ℕ → List ℕ → Cause → List 
 PrintMayRefuse common word file cause name =
     NamesMayRefuse common.names cause name
     ⊎ ((names : List NameLine) × MayBeNames common.names names × NamedPrintMayRefuse (asked_of common.format) word file names cause name)
+
+-- The description.
+
+-- a form that is printed: the names and its word are known, and the file is accepted
+abbrev pub CanPrint : Common → (word file : List ℕ) → Outside → Type 0
+CanPrint common word file old =
+    (names : List NameLine) × (id : ℕ) × (value : QuotaValue) × (names_seen common.kind common.names old.files ≡ Passed names)
+    × (identifier_of names word ≡ Passed id) × IsView (old.files file) common.kind (asked_of common.format) (Ok value)
+
+-- the limits of an identifier as a form
+abbrev pub printing : Common → (name file : List ℕ) → Description
+printing common name file = record (row (PrintSteps common name file) showing_uses (PrintMayRefuse common name file)) {
+  faulty = faulty_print common name;
+  looks = looks_at (file_given common file) common.names None;
+  suffices = λ (invocation : Invocation). CanPrint common name file;
+}

@@ -2,9 +2,8 @@
 
 ghost use Rattle.std.specs.Prelude.{◌≡◌, List, Option, Some, ℕ};
 ghost use Rattle.command_words.specs.declared.command.Common.{Common};
-ghost use Rattle.edit_commands.specs.Apply.{ApplySteps};
-ghost use Rattle.edit_commands.specs.Edits.{EditSteps};
-ghost use Rattle.edit_commands.specs.FullForEdit.{IsFullForForm, IsFullForWords};
+ghost use Rattle.edit_commands.specs.Apply.{ApplySteps, IsFullForForm};
+ghost use Rattle.edit_commands.specs.Edits.{EditSteps, IsFullForWords};
 ghost use Rattle.edit_commands.specs.declared.edit.EditWords.{EditWords};
 ghost use Rattle.refusals.specs.declared.cause.Cause.TheVariants.{Full};
 ghost use Rattle.refusals.specs.declared.reason.Refusal.{Refusal};

@@ -4,8 +4,7 @@ pub mod ConversionLemmas
 pub mod GenerateLemmas
 pub mod GenerateStepLemmas
 pub mod GeneratedValueLemmas
-pub mod LookLemmas
 pub mod ReplacingLemmas
 pub mod ReportLemmas
-pub mod StepLemmas
+pub mod SoundLemmas
 pub mod SummaryLemmas

@@ -1,6 +1,6 @@
 -- `quotacheck`. Source: the manual page of quotacheck; that the usage is read from a listing of inodes, and not from a mounted
 -- file system, is this project's own.
-use Rattle.std.specs.Prelude.{◌≡◌, ◌⊎◌, ℕ, Bool, true, false, nat_lt, IfSome, List, Option, Some, unwrap_or, Result, Ok, Err}
+use Rattle.std.specs.Prelude.{◌≡◌, ◌⊎◌, ℕ, Bool, true, false, nat_lt, IfSome, List, Option, Some, unwrap_or, Result, Ok, Err, ◌≤◌, if◌then◌else◌, [], None}
 use Rattle.std.specs.FinMap.{empty, get}
 use Rattle.quota_types.specs.Kept.{IsKept}
 use Rattle.quota_types.specs.Range.{unfit}
@@ -27,11 +27,13 @@ use Rattle.run_steps.specs.Opening.{MayRefuseOpening}
 use Rattle.refusals.specs.Outcome.{Outcome, Passed, Refused}
 use Rattle.run_steps.specs.Run.{Uses}
 use Rattle.run_steps.specs.Steps.{DoingAll, Finish, Opening, Steps, Then}
-use Rattle.run_steps.specs.Taking.{AListing, InputMayRefuse, Taking, input_name, reading}
+use Rattle.run_steps.specs.Taking.{AListing, InputMayRefuse, Taking, input_name, reading, input_said}
 use Rattle.refusals.specs.Refusals.{refusal_of}
 use Rattle.run_steps.specs.Changing.{edit_uses, if_room}
 use Rattle.quota_map.specs.Size.{blocks_of}
 use Rattle.file_commands.specs.WritingRefused.{WritingMayRefuse}
+use Rattle.run_steps.specs.Done.{Outside}
+use Rattle.descriptions.specs.Description.{Description, file_given, looks_at, row}
 
 -- The listing.
 
@@ -140,3 +142,21 @@ OpenedMayRefuse asked from file cause name =
 abbrev pub CheckMayRefuse : Common → (fresh : Bool) → Option (List ℕ) → List ℕ → Cause → List ℕ → Type 0
 CheckMayRefuse common true from file = UsageMayRefuse (new_value common.kind common.format) from file
 CheckMayRefuse common false from file = OpenedMayRefuse (asked_of common.format) from file
+
+-- The description.
+
+-- a check: the file is accepted or new, the listing is of the stated form, and its usage fits and has room
+abbrev pub CanCheck : Common → (fresh : Bool) → (device : Option ℕ) → Option (List ℕ) → List ℕ → Invocation → Outside → Type 0
+CanCheck common fresh device from file invocation old =
+    (value : QuotaValue) × (usage : UsageMap) × (new : QuotaValue) × IsToBeChecked common fresh file old.files value
+    × (input_said from (scan_step common.kind device from) old.files old.input ≡ Passed usage)
+    × (checked value usage invocation.now ≡ Ok new) × (blocks_of new ≤ most_blocks)
+
+-- the usage in a listing becomes that of a file
+abbrev pub checking : Common → (fresh : Bool) → (device : Option ℕ) → Option (List ℕ) → List ℕ → Description
+checking common fresh device input file = record (row (CheckSteps common fresh device input file) (check_uses input) (CheckMayRefuse common fresh input file)) {
+  replaces = Some file;
+  anew = Some file;
+  looks = looks_at (if fresh then [] else file_given common file) None input;
+  suffices = CanCheck common fresh device input file;
+}

@@ -1,6 +1,6 @@
 -- `convertquota`. Source: the manual page of convertquota; that both files are named, that neither is in use, and that no file is
 -- written over is this project's own.
-use Rattle.std.specs.Prelude.{◌≡◌, ◌≢◌, ℕ, nat_lt, if◌then◌else◌, IfSome, List, Option, Some, None, Result, Ok, Err, ⊤}
+use Rattle.std.specs.Prelude.{◌≡◌, ◌≢◌, ℕ, false, nat_lt, if◌then◌else◌, IfSome, List, Option, Some, None, Result, Ok, Err, ⊤, ◌≤◌, [], ◌∷◌}
 use Rattle.std.specs.FinMap.{get}
 use Rattle.std.specs.Str.{bytes_eq}
 use Rattle.quota_types.specs.Kept.{IsKept}
@@ -11,7 +11,7 @@ use Rattle.quota_types.specs.declared.file_kind.Kind.{Kind}
 use Rattle.quota_value.specs.QuotaValue.{QuotaValue}
 use Rattle.outside.specs.World.{World}
 use Rattle.quota_map.specs.Asked.{InFormat}
-use Rattle.quota_map.specs.View.{most_blocks}
+use Rattle.quota_map.specs.View.{most_blocks, IsView}
 use Rattle.convert.specs.Conversion.{converted}
 use Rattle.convert.specs.declared.convert_fault.ConvertFault.TheVariants.{Replace}
 use Rattle.refusals.specs.declared.cause.Cause.{Cause}
@@ -19,12 +19,15 @@ use Rattle.refusals.specs.declared.cause.Cause.TheVariants.{StoreFault, Memory, 
 use Rattle.refusals.specs.Outcome.{Outcome, Passed, Refused, and_then}
 use Rattle.refusals.specs.Refusals.{refusal_of}
 use Rattle.run_steps.specs.Act.{Act, Replace}
-use Rattle.run_steps.specs.Changing.{if_room}
+use Rattle.run_steps.specs.Changing.{if_room, edit_uses}
 use Rattle.quota_map.specs.Size.{blocks_of}
 use Rattle.run_steps.specs.Opening.{MayRefuseOpening}
 use Rattle.run_steps.specs.Steps.{DoingAll, Finish, Looking, Opening, Steps, Then}
 use Rattle.run_steps.specs.declared.invocation.Invocation.{Invocation}
 use Rattle.file_commands.specs.WritingRefused.{WritingMayRefuse}
+use Rattle.outside.specs.Replacement.{replacement_name}
+use Rattle.run_steps.specs.Done.{Outside}
+use Rattle.descriptions.specs.Description.{Description, row}
 
 -- The steps.
 
@@ -87,3 +90,22 @@ ConvertMayRefuse kind old new source target TargetExists name = (source ≢ targ
 ConvertMayRefuse kind old new source target (NoRoom out) name = MayLack kind old new out × (name ≡ source)
 ConvertMayRefuse kind old new source target (Full blocks limit) name = WritingMayRefuse new target (Full blocks limit) name
 ConvertMayRefuse kind old new source target cause name = MayRefuseOpening (InFormat old) source cause name
+
+-- The description.
+
+-- a conversion: the target is not the source and is not there, the source is accepted, and its value fits and has room
+abbrev pub CanConvert : Kind → (before after : Format) → (source target : List ℕ) → Outside → Type 0
+CanConvert kind before after source target old =
+    (value : QuotaValue) × (new : QuotaValue) × (source ≢ target) × (old.files target ≡ None)
+    × IsView (old.files source) kind (InFormat before) (Ok value) × (converted after value ≡ Ok new) × (blocks_of new ≤ most_blocks)
+
+-- A file in another format. The file that is read is not the one that the new one is written under first: no words ask for such a
+-- command, since no name of a file ends so.
+abbrev pub converting : Kind → (old new : Format) → (source target : List ℕ) → Description
+converting kind old new source target = record (row (ConvertSteps kind old new source target) (edit_uses false) (ConvertMayRefuse kind old new source target)) {
+  replaces = Some target;
+  anew = Some target;
+  looks = record { opens = record { kind = kind; asked = InFormat old; name = source } ∷ []; names = None; input = None; target = Some target };
+  known = source ≢ replacement_name target;
+  suffices = λ (invocation : Invocation). CanConvert kind old new source target;
+}

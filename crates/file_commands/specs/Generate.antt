@@ -1,5 +1,5 @@
 -- `generate`: a quota file out of a listing that is made, and a line on both. Source: this project's own.
-use Rattle.std.specs.Prelude.{ℕ, true, false, List, [], ◌++◌, codes, decimal, length, sum_by, Some, None, Result, Ok, Err}
+use Rattle.std.specs.Prelude.{ℕ, true, false, List, [], ◌++◌, codes, decimal, length, sum_by, Some, None, Result, Ok, Err, ◌<◌, ◌^◌}
 use Rattle.std.specs.FinMap.{entries}
 use Rattle.quota_types.specs.Rec.{kib_of}
 use Rattle.quota_types.specs.declared.field.NoRoom.{NoRoom as NoRoomFor}
@@ -21,6 +21,9 @@ use Rattle.run_steps.specs.Steps.{Doing, DoingAll, Finish, Steps, Stop, Then}
 use Rattle.file_commands.specs.Check.{checked, new_value, replaced, scan_outcome}
 use Rattle.file_commands.specs.Report.{report_on}
 use Rattle.quota_map.specs.Asked.{AnyTree}
+use Rattle.run_steps.specs.Done.{Outside}
+use Rattle.run_steps.specs.declared.invocation.Invocation.{Invocation}
+use Rattle.descriptions.specs.Description.{Description, row}
 
 -- The line.
 
@@ -75,3 +78,13 @@ generate_uses = record { input = false; out = true; link = false; changes = true
 -- room for that. So what is left are those of a report on the file.
 abbrev pub GenerateMayRefuse : List ℕ → Cause → List ℕ → Type 0
 GenerateMayRefuse file = ShowingMayRefuse AnyTree file
+
+-- The description.
+
+-- A file out of a listing that is made, and a line on it. A count is one of 32 bits: no words ask for another one.
+abbrev pub generating : (seed count : ℕ) → List ℕ → Description
+generating seed count file = record (row (λ (invocation : Invocation). GenerateSteps seed count file invocation.now) generate_uses (GenerateMayRefuse file)) {
+  anew = Some file;
+  known = count < 2 ^ 32;
+  suffices = λ (invocation : Invocation) (old : Outside). count < 2 ^ 32;
+}

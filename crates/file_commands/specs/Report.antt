@@ -1,5 +1,5 @@
 -- `repquota`. Source: the manual page of repquota.
-use Rattle.std.specs.Prelude.{◌⊎◌, ℕ, List}
+use Rattle.std.specs.Prelude.{◌⊎◌, ℕ, List, ◌≡◌, None, Ok}
 use Rattle.id_names.specs.FirstMatch.{first_name}
 use Rattle.id_names.specs.NamesFile.{NameLine}
 use Rattle.quota_value.specs.QuotaValue.{QuotaValue}
@@ -10,12 +10,16 @@ use Rattle.report_text.specs.Report.{report_of}
 use Rattle.refusals.specs.declared.cause.Cause.{Cause}
 use Rattle.refusals.specs.declared.cause.Cause.TheVariants.{SinkFault}
 use Rattle.command_words.specs.declared.command.Common.{Common}
-use Rattle.run_steps.specs.Naming.{NamesMayRefuse}
+use Rattle.run_steps.specs.Naming.{NamesMayRefuse, names_seen}
 use Rattle.run_steps.specs.Opening.{file_cause}
 use Rattle.run_steps.specs.Steps.{Naming, Steps}
 use Rattle.run_steps.specs.declared.invocation.Invocation.{Invocation}
-use Rattle.run_steps.specs.Showing.{ShowingMayRefuse, ShowingSteps}
+use Rattle.run_steps.specs.Showing.{ShowingMayRefuse, ShowingSteps, showing_uses}
 use Rattle.quota_map.specs.Asked.{asked_of}
+use Rattle.quota_map.specs.View.{IsView}
+use Rattle.refusals.specs.Outcome.{Passed}
+use Rattle.run_steps.specs.Done.{Outside}
+use Rattle.descriptions.specs.Description.{Description, file_given, looks_at, row}
 
 -- the report of a file of this name on a value, with these names
 abbrev pub report_on : List NameLine → List ℕ → ℕ → Options → QuotaValue → List ℕ
@@ -35,3 +39,18 @@ report_cause (File fault) = file_cause fault
 -- the causes for which a report may be refused, whatever is told
 abbrev pub ReportMayRefuse : Common → List ℕ → Cause → List ℕ → Type 0
 ReportMayRefuse common file cause name = NamesMayRefuse common.names cause name ⊎ ShowingMayRefuse (asked_of common.format) file cause name
+
+-- The description.
+
+-- a report: the names are known, and the file is accepted
+abbrev pub CanReport : Common → List ℕ → Outside → Type 0
+CanReport common file old =
+    (names : List NameLine) × (value : QuotaValue) × (names_seen common.kind common.names old.files ≡ Passed names)
+    × IsView (old.files file) common.kind (asked_of common.format) (Ok value)
+
+-- the report of a file
+abbrev pub reporting : Common → Options → List ℕ → Description
+reporting common options file = record (row (ReportSteps common options file) showing_uses (ReportMayRefuse common file)) {
+  looks = looks_at (file_given common file) common.names None;
+  suffices = λ (invocation : Invocation). CanReport common file;
+}

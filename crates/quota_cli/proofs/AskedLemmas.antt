@@ -1,5 +1,6 @@
 -- What words ask for: that it looks at files before it changes one, reads the standard input to its end, and is sure.
 use Rattle.std.proofs.Common.{◌≡◌, ℕ, Bool, true, false, IsTrue, List, Ok, Err, Result, subst}
+use Rattle.refusals.specs.declared.cause.Cause.TheVariants.{Usage}
 use Rattle.refusals.specs.declared.reason.Refusal.{Refusal}
 use Rattle.command_words.specs.declared.command.Command.{Command}
 use Rattle.command_words.specs.declared.command.Command.TheVariants.{Script}
@@ -13,10 +14,10 @@ use Rattle.run_steps.specs.Meaning.{IsSure}
 use Rattle.run_steps.specs.OneCommand.{LooksFirst, LooksFirstBy, ReadsToEnd}
 use Rattle.run_steps.specs.declared.invocation.Invocation.{Invocation}
 use Rattle.command_table.specs.Table.{asked_by, described}
-use Rattle.command_table.proofs.CommandLemmas.{Spares, asked_known, read_known, spares_single}
-use Rattle.command_table.proofs.FullLemmas.{IsFullSo, asked_by_full, command_full}
-use Rattle.command_table.proofs.StepLemmas.{command_looks, command_reads}
-use Rattle.command_table.proofs.SureLemmas.{asked_sure, command_sure}
+use Rattle.descriptions.specs.Sound.{IsFullSo}
+use Rattle.command_table.proofs.AskedLemmas.{asked_full, asked_known, asked_sure, read_known}
+use Rattle.command_table.proofs.CommandLemmas.{SparesWords}
+use Rattle.command_table.proofs.SoundLemmas.{sound}
 use Rattle.quota_cli.specs.Headline.{CommandLine, asked, steps_asked, uses_asked}
 use Rattle.quota_cli.specs.Script.{StandsInScript, commanded, is_script, script_or}
 use Rattle.quota_cli.proofs.ScriptFullLemmas.{script_full}
@@ -28,28 +29,28 @@ use Rattle.quota_cli.proofs.ScriptLemmas.{script_sure, unread_stands}
 looks_by : (script : Bool) (command : Command) (invocation : Invocation) → (script_or script (described command)).uses.reads_commands ≡ false
     → LooksFirstBy (script_or script (described command)).uses.reads_edits true true ((script_or script (described command)).steps invocation)
 looks_by true command invocation one = absurd (cc)
-looks_by false command invocation one = command_looks command invocation
+looks_by false command invocation one = (sound command).looks_first invocation
 
 reads_by : (script : Bool) (command : Command) (invocation : Invocation) → IsTrue (script_or script (described command)).uses.input
     → ReadsToEnd ((script_or script (described command)).steps invocation)
 reads_by true command invocation uses = script_reads invocation
-reads_by false command invocation uses = command_reads command invocation uses
+reads_by false command invocation uses = (sound command).reads_to_end invocation uses
 
 sure_by : (script : Bool) (command : Command) (invocation : Invocation) (old : Outside) → (script_or script (described command)).suffices invocation old
     → IsSure ((script_or script (described command)).steps invocation) old
 sure_by true command invocation old can = script_sure invocation old can
-sure_by false command invocation old can = command_sure command invocation old can
+sure_by false command invocation old can = (sound command).sure invocation old can
 
 full_by : (script : Bool) (command : Command) (invocation : Invocation) → IsFullSo (script_or script (described command)) invocation
 full_by true command invocation = script_full invocation
-full_by false command invocation = command_full command invocation
+full_by false command invocation = (sound command).full invocation
 
-spares_by : (script : Bool) (command : Command) → (script_or script (described command)).uses.reads_commands ≡ false → Spares (script_or script (described command)).may
+spares_by : (script : Bool) (command : Command) → (script_or script (described command)).uses.reads_commands ≡ false → SparesWords (script_or script (described command)).may
 spares_by true command one = absurd (cc)
-spares_by false command one = spares_single command one
+spares_by false command one = λ kind word said. (sound command).spares (Usage kind word) said one
 
 -- no command of the command line that reads no commands is refused for its words
-pub spares_commanded : (command : Command) → (commanded command).uses.reads_commands ≡ false → Spares (commanded command).may
+pub spares_commanded : (command : Command) → (commanded command).uses.reads_commands ≡ false → SparesWords (commanded command).may
 spares_commanded command = spares_by (is_script command) command
 
 -- another command reads no commands
@@ -94,7 +95,7 @@ setting_reads typed uses = asked_by_reads (command_of false typed.words) typed.i
 
 -- where words ask for an edit that is refused since its file is full, the file has no room for it at the end
 pub setting_full : (typed : CommandLine) → IsFullSo (asked typed) typed.invocation
-setting_full typed = asked_by_full commanded (command_of false typed.words) typed.invocation (λ command. full_by (is_script command) command typed.invocation)
+setting_full typed = asked_full commanded (command_of false typed.words) typed.invocation (λ command. full_by (is_script command) command typed.invocation)
 
 pub setting_sure : (typed : CommandLine) (old : Outside) → (asked typed).suffices typed.invocation old → IsSure (steps_asked typed) old
 setting_sure typed old can =

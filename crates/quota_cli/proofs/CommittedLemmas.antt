@@ -19,7 +19,7 @@ use Rattle.input_text.specs.Words.{words_of}
 use Rattle.command_words.specs.Asked.{command_of}
 use Rattle.script_lines.specs.Script.{LineSaid, ScriptSaid, script_said}
 use Rattle.command_table.specs.CarriedOut.{CommandCommits}
-use Rattle.command_table.specs.Description.{MayCommit}
+use Rattle.descriptions.specs.Description.{MayCommit}
 use Rattle.command_table.specs.Table.{asked_by, described}
 use Rattle.quota_cli.specs.Script.{LineSteps, LinesSteps, ScriptSteps, asked_in_script, line_invocation, scripting}
 use Rattle.quota_cli.proofs.RunLemmas.{no_status_0}

@@ -26,7 +26,7 @@ use Rattle.run_steps.specs.Writes.{ReadsWithin}
 use Rattle.quota_cli.specs.Headline.{HasEffect, HasEffectUpToErr, HasSaid, IsRefusedRun, IsRefusedWord, IsStopped, Keeps, LeavesLink, CommandLine, asked, steps_asked, uses_asked}
 use Rattle.quota_cli.specs.Script.{StandsInScript}
 use Rattle.command_words.specs.Asked.{command_of}
-use Rattle.command_table.specs.Description.{IsLeftByEdit, IsOnlyRead}
+use Rattle.descriptions.specs.Description.{IsLeftByEdit, IsOnlyRead}
 use Rattle.command_table.specs.CarriedOut.{AreReadsTold, StopsIt, IsCarriedOut}
 use Rattle.run_steps.proofs.ActLemmas.{done_and_said, more_err, nothing_before}
 use Rattle.run_steps.proofs.MeaningLemmas.{received, sure_ends, to_end}

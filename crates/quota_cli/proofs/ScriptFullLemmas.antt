@@ -18,7 +18,9 @@ use Rattle.run_steps.specs.declared.invocation.Invocation.{Invocation}
 use Rattle.script_lines.specs.Script.{LineSaid, ScriptMayRefuse, ScriptSaid, lines_say, says_then, script_refusal, script_said}
 use Rattle.script_lines.specs.ScriptReading.{IsOfScript}
 use Rattle.command_table.specs.Table.{described}
-use Rattle.command_table.proofs.FullLemmas.{IsFullSo, asked_by_full, command_full}
+use Rattle.descriptions.specs.Sound.{IsFullSo}
+use Rattle.command_table.proofs.AskedLemmas.{asked_full}
+use Rattle.command_table.proofs.SoundLemmas.{sound}
 use Rattle.quota_cli.specs.Script.{IsFullInLine, LinesSteps, asked_in_script, line_invocation, scripting}
 
 -- The refusal of a script itself is of no file.
@@ -53,7 +55,7 @@ line_full now line old new acts (Some own) refusal blocks limit same ends is =
     let cause : refusal.cause ≡ own.cause = cc in (
       own,
       same,
-      asked_by_full described (command_of true (words_of line.text)) (line_invocation now line) (λ command. command_full command (line_invocation now line)) old acts new own blocks limit ends (sym cause ∙ is),
+      asked_full described (command_of true (words_of line.text)) (line_invocation now line) (λ command. (sound command).full (line_invocation now line)) old acts new own blocks limit ends (sym cause ∙ is),
     )
 
 lines_full : (now : ℕ) (lines : List LineSaid) (own : Option Refusal) (old new : Outside) (acts : List Act) (refusal : Refusal) (blocks limit : ℕ) → IfSome own IsOfScript

@@ -38,8 +38,8 @@ use Rattle.script_lines.specs.declared.script.ScriptFault.TheVariants.{Source, M
 use Rattle.command_table.specs.CarriedOut.{IsCarriedOut, StopsIt}
 use Rattle.command_table.specs.Table.{asked_by, described}
 use Rattle.command_table.proofs.CommandLemmas.{of_done, only_itself}
-use Rattle.command_table.proofs.InputLemmas.{spares_input}
-use Rattle.command_table.proofs.SureLemmas.{asked_sure, command_sure}
+use Rattle.command_table.proofs.AskedLemmas.{asked_sure, spares_input}
+use Rattle.command_table.proofs.SoundLemmas.{sound}
 use Rattle.quota_cli.specs.Carrying.{AreCarried, Ascends, IsLineCarried, unread_cause}
 use Rattle.quota_cli.specs.Script.{ReachesLine, IsLeftUnfinished, IsLineUnfinished, IsOfLine, IsOfLines, StandsInScript, LineSteps, LinesSteps, LinesSuffice, RunningMayRefuse, ScriptSteps, asked_in_script, comes_to_link, is_come_to, is_up_to, line_invocation, script_uses, scripting}
 use Rattle.run_steps.specs.Steps.{Steps}
@@ -422,7 +422,7 @@ script_unread invocation tells old input fault later rose = record {
 lines_are_sure : (now : ℕ) (lines : List LineSaid) (old : Outside) → LinesSuffice now lines old → IsSure (LinesSteps now lines None) old
 lines_are_sure now [] old can = refl
 lines_are_sure now (line ∷ lines) old can = (
-  asked_sure described (command_of true (words_of line.text)) (line_invocation now line) old (λ command. command_sure command (line_invocation now line) old) can.0,
+  asked_sure described (command_of true (words_of line.text)) (line_invocation now line) old (λ command. (sound command).sure (line_invocation now line) old) can.0,
   λ acts middle ends. lines_are_sure now lines middle (can.1 acts middle ends),
 )
 

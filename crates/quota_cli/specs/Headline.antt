@@ -17,7 +17,7 @@ use Rattle.run_steps.specs.Steps.{Steps}
 use Rattle.run_steps.specs.Writes.{ReadsWithin}
 use Rattle.run_steps.specs.declared.invocation.Invocation.{Invocation}
 use Rattle.command_words.specs.Asked.{command_of}
-use Rattle.command_table.specs.Description.{ChangesWithin, Description, IsLeftByEdit, IsOnlyRead}
+use Rattle.descriptions.specs.Description.{ChangesWithin, Description, IsLeftByEdit, IsOnlyRead}
 use Rattle.command_table.specs.CarriedOut.{AreReadsTold}
 use Rattle.command_table.specs.Table.{asked_by}
 use Rattle.quota_cli.specs.Script.{StandsInScript, commanded}

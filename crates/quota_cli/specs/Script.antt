@@ -19,8 +19,8 @@ use Rattle.run_steps.specs.Run.{HasReason, HasSteps, IsDoneInPart, Uses}
 use Rattle.run_steps.specs.Steps.{Before, Ending, InLine, Reading, Steps}
 use Rattle.run_steps.specs.declared.invocation.Invocation.{Invocation}
 use Rattle.script_lines.specs.Script.{LineSaid, ScriptMayRefuse, script_said}
-use Rattle.command_table.specs.Description.{Description}
-use Rattle.command_table.specs.Table.{asked_by, described, row}
+use Rattle.descriptions.specs.Description.{Description, row}
+use Rattle.command_table.specs.Table.{asked_by, described}
 
 -- Lines.
 

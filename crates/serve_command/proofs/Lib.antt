@@ -1,4 +1,3 @@
 pub mod AnsweringLemmas
-pub mod LookLemmas
-pub mod StepLemmas
+pub mod SoundLemmas
 pub mod WordLemmas

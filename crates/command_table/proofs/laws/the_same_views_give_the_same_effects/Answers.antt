@@ -1,4 +1,5 @@
-use Rattle.command_table.proofs.LookLemmas.{command_opens, effects_same, other_effect}
+use Rattle.command_table.proofs.LookLemmas.{effects_same, other_effect}
+use Rattle.command_table.proofs.SoundLemmas.{sound}
 use Rattle.command_table.proofs.laws.the_same_views_give_the_same_effects.Goals as goal
 
 pub returns-clause-acts : goal.returns-clause-acts
@@ -9,4 +10,4 @@ pub returns-clause-other : goal.returns-clause-other
 returns-clause-other c command invocation one other new acts status alike effect = other_effect command invocation one other new acts status alike effect
 
 pub returns-clause-opens : goal.returns-clause-opens
-returns-clause-opens c command invocation old file opens = command_opens command invocation old file opens
+returns-clause-opens c command invocation old file opens = (sound command).opens invocation old file opens

@@ -1,6 +1,6 @@
 use Rattle.command_words.specs.Asked.{command_of}
 use Rattle.command_table.specs.Table.{described}
-use Rattle.command_table.proofs.CommandLemmas.{asked_known, read_known}
+use Rattle.command_table.proofs.AskedLemmas.{asked_known, read_known}
 use Rattle.command_table.proofs.laws.words_ask_for_what_is_known.Goals as goal
 
 pub returns : goal.returns

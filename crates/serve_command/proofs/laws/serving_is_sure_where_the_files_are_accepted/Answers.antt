@@ -1,7 +1,7 @@
 use Rattle.rquota_serve.specs.ExportedValues.{ExportedValues, nothing_exported}
 use Rattle.run_steps.specs.Steps.{Starting}
 use Rattle.serve_command.specs.Serve.{AnsweringSteps}
-use Rattle.serve_command.proofs.StepLemmas.{sure_answering, sure_opening_all}
+use Rattle.serve_command.proofs.SoundLemmas.{sure_answering, sure_opening_all}
 use Rattle.serve_command.proofs.laws.serving_is_sure_where_the_files_are_accepted.Goals as goal
 
 pub returns : goal.returns

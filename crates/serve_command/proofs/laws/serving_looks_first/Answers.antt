@@ -2,7 +2,7 @@ use Rattle.std.proofs.Common.{false}
 use Rattle.rquota_serve.specs.ExportedValues.{ExportedValues, nothing_exported}
 use Rattle.run_steps.specs.Steps.{Starting}
 use Rattle.serve_command.specs.Serve.{AnsweringSteps}
-use Rattle.serve_command.proofs.StepLemmas.{looks_answering, looks_opening_all}
+use Rattle.serve_command.proofs.SoundLemmas.{looks_answering, looks_opening_all}
 use Rattle.serve_command.proofs.laws.serving_looks_first.Goals as goal
 
 pub returns : goal.returns

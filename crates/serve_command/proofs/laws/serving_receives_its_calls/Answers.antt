@@ -2,7 +2,7 @@ use Rattle.rquota_serve.specs.ExportedValues.{ExportedValues, nothing_exported}
 use Rattle.run_steps.proofs.MeaningLemmas.{received}
 use Rattle.run_steps.specs.Steps.{Starting}
 use Rattle.serve_command.specs.Serve.{AnsweringSteps, ServeSteps}
-use Rattle.serve_command.proofs.StepLemmas.{receives_answering, receives_opening_all}
+use Rattle.serve_command.proofs.SoundLemmas.{receives_answering, receives_opening_all}
 use Rattle.serve_command.proofs.laws.serving_receives_its_calls.Goals as goal
 
 pub returns-clause-receives : goal.returns-clause-receives

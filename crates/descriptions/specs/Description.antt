@@ -1,20 +1,35 @@
 -- What is said of a command, and what all that carry one out keep to.
-use Rattle.std.specs.Prelude.{◌≡◌, ◌≢◌, ◌≤◌, ◌⊎◌, ◌+◌, ℕ, Bool, false, IfSome, List, Option}
+use Rattle.std.specs.Prelude.{◌≡◌, ◌≢◌, ◌≤◌, ◌⊎◌, ◌+◌, ℕ, Bool, false, IfSome, List, [], ◌∷◌, Option, None, ⊤}
 use Rattle.outside.specs.Replacement.{ReplacesOnly}
 use Rattle.outside.specs.Seen.{StoreSeen}
 use Rattle.outside.specs.World.{KeepsOthers, World}
 use Rattle.refusals.specs.declared.cause.Cause.{Cause}
 use Rattle.refusals.specs.declared.reason.Refusal.{Refusal}
 use Rattle.quota_value.specs.QuotaValue.{QuotaValue}
+use Rattle.quota_map.specs.Asked.{asked_of}
+use Rattle.command_words.specs.declared.command.Common.{Common}
 use Rattle.run_steps.specs.Act.{MayBeLeft}
 use Rattle.run_steps.specs.Done.{Outside, RunSeen, RunTells}
 use Rattle.run_steps.specs.Run.{Uses}
+use Rattle.run_steps.specs.SameViews.{FileAsked}
 use Rattle.run_steps.specs.Steps.{Steps}
 use Rattle.run_steps.specs.declared.invocation.Invocation.{Invocation}
 
--- a command of these uses comes to use the link where it uses it, whatever the input says and whichever its refusal is
-abbrev pub links_as : Uses → List ℕ → Option Refusal → Bool
-links_as uses bytes refusal = uses.link
+-- What a command may look at among the files: the quota files that it opens, in order; the file of names and the file of an input,
+-- where it reads one; and the name of which it asks only whether there is a file.
+pub record Looks : Type 0 where
+  pub opens : List FileAsked
+  pub names : Option (List ℕ)
+  pub input : Option (List ℕ)
+  pub target : Option (List ℕ)
+
+-- these files are opened, and the names and the input of these are read, where there are such
+abbrev pub looks_at : List FileAsked → (names input : Option (List ℕ)) → Looks
+looks_at files names input = record { opens = files; names = names; input = input; target = None }
+
+-- the one file that a command is given
+abbrev pub file_given : Common → (file : List ℕ) → List FileAsked
+file_given common file = record { kind = common.kind; asked = asked_of common.format; name = file } ∷ []
 
 -- All that is said of a command.
 pub record Description : Type 1 where
@@ -43,6 +58,10 @@ pub record Description : Type 1 where
   pub most_reads : Outside → Option ℕ
   -- what holds of the files where it was done, beside what its acts say
   pub made : Invocation → Outside → World → Type 0
+  -- what it looks at among the files
+  pub looks : Looks
+  -- whether it edits records of a file, for which there may be no room in its blocks
+  pub needs_room : Bool
   -- what is known of its words, wherever words ask for it
   pub known : Type 0
   -- what holds where it is said that the link failed: not all that was to be done with the link was done
@@ -56,6 +75,34 @@ pub record Description : Type 1 where
   pub suffices : Invocation → Outside → Type 0
   -- conditions with which it changes files at one moment alone, so that a stop leaves the old ones or the new ones
   pub at_once : Invocation → Outside → Type 0
+
+-- A plain row of the table, which says of a command its steps, the objects that it uses and the causes for which it may be refused, and of
+-- all else the least: it changes no file that is named, no word of it is faulty by itself, nothing bounds its calls, it looks at no file,
+-- and edits none, nothing more is known or said, no conditions are known that suffice, and files change at one moment alone. It comes to
+-- use the link where it uses it, whatever the input says and whichever its refusal is. A command says beside it what is more, or else.
+abbrev pub row : (Invocation → Steps) → Uses → (Cause → List ℕ → Type 0) → Description
+row steps uses may = record {
+  steps = steps;
+  uses = uses;
+  may = may;
+  faulty = None;
+  replaces = None;
+  edits = None;
+  unwritten = false;
+  alone = None;
+  anew = None;
+  most_writes = None;
+  most_reads = λ (old : Outside). None;
+  made = λ (invocation : Invocation) (old : Outside) (files : World). ⊤;
+  looks = looks_at [] None None;
+  needs_room = false;
+  known = ⊤;
+  unfinished = λ (invocation : Invocation) (tells : RunTells) (old new : RunSeen). ⊤;
+  full = λ (invocation : Invocation) (old : Outside) (files : World) (refusal : Refusal) (blocks limit : ℕ). ⊤;
+  links = λ (bytes : List ℕ) (refusal : Option Refusal). uses.link;
+  suffices = λ (invocation : Invocation) (old : Outside). ⊥;
+  at_once = λ (invocation : Invocation) (old : Outside). ⊤;
+}
 
 -- nothing was done but that the input was read
 pub record IsOnlyRead (old new : RunSeen) : Type 0 where
