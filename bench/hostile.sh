@@ -39,7 +39,8 @@
 # put in, or with a record of 4,096 bytes or 4,097 in front; each 25th has sound calls alone, and each 100,000th a call that ends
 # with the last byte that is read of a connection, or one behind it. Each is sent at once or in pieces. Each `rquotad_tcp` takes
 # up to 5,000 of them, one connection for each, and ends with status 0 after just so many. The replies on each are, byte for byte
-# and in their order, those to its whole records up to the first that is cut off or too long, and no further ones; about one
+# and in their order, those to its whole records up to the first that is cut off or too long, and no further ones. Where bytes
+# are left unread the system resets the connection as it is closed, and what it had not sent by then may be lacking. About one
 # client in 50 resets its connection and reads none. What a server takes is judged as it is for datagrams.
 set -euo pipefail
 shopt -s inherit_errexit

@@ -26,6 +26,8 @@ MOST_STREAM = 16_777_216
 LONG = 100_000
 # The top bit of a head.
 LAST = 2**31
+# How the records of a stream may end.
+TOO_LONG = "a record that is too long"
 # (ip(7): the port of a client is chosen as it connects)
 IP_BIND_ADDRESS_NO_PORT = 24
 
@@ -40,7 +42,7 @@ def records_of(stream):
         head = unit(stream, at)
         end = at + 4 + head % LAST
         if len(body) + head % LAST > MOST:
-            return records, "a record that is too long"
+            return records, TOO_LONG
         if end > len(stream):
             break
         body, at = body + stream[at + 4 : end], end
@@ -157,7 +159,9 @@ class Streams(Shard):
         got = self.sent(sock, stream, draws)
         records, ends = records_of(stream)
         self.counts["end: " + ends] += 1
-        self.compare(number, got, records, since, int(time.time()) + 1)
+        # (what was not read of a connection resets it as it is closed, and what was not sent on it by then is lost: RFC 1122, 4.2.2.13)
+        is_reset = ends == TOO_LONG or len(stream) > MOST_STREAM
+        self.compare(number, got, records, is_reset, since, int(time.time()) + 1)
 
     def sent(self, sock, stream, draws):
         """Sends a stream, at once or in pieces, and answers what comes back. The server may close before it has read all."""
@@ -170,10 +174,15 @@ class Streams(Shard):
                 pass
             return all_of(sock)
 
-    def compare(self, number, got, records, since, until):
+    def compare(self, number, got, records, is_reset, since, until):
+        """Looks whether the replies to these records came back, or, on a connection that was reset, a first part of them."""
         for data in records:
             right = [record(reply) for reply in replies(data, self.served.values, since, until)]
             self.counts["no reply" if not right else name_of(right[0][4:])] += 1
+            if right and is_reset and len(got) < len(right[0]):
+                want(any(each.startswith(got) for each in right), "case", number, "got", got.hex(), "and not", right[0].hex())
+                self.counts["end: a reset, before which not all was sent"] += 1
+                return
             if right:
                 want(got[: len(right[0])] in right, "case", number, "got", got[:200].hex(), "and not", right[0].hex())
                 got = got[len(right[0]) :]
