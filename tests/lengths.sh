@@ -12,6 +12,7 @@ import sys
 
 # The file, the most words that it may have, and the most that a sentence of it may have on average.
 LIMITS = [
+    ("README.md", 700, 25),
     ("docs/ARCHITECTURE.md", 4500, 25),
     ("docs/DECISIONS.md", 7000, 25),
     ("docs/PROMISES.md", 7000, 25),
