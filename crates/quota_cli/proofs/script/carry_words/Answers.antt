@@ -2,9 +2,9 @@ use Rattle.std.proofs.Common.{[], true, refl}
 use Rattle.command_words.specs.Asked.{command_of}
 use Rattle.option_words.specs.Items.{texts_of}
 use Rattle.command_table.specs.Table.{described}
-use Rattle.command_table.proofs.CommandLemmas.{not_read, read_carried, read_known}
+use Rattle.command_table.proofs.CommandLemmas.{not_read, read_carried}
 use Rattle.command_table.proofs.CommittedLemmas.{read_committed, row_looked}
-use Rattle.command_table.proofs.AskedLemmas.{no_input}
+use Rattle.command_table.proofs.AskedLemmas.{no_input, read_known}
 use Rattle.quota_cli.proofs.script.carry_words.Goals as goal
 
 pub carry_out-requires : goal.carry_out-requires
