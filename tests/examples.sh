@@ -576,7 +576,7 @@ mailed() {
 
 # scheduled: five fields of a time, and the script of the page.
 scheduled() {
-    echo '0 18 * * * /usr/local/bin/quota_mail' >wanted
+    echo '0 18 * * * QUOTA_CLI_REASONS=always /usr/local/bin/quota_mail' >wanted
     echo "$text" >got
     same "$line" 'this is no line of cron for the script'
 }

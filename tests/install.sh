@@ -52,6 +52,7 @@ installed() {
         share/doc/quota-cli/examples/{make_quota_files,serve_client}.py
     printf '644 ./lib/systemd/system/%s\n' quota_cli-recover.service quota_cli-rquotad@.service \
         {quotaon,systemd-quotacheck}@.service.d/quota_cli-recover.conf
+    echo '644 ./lib/quota_cli/commit'
     printf '644 ./share/doc/quota-cli/%s\n' examples/{aquota.user,quota.user,quota.user32,aquota.project,projid,projects.listing} \
         {CHANGELOG,COMING_FROM_QUOTA_TOOLS,COMMANDS,FORMATS,PROMISES,README}.md.gz
     for name in "${names[@]}"; do
@@ -62,10 +63,12 @@ installed() {
     done
 }
 
-# starts FOLDER: whether each program says its name and a version.
+# starts FOLDER: whether each program says its name and a version, and the commit of this repository behind it.
 starts() {
     local name
-    for name in "${names[@]}"; do "$1/${folder_of[$name]}/$name" --version | cut -d ' ' -f 1; done
+    for name in "${names[@]}"; do
+        "$1/${folder_of[$name]}/$name" --version | sed "1s/ .*//; 2s/^commit $commit\$/and its commit/"
+    done
 }
 
 # Into an empty folder, and out of it.
@@ -75,7 +78,8 @@ same 'what was installed' "$(tree 'a place' | grep -v '/$' | LC_ALL=C sort)" \
     "$({ installed site-functions && echo '644 ./share/quota_cli/installed'; } | LC_ALL=C sort)"
 same 'it says what it installed' "$(sed 's/^installed //' said | sort)" "$(find "$folder/a place" -type f | sort)"
 same 'the installed quota_cli' "$(works "$folder/a place/sbin/quota_cli")" "$line"
-same 'the installed programs' "$(starts "$folder/a place")" "$(printf '%s\n' "${names[@]}")"
+commit=$(git -C "$top" log -1 --abbrev=12 --format='%h of %cs')
+same 'the installed programs' "$(starts "$folder/a place")" "$(printf '%s\nand its commit\n' "${names[@]}")"
 for name in "${pages[@]}"; do
     page=$top/docs/$name
     place=share/man/man${name##*.}/$name.gz

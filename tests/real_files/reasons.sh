@@ -1,4 +1,4 @@
-# What the system refused, and why, which is told where standard error is a terminal.
+# Why a run ended with another status than 0, which is told where standard error is a terminal, or asked for by a variable.
 # A part of real_files.sh, which has what it calls, and runs it in a folder of its own.
 
 # refused WHAT LINE REASON WORD..: `called` ends with status 4 and the error line. Where standard error is a terminal, the
@@ -59,9 +59,55 @@ if command -v python3 >/dev/null; then
     called=("$run")
     refused 'a program of another name' 'store fault' 'quota_cli: d: Is a directory' repquota -F vfsold d
 
-    # What is refused by the command itself, and other words, have one line there too.
-    expect 'an absent file, at a terminal' 1 '' 'quota: absent: no such file' repquota -F vfsold absent
-    expect 'no words, at a terminal' 2 '' 'quota: usage: NoCommand at word 0'
+    # What the command itself refuses has its reason at a terminal, too, and wherever it is asked for; nowhere else.
+    # told WHAT STATUS LINE REASON WORD..
+    told() {
+        local what=$1 status=$2 line=$3 reason=$4
+        shift 4
+        runner=("$top/tests/real_files/terminal.py" "$run")
+        expect "$what, at a terminal" "$status" '' "quota: $line
+quota_cli: $reason" "$@" <stdin
+        runner=(env QUOTA_CLI_REASONS=never "$top/tests/real_files/terminal.py" "$run")
+        expect "$what, never" "$status" '' "quota: $line" "$@" <stdin
+        runner=(env QUOTA_CLI_REASONS=always "$run")
+        expect "$what, always" "$status" '' "quota: $line
+quota_cli: $reason" "$@" <stdin
+        runner=("$run")
+        expect "$what, without a terminal" "$status" '' "quota: $line" "$@" <stdin
+    }
+    : >stdin
+    told 'an absent file' 1 'absent: no such file' \
+        'absent: look at the name; quota_cli quotacheck -c makes a new quota file of a listing' repquota -F vfsold absent
+    told 'no words' 2 'usage: NoCommand at word 0' \
+        'no command; one of repquota, setquota, edquota, quotacheck, convertquota, rquotad, script or generate is wanted; quota_cli --help'
+    told 'two kinds' 2 'usage: Excludes at word 3' '-ug: one of -u, -g and -P is wanted; quota_cli repquota --help' repquota -ug q
+    told 'no formats' 2 'usage: MissingOption at word 3' \
+        'no -f OLD,NEW, each of vfsold, vfsold32, vfsv0 or vfsv1; quota_cli convertquota --help' convertquota q r
+    told 'another format' 2 'usage: BadValue at word 1' \
+        '-F: ext4: a format is one of vfsold, vfsold32, vfsv0 or vfsv1; quota_cli repquota --help' repquota -F ext4 q
+    told 'too few operands' 2 'usage: WrongOperands at word 3' \
+        '2 operands, and 6 are wanted: NAME BSOFT BHARD ISOFT IHARD FILE; quota_cli setquota --help' setquota 1 q
+    told 'a name without a file of names' 1 'unknown name carol' \
+        'carol: no number; names are known with --names FILE alone' setquota -F vfsold carol 1 2 3 4 q
+    told 'a number that is too large' 1 'bad number 99999999999T' \
+        '99999999999T: too large; a limit of blocks is a number of KiB, or one with K, M, G or T behind it' \
+        setquota -F vfsold 1 0 99999999999T 0 0 q
+    echo 'domain users:x:7:' >names
+    told 'a bad line of names' 1 'names: bad line 1' \
+        'domain users:x:7:: a line as in passwd(5) or group(5) is wanted, whose name has no blank' \
+        setquota -F vfsold --names names 1 0 0 0 0 q
+    printf '1 2 3 4 5\n1 2 3 4 5\r\n' >stdin
+    told 'a number with a carriage return' 1 $'input line 2: bad number 5\r' \
+        '1 2 3 4 5\r: 5\r: a limit of blocks is a number of KiB, or one with K, M, G or T behind it' setquota -F vfsold -b q
+    printf '1 2 3 4 5\n1 2 3\n' >stdin
+    told 'a line of four words' 1 'input: bad line 2' '1 2 3: the five words NAME BSOFT BHARD ISOFT IHARD are wanted, in UTF-8' \
+        setquota -F vfsold -b q
+    cp stdin lines
+    told 'a line of a file' 1 'lines: bad line 2' '1 2 3: the five words NAME BSOFT BHARD ISOFT IHARD are wanted, in UTF-8' \
+        setquota -F vfsold -b --input lines q
+    printf '# first\nrepquota -ug q\n' >stdin
+    told 'a line of a script' 2 'line 2: usage: Excludes at word 3' \
+        '-ug: one of -u, -g and -P is wanted; quota_cli repquota --help' script
     runner=("$run")
     cd ..
     rm -r reasons

@@ -1,6 +1,6 @@
 -- What a program says about itself, and which words ask for it. Source: the GNU coding standards, on `--help` and
 -- `--version`; that such a word stands alone, or behind the name of a command alone, is this project's own.
-use Rattle.std.specs.Prelude.{ℕ, if◌then◌else◌, List, [], ◌∷◌, Option, Some, None, codes}
+use Rattle.std.specs.Prelude.{ℕ, if◌then◌else◌, List, [], ◌∷◌, ◌++◌, Option, Some, None, codes}
 use Rattle.std.specs.Str.{bytes_eq}
 use Rattle.program_help.specs.declared.about.About.{About}
 use Rattle.program_help.specs.declared.about.About.TheVariants.{Help, Version, Command}
@@ -27,6 +27,10 @@ asked_alone word =
 -- what a word asks for that stands alone behind the name of a command
 abbrev pub asked_of : (name word : List ℕ) → Option Question
 asked_of name word = if bytes_eq word (codes "--help") then Some (OfCommand name) else None
+
+-- a text with the line of a commit behind it
+abbrev pub with_commit : (text commit : List ℕ) → List ℕ
+with_commit text commit = text ++ (codes "commit " ++ (commit ++ codes "\n"))
 
 -- what words ask for: one alone, or one alone behind a name; and other words ask for nothing
 abbrev pub asked : List (List ℕ) → Option Question

@@ -6,5 +6,8 @@
 #![tactic(auto)]
 
 mod about;
+mod commit;
+mod telling;
 
 pub use about::{About, tell};
+pub use telling::tell_asked;

@@ -1,7 +1,7 @@
-//! What programs that open quota files tell of undo files on a terminal: why one is not believed, and what came of those that
+//! What programs that open quota files tell of undo files where that is asked for: why one is not believed, and what came of those that
 //! were found with an open gate.
 //!
-//! The one promise: it is told on a terminal alone.
+//! The one promise: nothing is told where it is not asked for.
 #![tactic(auto)]
 
 mod recoveries;

@@ -91,21 +91,21 @@ fn lines_of(
     Ok(lines)
 }
 
-/// Writes, where the error output is a terminal and there is memory for it, why an undo file was not believed, where that is
+/// Writes, where that is asked for and there is memory for it, why an undo file was not believed, where that is
 /// what a call on the disk failed for, a line for each file that was recovered, and one for each undo file with an open gate
 /// that did not fit its file.
 pub fn tell_undo_files<E: Sink>(
     err: &mut E,
-    is_terminal: bool,
+    is_asked: bool,
     called: &str,
     failure: Option<&DiskFailure>,
     gates: &[Gate],
     alloc: Global,
 )
-    ensures quiet { is_terminal ≡ false → err.new ≡ err.old }
+    ensures quiet { is_asked ≡ false → err.new ≡ err.old }
     ensures later { (E.seen err.old).faults ≤ (E.seen err.new).faults }
 {
-    if !is_terminal {
+    if !is_asked {
         return;
     }
     if let Ok(lines) = lines_of(alloc, called, failure, gates) {

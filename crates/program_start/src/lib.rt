@@ -1,14 +1,17 @@
 //! How every program begins: its words, the standard streams that were closed, the causes for which it stops before it has
-//! begun, and the reason of the system on a terminal.
+//! begun, and whether the reason of a status is told, and how.
 //!
-//! The one promise: where a program stops before it has begun, its status and its error line are those of the cause.
+//! The one promise: where a program stops before it has begun, its status and its error line are those of the cause; and
+//! where reasons are not asked for, or the status is 0, nothing is added.
 #![tactic(auto)]
 
+mod asked;
 mod closed;
 mod reason;
 mod starting;
 mod words;
 
+pub use asked::are_reasons_asked;
 pub use closed::hold_closed_streams;
 pub use reason::{Failed, Reason, add_reason, name_in};
 pub use starting::{starting_cause, stop, words_cause};

@@ -1,6 +1,6 @@
-ghost use Rattle.std.specs.Prelude.{◌≡◌, ◌≢◌, ◌≤◌, ◌⊎◌, ◌++◌, codes, List, None, IfOk, IfSome, IsTrue, false, string_bytes, ℕ};
+ghost use Rattle.std.specs.Prelude.{◌≡◌, ◌≤◌, ◌⊎◌, ◌++◌, codes, List, None, IfOk, IfSome, IsTrue, false, is_some, string_bytes, ℕ};
 ghost use Rattle.outside.specs.Text.{AppendsPrefix};
-ghost use Rattle.program_start.specs.Reason.{IsNameIn, IsReasonLine, failed_name};
+ghost use Rattle.program_start.specs.Reason.{IsNameIn, IsReasonLine, TellsOf, failed_name, is_unreadable};
 
 use outside::Sink;
 use std::alloc::{AllocError, Global};
@@ -21,6 +21,18 @@ pub enum Failed<'a> {
     File(&'a str),
 }
 
+impl Reason<'_> {
+    /// Why the words of the command line are not taken: one of them is not UTF-8. None where it is something else.
+    pub fn of_words(kind: io::ErrorKind) -> Option<Self>
+        ensures { is_some result ≡ is_unreadable kind }
+    {
+        match kind {
+            io::ErrorKind::InvalidData => Some(Reason::Text("a word is not UTF-8")),
+            _ => None,
+        }
+    }
+}
+
 impl Failed<'_> {
     /// What it is called.
     fn name(self, alloc: Global) -> Result<String, AllocError>
@@ -36,13 +48,20 @@ impl Failed<'_> {
     }
 }
 
-/// What the system refused, and why.
+/// Why a run ended with another status than 0.
 #[derive(Clone, Copy)]
-pub struct Reason<'a> {
-    /// On what it refused a call.
-    pub of: Failed<'a>,
-    /// Why.
-    pub error: io::Error,
+pub enum Reason<'a> {
+    /// The system refused a call.
+    Refused {
+        /// On what it refused it.
+        of: Failed<'a>,
+        /// Why.
+        error: io::Error,
+        /// What an earlier run left beside the file, where it did.
+        left: Option<&'a str>,
+    },
+    /// What this text tells.
+    Text(&'a str),
 }
 
 /// The words of an error without the system's number of it.
@@ -63,15 +82,37 @@ pub fn name_in(path: &str) -> &str
     }
 }
 
-/// The line that tells of a program, called by this path, what the system refused, and why.
+/// The line that tells of a program, called by this path, why a run ended so.
 fn line_of(alloc: Global, called: &str, reason: Reason<'_>) -> Result<String, AllocError>
-    ensures { IfOk result (λ line. IsReasonLine called.now reason.entry.of (string_bytes line)) }
+    ensures { IfOk result (λ line. IsReasonLine called.now reason.entry (string_bytes line)) }
 {
-    let error = reason.error;
-    let words = format!(in alloc; "{error}")?;
-    let failed = reason.of.name(alloc)?;
-    let text = told(alloc, failed.as_str(), without_number(words.as_str()))?;
+    let text = text_of(alloc, reason)?;
     line_with(alloc, name_in(called), text.as_str())
+}
+
+/// The text of a reason.
+fn text_of(alloc: Global, reason: Reason<'_>) -> Result<String, AllocError>
+    ensures { IfOk result (λ text. TellsOf reason.entry (string_bytes text)) }
+{
+    match reason {
+        Reason::Refused { of, error, left } => {
+            let words = format!(in alloc; "{error}")?;
+            let failed = of.name(alloc)?;
+            let words = with_left(alloc, without_number(words.as_str()), left)?;
+            told(alloc, failed.as_str(), words.as_str())
+        }
+        Reason::Text(text) => String::from_str(alloc, text),
+    }
+}
+
+/// What the system said, and what an earlier run left.
+fn with_left(alloc: Global, words: &str, left: Option<&str>) -> Result<String, AllocError> {
+    match left {
+        Some(left) => format!(in alloc;
+            "{words}; {left} was left by a run that was stopped, and may be deleted"
+        ),
+        None => String::from_str(alloc, words),
+    }
 }
 
 /// What is said of something.
@@ -89,23 +130,23 @@ fn line_with(alloc: Global, name: &str, text: &str) -> Result<String, AllocError
     format!(in alloc; "{line}\n")
 }
 
-/// Writes behind the error line what the system refused, and why, where the status is that of a fault, the error output is a
-/// terminal, that is known, and there is memory for the line.
+/// Writes behind the error line why a run ended with another status than 0, where that is asked for and known, and there is
+/// memory for the line.
 pub fn add_reason<E: Sink>(
     err: &mut E,
-    is_terminal: bool,
+    is_asked: bool,
     status: u8,
     called: &str,
     reason: Option<Reason<'_>>,
     alloc: Global,
 )
-    ensures quiet { (is_terminal ≡ false) ⊎ (status ≢ 4) → err.new ≡ err.old }
+    ensures quiet { (is_asked ≡ false) ⊎ (status ≡ 0) → err.new ≡ err.old }
     ensures unknown { reason.entry ≡ None → err.new ≡ err.old }
     ensures line { IfSome reason.entry (λ reason. IsTrue E.tells → (err.new ≡ err.old)
-        ⊎ ((line : List ℕ) × IsReasonLine called.now reason.of line × AppendsPrefix (E.seen err.old).written (E.seen err.new).written line)) }
+        ⊎ ((line : List ℕ) × IsReasonLine called.now reason line × AppendsPrefix (E.seen err.old).written (E.seen err.new).written line)) }
     ensures later { (E.seen err.old).faults ≤ (E.seen err.new).faults }
 {
-    if !is_terminal || status != 4 {
+    if !is_asked || status == 0 {
         return;
     }
     let Some(reason) = reason else {

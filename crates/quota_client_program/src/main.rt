@@ -3,13 +3,16 @@
 
 ghost use Rattle.std.specs.Prelude.{◌≡◌, ◌%◌, ◌^◌};
 
+use command_reasons::{Program, program_reason};
 use help::text_asked;
-use program_help::tell;
+use program_help::tell_asked;
 use program_start::{
-    Failed, Reason, add_reason, given_words, hold_closed_streams, starting_cause, stop, words_cause,
+    Failed, Reason, add_reason, are_reasons_asked, given_words, hold_closed_streams,
+    starting_cause, stop, words_cause,
 };
 use quota_client::run_client;
 use refusals::UsageKind;
+use std::alloc::Global;
 use std::io;
 use std::io::IsTerminal;
 use std::process::ExitCode;
@@ -26,18 +29,36 @@ fn first_xid(seconds: u64) -> u32
 }
 
 /// What the system refused, and why, of the output or of the peer. A run ends with the first one, so there is one at most.
-fn reason_of<'a>(output: Option<io::Error>, peer: Option<LinkFailure>) -> Option<Reason<'a>> {
+fn system_reason<'a>(output: Option<io::Error>, peer: Option<LinkFailure>) -> Option<Reason<'a>> {
     if let Some(error) = output {
-        return Some(Reason {
+        return Some(Reason::Refused {
             of: Failed::Output,
             error,
+            left: None,
         });
     }
     let failure = peer?;
-    Some(Reason {
+    Some(Reason::Refused {
         of: Failed::UdpPort(failure.port),
         error: failure.error,
+        left: None,
     })
+}
+
+/// The text of the reason of a status behind this error line; none where it is not asked for, where the system refused
+/// something, where no more is known than the error line has, or where there is no memory for it. With status 1 the output
+/// says which path it is of.
+fn text_of(
+    alloc: Global,
+    is_asked: bool,
+    status: u8,
+    error_line: Option<&[u8]>,
+    words: &[String],
+) -> Option<String> {
+    if !is_asked || status == 0 || status == 4 {
+        return None;
+    }
+    program_reason(alloc, Program::Client, error_line?, words).unwrap_or(None)
 }
 
 fn main(rt: HostRuntime) -> ExitCode {
@@ -46,30 +67,42 @@ fn main(rt: HostRuntime) -> ExitCode {
     if let Err(error) = &held {
         return ExitCode::from(stop(&mut err, starting_cause(error.kind()), rt.alloc()));
     }
-    let is_terminal = rt.stderr().is_terminal();
+    let is_asked = are_reasons_asked(&rt, rt.stderr().is_terminal());
     let status = match (given_words(&rt, "quota_client"), moment(&rt)) {
         (Ok((called, words)), Ok(now)) => {
             let mut out = StreamSink::new(rt.stdout());
             let mut peer = UdpPeer::new(&rt);
+            if is_asked {
+                err.keep();
+            }
             let status = match text_asked(&words) {
-                Some(text) => tell(&mut out, &mut err, text, rt.alloc()),
+                Some(text) => tell_asked(&rt, &words, text, &mut out, &mut err),
                 None => run_client(&words, &mut peer, &mut out, &mut err, first_xid(now)),
             };
+            let text = text_of(rt.alloc(), is_asked, status, err.last_line(), &words);
+            let reason = match &text {
+                Some(text) => Some(Reason::Text(text.as_str())),
+                None if status == 4 => system_reason(out.failure(), peer.failure()),
+                None => None,
+            };
+            let called = called.as_str();
+            add_reason(&mut err, is_asked, status, called, reason, rt.alloc());
+            status
+        }
+        (Err(error), _) => {
+            let cause = words_cause(UsageKind::WrongOperands, error.kind());
+            let status = stop(&mut err, cause, rt.alloc());
+            let reason = Reason::of_words(error.kind());
             add_reason(
                 &mut err,
-                is_terminal,
+                is_asked,
                 status,
-                called.as_str(),
-                reason_of(out.failure(), peer.failure()),
+                "quota_client",
+                reason,
                 rt.alloc(),
             );
             status
         }
-        (Err(error), _) => stop(
-            &mut err,
-            words_cause(UsageKind::WrongOperands, error.kind()),
-            rt.alloc(),
-        ),
         (_, Err(error)) => stop(&mut err, starting_cause(error.kind()), rt.alloc()),
     };
     ExitCode::from(status)

@@ -3,35 +3,39 @@
 
 use command_words::{UsageFault, read_words};
 use help::text_asked;
+use inputs::input_wait;
 use journal_store::JournalStore;
-use program_help::tell;
+use program_help::tell_asked;
 use program_recoveries::tell_undo_files;
 use program_start::{
-    add_reason, given_words, hold_closed_streams, name_in, starting_cause, stop, words_cause,
+    Reason, add_reason, are_reasons_asked, given_words, hold_closed_streams, name_in,
+    starting_cause, stop, words_cause,
 };
 use quota_cli::run::run;
 use quota_files::{QuotaFiles, quota_files_of};
-use reasons::Reasons;
 use refusals::{Cause, UsageKind};
+use run_notes::Teller;
 use sharing::sharing_of;
 use std::alloc::{AllocError, Global};
 use std::fs::{File, Files};
-use std::io::{BufReader, IsTerminal};
+use std::io::{BufReader, Eprint, IsTerminal};
 use std::process::ExitCode;
 use system_objects::FileDisk;
 use system_streams::{StreamSink, StreamSource, UdpLink, moment};
+use telling::{Failures, ReadLines, left_of, text_of};
 
 mod help;
+mod inputs;
 mod quota_files;
-mod reasons;
 mod sharing;
+mod telling;
 mod usages;
 
 /// The most bytes that are taken from the standard input with one call of the system.
 const READ_AHEAD: usize = 65_536;
 
 /// Tells a disk beside which files undo files stand.
-fn name_files<R: Files<File = File>>(
+fn name_files<R: Files<File = File> + Eprint>(
     disk: &mut FileDisk<'_, R>,
     files: QuotaFiles<'_>,
 ) -> Result<(), AllocError> {
@@ -53,7 +57,7 @@ fn name_files<R: Files<File = File>>(
 
 /// Tells a disk which files of the command are quota files, and how they are shared with other programs. Words that ask for
 /// no command use none, and are refused when they are carried out.
-fn share_files<R: Files<File = File>>(
+fn share_files<R: Files<File = File> + Eprint>(
     disk: &mut FileDisk<'_, R>,
     words: &[String],
     alloc: Global,
@@ -78,32 +82,38 @@ fn main(rt: HostRuntime) -> ExitCode {
         return ExitCode::from(stop(&mut err, starting_cause(error.kind()), rt.alloc()));
     }
     let is_terminal = rt.stderr().is_terminal();
+    let is_asked = are_reasons_asked(&rt, is_terminal);
     let status = match (given_words(&rt, "quota_cli"), moment(&rt)) {
         (Ok((called, words)), Ok(now)) => {
+            let called = called.as_str();
             let mut out = StreamSink::new(rt.stdout());
             if let Some(text) = text_asked(&words) {
-                let status = tell(&mut out, &mut err, text, rt.alloc());
-                let reasons = Reasons::of_output(out.failure());
-                add_reason(
-                    &mut err,
-                    is_terminal,
-                    status,
-                    called.as_str(),
-                    reasons.first(),
-                    rt.alloc(),
-                );
+                let status = tell_asked(&rt, &words, text, &mut out, &mut err);
+                let reason = Failures::of_output(out.failure()).first();
+                add_reason(&mut err, is_asked, status, called, reason, rt.alloc());
                 return ExitCode::from(status);
             }
+            let teller = Teller::of(name_in(called), is_terminal);
             let mut disk = FileDisk::new(rt.alloc(), &rt);
+            disk.tell(teller);
             if let Err(cause) = share_files(&mut disk, &words, rt.alloc()) {
                 return ExitCode::from(stop(&mut err, cause, rt.alloc()));
             }
-            let mut store = JournalStore::new(disk);
             let Ok(stdin) = BufReader::with_capacity(rt.alloc(), READ_AHEAD, rt.stdin()) else {
                 return ExitCode::from(stop(&mut err, Cause::Memory, rt.alloc()));
             };
-            let mut input = StreamSource::new(stdin);
+            let mut input = StreamSource::new(stdin, &rt);
+            if rt.stdin().is_terminal() {
+                input.tell_wait(teller, input_wait(&words));
+            }
             let mut link = UdpLink::new(&rt);
+            link.tell_port(teller);
+            if is_asked {
+                err.keep();
+                disk.keep();
+                input.keep();
+            }
+            let mut store = JournalStore::new(disk);
             let status = run(
                 rt.alloc(),
                 &words,
@@ -114,36 +124,45 @@ fn main(rt: HostRuntime) -> ExitCode {
                 &mut link,
                 now,
             );
-            let disk = store.into_disk();
-            let reasons = Reasons {
+            let mut disk = store.into_disk();
+            disk.clear_made();
+            let left = left_of(is_asked, &disk);
+            let failures = Failures {
                 input: input.failure(),
                 output: out.failure(),
                 link: link.failure(),
                 disk: disk.failure(),
+                left: left.as_ref().map(|left| left.as_str()),
             };
-            add_reason(
-                &mut err,
-                is_terminal,
-                status,
-                called.as_str(),
-                reasons.first(),
-                rt.alloc(),
-            );
+            let lines = ReadLines {
+                input: &input,
+                disk: &disk,
+            };
+            let line = err.last_line();
+            let text = text_of(rt.alloc(), is_asked, status, line, &words, &lines);
+            let reason = match &text {
+                Some(text) => Some(Reason::Text(text.as_str())),
+                None if status == 4 => failures.first(),
+                None => None,
+            };
+            add_reason(&mut err, is_asked, status, called, reason, rt.alloc());
             tell_undo_files(
                 &mut err,
-                is_terminal,
-                name_in(called.as_str()),
+                is_asked,
+                name_in(called),
                 disk.failure(),
                 disk.gates(),
                 rt.alloc(),
             );
             status
         }
-        (Err(error), _) => stop(
-            &mut err,
-            words_cause(UsageKind::UnknownCommand, error.kind()),
-            rt.alloc(),
-        ),
+        (Err(error), _) => {
+            let cause = words_cause(UsageKind::UnknownCommand, error.kind());
+            let status = stop(&mut err, cause, rt.alloc());
+            let reason = Reason::of_words(error.kind());
+            add_reason(&mut err, is_asked, status, "quota_cli", reason, rt.alloc());
+            status
+        }
         (_, Err(error)) => stop(&mut err, starting_cause(error.kind()), rt.alloc()),
     };
     ExitCode::from(status)

@@ -2,20 +2,22 @@
 //! system.
 #![tactic(auto)]
 
+use command_reasons::{Program, program_reason};
 use help::text_asked;
 use journal_store::JournalStore;
-use program_help::tell;
+use program_help::tell_asked;
 use program_recoveries::tell_undo_files;
 use program_start::{
-    Failed, Reason, add_reason, given_words, hold_closed_streams, name_in, starting_cause, stop,
-    words_cause,
+    Failed, Reason, add_reason, are_reasons_asked, given_words, hold_closed_streams, name_in,
+    starting_cause, stop, words_cause,
 };
 use refusals::{Cause, UsageKind};
 use rpc_record::run_stream;
-use std::alloc::AllocError;
+use run_notes::Teller;
+use std::alloc::{AllocError, Global};
 use std::fs::{File, Files};
 use std::io;
-use std::io::IsTerminal;
+use std::io::{Eprint, IsTerminal};
 use std::process::ExitCode;
 use stream_words::read_words;
 use system_network::TcpConns;
@@ -26,7 +28,7 @@ mod help;
 
 /// Tells a disk beside which files undo files stand, and that each file is read as it is opened, so that no lock is held
 /// while connections are waited for. Words that are outside the grammar name no files, and are refused by the run.
-fn share_files<R: Files<File = File>>(
+fn share_files<R: Files<File = File> + Eprint>(
     disk: &mut FileDisk<'_, R>,
     words: &[String],
 ) -> Result<(), AllocError> {
@@ -41,29 +43,50 @@ fn share_files<R: Files<File = File>>(
 /// What the system refused of the output, and why.
 fn output_reason<'a>(output: Option<io::Error>) -> Option<Reason<'a>> {
     let error = output?;
-    Some(Reason {
+    Some(Reason::Refused {
         of: Failed::Output,
         error,
+        left: None,
     })
 }
 
 /// What the system refused, and why, of the disk or of the connections. A run ends with the first call on the disk that fails,
 /// and goes on behind a fault of a connection.
-fn reason_of<'a>(disk: Option<&'a DiskFailure>, conns: Option<LinkFailure>) -> Option<Reason<'a>> {
+fn system_reason<'a>(
+    disk: Option<&'a DiskFailure>,
+    conns: Option<LinkFailure>,
+) -> Option<Reason<'a>> {
     if let Some(failure) = disk {
         if failure.distrust.is_some() {
             return None;
         }
-        return Some(Reason {
+        return Some(Reason::Refused {
             of: Failed::File(failure.name.as_str()),
             error: failure.error,
+            left: None,
         });
     }
     let failure = conns?;
-    Some(Reason {
+    Some(Reason::Refused {
         of: Failed::TcpPort(failure.port),
         error: failure.error,
+        left: None,
     })
+}
+
+/// The text of the reason of a status behind this error line; none where it is not asked for, where the system refused
+/// something, where no more is known than the error line has, or where there is no memory for it.
+fn text_of(
+    alloc: Global,
+    is_asked: bool,
+    status: u8,
+    error_line: Option<&[u8]>,
+    words: &[String],
+) -> Option<String> {
+    if !is_asked || status == 0 || status == 4 {
+        return None;
+    }
+    program_reason(alloc, Program::Server, error_line?, words).unwrap_or(None)
 }
 
 fn main(rt: HostRuntime) -> ExitCode {
@@ -73,52 +96,62 @@ fn main(rt: HostRuntime) -> ExitCode {
         return ExitCode::from(stop(&mut err, starting_cause(error.kind()), rt.alloc()));
     }
     let is_terminal = rt.stderr().is_terminal();
+    let is_asked = are_reasons_asked(&rt, is_terminal);
     let status = match given_words(&rt, "rquotad_tcp") {
         Ok((called, words)) => {
+            let called = called.as_str();
             if let Some(text) = text_asked(&words) {
                 let mut out = StreamSink::new(rt.stdout());
-                let status = tell(&mut out, &mut err, text, rt.alloc());
-                add_reason(
-                    &mut err,
-                    is_terminal,
-                    status,
-                    called.as_str(),
-                    output_reason(out.failure()),
-                    rt.alloc(),
-                );
+                let status = tell_asked(&rt, &words, text, &mut out, &mut err);
+                let reason = output_reason(out.failure());
+                add_reason(&mut err, is_asked, status, called, reason, rt.alloc());
                 return ExitCode::from(status);
             }
+            let teller = Teller::of(name_in(called), is_terminal);
             let mut disk = FileDisk::new(rt.alloc(), &rt);
+            disk.tell(teller);
             if share_files(&mut disk, &words).is_err() {
                 return ExitCode::from(stop(&mut err, Cause::Memory, rt.alloc()));
             }
-            let mut store = JournalStore::new(disk);
             let mut conns = TcpConns::new(&rt);
+            conns.tell_port(teller);
+            if is_asked {
+                err.keep();
+            }
+            let mut store = JournalStore::new(disk);
             let status = run_stream(rt.alloc(), &words, &mut store, &mut conns, &mut err);
             let disk = store.into_disk();
-            add_reason(
-                &mut err,
-                is_terminal,
-                status,
-                called.as_str(),
-                reason_of(disk.failure(), conns.failure()),
-                rt.alloc(),
-            );
+            let text = text_of(rt.alloc(), is_asked, status, err.last_line(), &words);
+            let reason = match &text {
+                Some(text) => Some(Reason::Text(text.as_str())),
+                None if status == 4 => system_reason(disk.failure(), conns.failure()),
+                None => None,
+            };
+            add_reason(&mut err, is_asked, status, called, reason, rt.alloc());
             tell_undo_files(
                 &mut err,
-                is_terminal,
-                name_in(called.as_str()),
+                is_asked,
+                name_in(called),
                 disk.failure(),
                 disk.gates(),
                 rt.alloc(),
             );
             status
         }
-        Err(error) => stop(
-            &mut err,
-            words_cause(UsageKind::WrongOperands, error.kind()),
-            rt.alloc(),
-        ),
+        Err(error) => {
+            let cause = words_cause(UsageKind::WrongOperands, error.kind());
+            let status = stop(&mut err, cause, rt.alloc());
+            let reason = Reason::of_words(error.kind());
+            add_reason(
+                &mut err,
+                is_asked,
+                status,
+                "rquotad_tcp",
+                reason,
+                rt.alloc(),
+            );
+            status
+        }
     };
     ExitCode::from(status)
 }

@@ -3,8 +3,9 @@ ghost use Rattle.outside.specs.Count.{counted};
 
 use crate::open_connection::OpenConnection;
 use network::{ConnFault, Conns};
+use run_notes::Teller;
 use std::io;
-use std::io::ErrorKind;
+use std::io::{Eprint, ErrorKind};
 use std::net::{Ipv4Addr, Net, OpenListener, TcpListener};
 use std::time::Clock;
 use system_streams::{LinkFailure, moment};
@@ -28,9 +29,10 @@ pub struct TcpConns<'a, R: Net> {
     listener_faults: u64,
     connection_faults: u64,
     failure: Option<LinkFailure>,
+    teller: Teller<'a>,
 }
 
-impl<'a, R: Net + Clock> TcpConns<'a, R> {
+impl<'a, R: Net + Clock + Eprint> TcpConns<'a, R> {
     /// Connections that were not listened for yet.
     pub fn new(system: &'a R) -> Self
         ensures shut { ⟦<TcpConns<'a, R> as Conns>⟧.is_open result ≡ false }
@@ -44,12 +46,22 @@ impl<'a, R: Net + Clock> TcpConns<'a, R> {
             listener_faults: 0,
             connection_faults: 0,
             failure: None,
+            teller: Teller::nobody(),
         }
     }
 
     /// The last call that failed; none where none did.
     pub fn failure(&self) -> Option<LinkFailure> {
         self.failure
+    }
+
+    /// Says at which port connections are accepted, once they are.
+    pub fn tell_port(&mut self, teller: Teller<'a>)
+        ensures current { is_some self.new.current ≡ is_some self.old.current }
+        ensures listener_faults { self.new.listener_faults ≡ self.old.listener_faults }
+        ensures connection_faults { self.new.connection_faults ≡ self.old.connection_faults }
+    {
+        self.teller = teller;
     }
 
     /// The port that the socket is bound to; 0 before it listened.
@@ -144,7 +156,7 @@ fn is_passing(error: &io::Error) -> bool {
     kind == ErrorKind::Interrupted || kind == ErrorKind::ConnectionAborted
 }
 
-impl<'a, R: Net + Clock> Conns for TcpConns<'a, R> {
+impl<'a, R: Net + Clock + Eprint> Conns for TcpConns<'a, R> {
     ghost use Rattle.std.specs.Prelude.{None, []};
     ghost use Rattle.std.proofs.lemmas.Bool.{false≢true};
 
@@ -163,6 +175,9 @@ impl<'a, R: Net + Clock> Conns for TcpConns<'a, R> {
         }
         match self.bind(port) {
             Ok(bound) => {
+                let port = bound.port;
+                self.teller
+                    .tell_port(self.system, "serves rquota at TCP port", port);
                 self.bound = Some(bound);
                 Ok(())
             }

@@ -1,12 +1,15 @@
 ghost use Rattle.std.specs.Prelude.{◌≡◌, ◌≤◌, length, Ok, IfOk, OnErr};
 ghost use Rattle.outside.specs.Count.{Rose};
 
+use crate::last_read::LastRead;
 use crate::open_files::{FailedAt, OpenFiles};
 use crate::sharing::Sharing;
 use disk::{Disk, DiskFault};
+use run_notes::Teller;
 use std::alloc::{AllocError, Global};
 use std::fs::{File, Files};
 use std::io;
+use std::io::Eprint;
 use undo_trust::gates::Gate;
 use undo_trust::trust::Distrust;
 use undo_trust::undo::{UNDO, plain_name, shown_undo, undone_file};
@@ -57,6 +60,8 @@ fn failed_name<R: Files<File = File>>(
 /// group and the permissions of its file, and follows them when it is changed, as a file in `.new` has those of the one that
 /// it is to replace.
 ///
+/// What was made in `.new` or `.und` and not renamed stays until `clear_made` takes it away.
+///
 /// Another account may have made what stands under such a name. So it is looked at before it is opened and behind that, no
 /// link is followed, and what is made is made where nothing stands. An undo file counts where it is a regular file of one
 /// name, belongs to the owner of its file, to root or to the caller, and is writable for nobody who may not write its file.
@@ -71,9 +76,11 @@ pub struct FileDisk<'a, R> {
     open: OpenFiles<'a, R>,
     faults: u64,
     failure: Option<DiskFailure>,
+    /// What was read last, where that is kept.
+    last: Option<LastRead>,
 }
 
-impl<'a, R: Files<File = File>> FileDisk<'a, R> {
+impl<'a, R: Files<File = File> + Eprint> FileDisk<'a, R> {
     /// The files of the system, none of them open yet, and none to be locked that is there.
     pub fn new(alloc: Global, files: &'a R) -> Self
         ensures faults { result.faults ≡ 0 }
@@ -82,6 +89,7 @@ impl<'a, R: Files<File = File>> FileDisk<'a, R> {
             open: OpenFiles::new(alloc, files),
             faults: 0,
             failure: None,
+            last: None,
         }
     }
 
@@ -93,6 +101,49 @@ impl<'a, R: Files<File = File>> FileDisk<'a, R> {
     /// The gates of undo files that were open, with what came of them.
     pub fn gates(&self) -> &[Gate] {
         self.open.gates.as_slice()
+    }
+
+    /// Says where a lock is waited for.
+    pub fn tell(&mut self, teller: Teller<'a>)
+        ensures faults { self.new.faults ≡ self.old.faults }
+    {
+        self.open.teller = teller;
+    }
+
+    /// Keeps from now on what is read last of a file that has no undo file, from its beginning on.
+    pub fn keep(&mut self)
+        ensures faults { self.new.faults ≡ self.old.faults }
+    {
+        self.last = Some(LastRead::new(self.open.alloc));
+    }
+
+    /// The line of this number, counted from 1, of a file that was read last, where the line is kept.
+    pub fn line(&self, name: &str, number: u64) -> Option<&[u8]> {
+        self.last.as_ref()?.line(name, number)
+    }
+
+    /// Keeps what was read of a file at a place, where that is asked for.
+    fn note_read(&mut self, name: &str, at: u64, bytes: &[u8])
+        ensures faults { self.new.faults ≡ self.old.faults }
+    {
+        if let Some(last) = &mut self.last {
+            if plain_name(name) == name && !self.open.undone.names(name) {
+                last.push(name, at, bytes);
+            }
+        }
+    }
+
+    /// Takes away what was made in `.new` and `.und` and was not renamed, where its name still stands for what was made. It is
+    /// called at the end of a run, while the locks are still held.
+    pub fn clear_made(&mut self)
+        ensures faults { self.new.faults ≡ self.old.faults }
+    {
+        self.open.clear_made();
+    }
+
+    /// What a run that was stopped left beside a file, as it may be shown; none where nothing is known of that.
+    pub fn left_beside(&self, name: &str) -> Option<String> {
+        self.open.left_beside(name).unwrap_or(None)
     }
 
     /// Says that a file has an undo file. From the first one on only those have one of which it was said, and what stands
@@ -150,7 +201,7 @@ impl<'a, R: Files<File = File>> FileDisk<'a, R> {
     }
 }
 
-impl<'a, R: Files<File = File>> Disk for FileDisk<'a, R> {
+impl<'a, R: Files<File = File> + Eprint> Disk for FileDisk<'a, R> {
     ghost use Rattle.std.specs.Prelude.{false};
     ghost use Rattle.std.proofs.lemmas.Bool.{false≢true};
     ghost use Rattle.system_objects.specs.Untold.{untold};
@@ -172,6 +223,9 @@ impl<'a, R: Files<File = File>> Disk for FileDisk<'a, R> {
 
     fn read(&mut self, name: &str, at: u64, buf: &mut [u8]) -> Result<usize, DiskFault> {
         let count = self.open.read(name, at, buf);
+        if let Ok(count) = count {
+            self.note_read(name, at, &buf[..count]);
+        }
         self.counting(name, count)
     }
 

@@ -11,11 +11,11 @@ use file_names::stamp::{Node, Stamp};
 use file_windows::{Access, no_regular_file};
 use std::fs::{File, Files};
 use std::io;
-use std::io::ErrorKind;
+use std::io::{Eprint, ErrorKind};
 use undo_trust::beside::{Beside, open_beside};
 use undo_trust::undo::{is_to_recover, undo_path, undone_file};
 
-impl<'a, R: Files<File = File>> OpenFiles<'a, R> {
+impl<'a, R: Files<File = File> + Eprint> OpenFiles<'a, R> {
     /// Opens a file where none that is open serves, and answers whether one is open then. It stands apart, so that a use of
     /// an open one does not carry it along.
     #[inline(never)]
@@ -84,7 +84,7 @@ impl<'a, R: Files<File = File>> OpenFiles<'a, R> {
             return Ok(found);
         }
         let locked = if self.held.is_empty() {
-            lock_waiting(self.files, path, found, Lock::Exclusive)?
+            lock_waiting(self.files, self.teller, path, found, Lock::Exclusive)?
         } else {
             Some(lock_unchanged(self.files, path, None)?)
         };
@@ -176,10 +176,15 @@ impl<'a, R: Files<File = File>> OpenFiles<'a, R> {
         lock: Lock,
     ) -> io::Result<Option<LockedFile>> {
         match lock {
-            Lock::Shared => {
-                lock_to_read(self.alloc, self.files, path, found, &mut self.failed_at)
-            }
-            Lock::Exclusive => lock_waiting(self.files, path, found, lock),
+            Lock::Shared => lock_to_read(
+                self.alloc,
+                self.files,
+                self.teller,
+                path,
+                found,
+                &mut self.failed_at,
+            ),
+            Lock::Exclusive => lock_waiting(self.files, self.teller, path, found, lock),
         }
     }
 

@@ -6,6 +6,7 @@
 mod file_disk;
 mod finding;
 mod held;
+mod last_read;
 mod locks;
 mod open_files;
 mod sharing;

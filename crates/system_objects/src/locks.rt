@@ -3,10 +3,11 @@ use crate::sharing::Lock;
 use file_names::names::{changed_meanwhile, lock_at_once, open_file, stamp_at, stands_for};
 use file_names::stamp::{Node, Stamp};
 use file_windows::Access;
+use run_notes::Teller;
 use std::alloc::Global;
-use std::fs::{File, Files};
+use std::fs::{File, Files, TryLockError};
 use std::io;
-use std::io::ErrorKind;
+use std::io::{Eprint, ErrorKind};
 use undo_trust::undo::is_to_recover;
 
 /// A file that was locked.
@@ -65,19 +66,43 @@ fn open_to_lock<R: Files<File = File>>(files: &R, path: &str, lock: Lock) -> io:
     })
 }
 
-/// Waits until a file is locked.
-fn wait_for(file: &File, lock: Lock) -> io::Result<()> {
+/// Waits until the file of a name is locked, and says so where somebody is told.
+fn wait_for<R: Eprint>(
+    err: &R,
+    teller: Teller<'_>,
+    path: &str,
+    file: &File,
+    lock: Lock,
+) -> io::Result<()> {
+    if teller.is_asked() {
+        match try_lock(file, lock) {
+            Ok(()) => return Ok(()),
+            Err(TryLockError::Error(error)) => return Err(error),
+            Err(TryLockError::WouldBlock) => {
+                teller.tell_of(err, path, "waits for another program that has locked it");
+            }
+        }
+    }
     match lock {
         Lock::Shared => file.lock_shared(),
         Lock::Exclusive => file.lock(),
     }
 }
 
+/// Locks a file, unless another program has locked it.
+fn try_lock(file: &File, lock: Lock) -> Result<(), TryLockError> {
+    match lock {
+        Lock::Shared => file.try_lock_shared(),
+        Lock::Exclusive => file.try_lock(),
+    }
+}
+
 /// Opens the file of a name and locks it, once those who have it let it go; none where there is no file. What the name stands
 /// for by then may be another file, which is opened in its place. A turn ends so only where the name changed since the turn
 /// before, so the bound on the turns is never met.
-pub(crate) fn lock_waiting<R: Files<File = File>>(
+pub(crate) fn lock_waiting<R: Files<File = File> + Eprint>(
     files: &R,
+    teller: Teller<'_>,
     path: &str,
     found: Option<Stamp>,
     lock: Lock,
@@ -95,7 +120,7 @@ pub(crate) fn lock_waiting<R: Files<File = File>>(
             }
             Err(error) => return Err(error),
         };
-        wait_for(&opened.file, lock)?;
+        wait_for(files, teller, path, &opened.file, lock)?;
         let node = Node::of(&opened.file.metadata()?);
         found = stamp_at(files, path)?;
         if found.is_some_and(|stamp| stamp.node() == node) {
@@ -108,9 +133,10 @@ pub(crate) fn lock_waiting<R: Files<File = File>>(
 /// Opens the file of a name and locks it beside others, or alone where it has to be recovered; none where there is no file.
 /// Whether it has to be is looked at again behind the lock. A turn ends otherwise only where that changed since the turn
 /// before, so the bound on the turns is never met.
-pub(crate) fn lock_to_read<R: Files<File = File>>(
+pub(crate) fn lock_to_read<R: Files<File = File> + Eprint>(
     alloc: Global,
     files: &R,
+    teller: Teller<'_>,
     path: &str,
     found: Option<Stamp>,
     failed_at: &mut FailedAt,
@@ -118,7 +144,7 @@ pub(crate) fn lock_to_read<R: Files<File = File>>(
     let mut found = found;
     let mut lock = lock_due(alloc, files, path, failed_at)?;
     for _ in 0..u64::MAX {
-        let Some(locked) = lock_waiting(files, path, found, lock)? else {
+        let Some(locked) = lock_waiting(files, teller, path, found, lock)? else {
             return Ok(None);
         };
         let due = lock_due(alloc, files, path, failed_at)?;

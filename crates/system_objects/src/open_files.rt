@@ -4,21 +4,24 @@ use crate::held::HeldFiles;
 use crate::locks::lock_made;
 use crate::sharing::{Lock, Sharing};
 use file_names::looks::FirstLooks;
-use file_names::names::{NEW, itself_at, make_anew, metadata_at, rename_present, sync_folder};
+use file_names::names::{
+    NEW, is_itself, itself_at, lock_at_once, make_anew, metadata_at, rename_present, sync_folder,
+};
 use file_names::new_names::NewNames;
 use file_names::slots::{Slot, Slots};
 use file_names::stamp::{Node, Stamp};
 use file_names::synced::SyncedFiles;
 use file_windows::{Access, Opened, Waiting, WholeFiles};
+use run_notes::Teller;
 use std::alloc::{AllocError, Global};
 use std::fs::{File, Files, Metadata};
-use std::io;
-use std::io::ErrorKind;
-use undo_trust::beside::refuse_locked;
+use std::io::{Eprint, ErrorKind};
+use std::{fs, io};
+use undo_trust::beside::{Beside, open_beside, refuse_locked};
 use undo_trust::gates::Gates;
 use undo_trust::owner::give_owner;
 use undo_trust::trust::Distrust;
-use undo_trust::undo::{is_to_recover, undone_file};
+use undo_trust::undo::{UND, is_to_recover, plain_name, shown_undo, undo_path, undone_file};
 use undo_trust::undone::Undone;
 
 /// A file that was made, by the name that it was made under, and where that is. They differ behind a link.
@@ -79,14 +82,16 @@ pub(crate) struct OpenFiles<'a, R> {
     /// The gates of undo files that were open.
     pub gates: Gates,
     /// The undo file that was made, and does not have its name yet.
-    pub made_undo: Option<Node>,
+    pub made_undo: Option<Made>,
+    /// Who is told that a lock is waited for.
+    pub teller: Teller<'a>,
     /// At which file the call at hand failed, where it did.
     pub failed_at: FailedAt,
     /// Why the call at hand did not believe an undo file, where it did not.
     pub distrust: Option<Distrust>,
 }
 
-impl<'a, R: Files<File = File>> OpenFiles<'a, R> {
+impl<'a, R: Files<File = File> + Eprint> OpenFiles<'a, R> {
     /// The files of the system, none of them open yet.
     pub fn new(alloc: Global, files: &'a R) -> Self {
         OpenFiles {
@@ -104,6 +109,7 @@ impl<'a, R: Files<File = File>> OpenFiles<'a, R> {
             undone: Undone::each(alloc),
             gates: Gates::new(alloc),
             made_undo: None,
+            teller: Teller::nobody(),
             failed_at: FailedAt::Name,
             distrust: None,
         }
@@ -262,16 +268,56 @@ impl<'a, R: Files<File = File>> OpenFiles<'a, R> {
         let replaced = self.before_replaced(name, path.as_str())?;
         self.new_names.note(path.as_str())?;
         let file = make_anew(self.files, path.as_str())?;
+        let node = Node::of(&file.metadata()?);
+        self.made = Some(Made {
+            name: String::from_str(self.alloc, name)?,
+            path,
+            node,
+        });
         if let Some(replaced) = &replaced {
             give_owner(&file, replaced);
         }
-        let node = self.held.add(lock_made(file, Access::Making)?)?;
+        self.held.add(lock_made(file, Access::Making)?)?;
         if let Some((file, access)) = self.held.again(node, Access::Reading)? {
             self.put(name, file, access, node, false)?;
         }
-        let name = String::from_str(self.alloc, name)?;
-        self.made = Some(Made { name, path, node });
         Ok(())
+    }
+
+    /// Takes away what was made to replace a file, or to be its undo file, and was not renamed, where its name still stands for
+    /// it: it is of no use to anybody. What was made is locked, and so is the file of an undo file.
+    pub fn clear_made(&mut self) {
+        if let Some(made) = self.made.take() {
+            if made.path.as_str().ends_with(NEW) {
+                self.clear(&made);
+            }
+        }
+        if let Some(made) = self.made_undo.take() {
+            if made.path.as_str().ends_with(UND) {
+                self.clear(&made);
+            }
+        }
+    }
+
+    /// Takes away the name of a file that was made, where it still stands for that. Where it can't be taken away it stays.
+    fn clear(&self, made: &Made) {
+        if let Ok(true) = is_itself(self.files, made.path.as_str(), made.node) {
+            let _ = fs::remove_file(self.files, made.path.as_str());
+        }
+    }
+
+    /// What a run that was stopped left beside a file, as it may be shown: what was to replace it, or a new undo file. None where
+    /// there is none, or another program has it in use.
+    pub fn left_beside(&self, name: &str) -> io::Result<Option<String>> {
+        let file = plain_name(name);
+        for ending in [NEW, UND] {
+            let path = undo_path(self.alloc, self.files, file, ending)?;
+            if let Beside::Opened(left) = open_beside(self.files, path.as_str(), Access::Reading)? {
+                lock_at_once(&left.file)?;
+                return Ok(Some(shown_undo(self.alloc, self.files, file, ending)?));
+            }
+        }
+        Ok(None)
     }
 
     /// Refuses a name for a new file under which stands one that another program has locked.

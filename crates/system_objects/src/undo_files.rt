@@ -1,13 +1,13 @@
 //! How an undo file is found, judged, made and stamped.
 
-use crate::open_files::{FailedAt, OpenFiles, Shared};
+use crate::open_files::{FailedAt, Made, OpenFiles, Shared};
 use crate::sharing::Lock;
 use file_names::names::{changed_meanwhile, is_itself, make_anew, metadata_at, stamp_at};
 use file_names::stamp::Node;
 use file_windows::Access;
 use std::fs::{File, Files, Metadata};
 use std::io;
-use std::io::ErrorKind;
+use std::io::{Eprint, ErrorKind};
 use undo_trust::beside::{Beside, OpenBeside, open_beside};
 use undo_trust::owner::give_owner;
 use undo_trust::trust::{Distrust, change_of, distrust_of, serves};
@@ -36,7 +36,7 @@ fn is_for_reading_alone(error: io::Error) -> bool {
     )
 }
 
-impl<'a, R: Files<File = File>> OpenFiles<'a, R> {
+impl<'a, R: Files<File = File> + Eprint> OpenFiles<'a, R> {
     /// An undo file, which is opened; none where it is not there, or counts for nothing since its gate is closed and it is not
     /// ours, or can't be used. It is never locked: whoever may change it holds its file.
     pub fn find_undo(
@@ -211,12 +211,16 @@ impl<'a, R: Files<File = File>> OpenFiles<'a, R> {
         self.stand_beside(path.as_str(), of.as_ref())?;
         self.new_names.note(path.as_str())?;
         let made = make_anew(self.files, path.as_str())?;
+        let node = Node::of(&made.metadata()?);
+        self.made_undo = Some(Made {
+            name: String::from_str(self.alloc, name)?,
+            path,
+            node,
+        });
         if let Some(of) = &of {
             give_owner(&made, of);
         }
-        let node = Node::of(&made.metadata()?);
         self.gates.note_made(file, node)?;
-        self.made_undo = Some(node);
         self.put(name, made, Access::Making, node, false)
     }
 
@@ -224,8 +228,8 @@ impl<'a, R: Files<File = File>> OpenFiles<'a, R> {
     /// meanwhile is an error.
     pub fn rename_undo(&mut self, source: &str, to: &str, file: &str) -> io::Result<()> {
         self.before_undo(file)?;
-        if let Some(node) = self.made_undo.take() {
-            if !is_itself(self.files, source, node)? {
+        if let Some(made) = &self.made_undo {
+            if !is_itself(self.files, source, made.node)? {
                 return Err(changed_meanwhile());
             }
         }
@@ -233,6 +237,7 @@ impl<'a, R: Files<File = File>> OpenFiles<'a, R> {
         let of = self.metadata_of(file)?;
         self.stand_beside(target.as_str(), of.as_ref())?;
         self.rename_as(source, target.as_str())?;
+        self.made_undo = None;
         self.gates.note_closed(file);
         Ok(())
     }

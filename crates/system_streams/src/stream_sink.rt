@@ -1,6 +1,7 @@
 ghost use Rattle.std.specs.Prelude.{◌≡◌};
 
 use outside::{Sink, SinkFault};
+use run_notes::LastText;
 use std::io;
 use std::io::Write;
 
@@ -10,6 +11,8 @@ pub struct StreamSink<W> {
     stream: W,
     faults: u64,
     failure: Option<io::Error>,
+    /// What was written last, where that is kept.
+    last: Option<LastText>,
 }
 
 impl<W> StreamSink<W> {
@@ -21,12 +24,35 @@ impl<W> StreamSink<W> {
             stream,
             faults: 0,
             failure: None,
+            last: None,
         }
     }
 
     /// Why the last call that failed did; none where none did.
     pub fn failure(&self) -> Option<io::Error> {
         self.failure
+    }
+
+    /// Keeps from now on what is written last.
+    pub fn keep(&mut self)
+        ensures { self.new.faults ≡ self.old.faults }
+    {
+        self.last = Some(LastText::new());
+    }
+
+    /// The last line that was written, where it is kept.
+    pub fn last_line(&self) -> Option<&[u8]> {
+        let last = self.last.as_ref()?;
+        Some(last.last_line())
+    }
+
+    /// Keeps what was written, where that is asked for.
+    fn note(&mut self, bytes: &[u8])
+        ensures { self.new.faults ≡ self.old.faults }
+    {
+        if let Some(last) = &mut self.last {
+            last.push(bytes);
+        }
     }
 }
 
@@ -44,6 +70,7 @@ impl<W: Write> Sink for StreamSink<W> {
             self.failure = Some(error);
             return Err(SinkFault);
         }
+        self.note(bytes);
         Ok(())
     }
 }

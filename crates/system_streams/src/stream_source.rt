@@ -1,26 +1,35 @@
 ghost use Rattle.std.specs.Prelude.{◌≡◌};
 
 use outside::{Source, SourceFault};
+use run_notes::{LastText, Teller};
 use std::io;
-use std::io::{ErrorKind, Read};
+use std::io::{Eprint, ErrorKind, Read};
 
 /// A stream of the system as a source, such as standard input. It tells nothing of what is left in it.
 #[derive(Drop)]
-pub struct StreamSource<R> {
+pub struct StreamSource<'a, R, E> {
     stream: R,
+    err: &'a E,
     faults: u64,
     failure: Option<io::Error>,
+    /// What was read last, where that is kept.
+    last: Option<LastText>,
+    /// Who is told that the stream is waited for, and what of it, until that was told.
+    waiting: Option<(Teller<'a>, &'static str)>,
 }
 
-impl<R> StreamSource<R> {
-    /// The stream, which has not failed yet.
-    pub fn new(stream: R) -> Self
+impl<'a, R, E: Eprint> StreamSource<'a, R, E> {
+    /// The stream, which has not failed yet, and where it is told that the stream is waited for.
+    pub fn new(stream: R, err: &'a E) -> Self
         ensures { result.faults ≡ 0 }
     {
         StreamSource {
             stream,
+            err,
             faults: 0,
             failure: None,
+            last: None,
+            waiting: None,
         }
     }
 
@@ -28,9 +37,46 @@ impl<R> StreamSource<R> {
     pub fn failure(&self) -> Option<io::Error> {
         self.failure
     }
+
+    /// Keeps from now on what is read last.
+    pub fn keep(&mut self)
+        ensures { self.new.faults ≡ self.old.faults }
+    {
+        self.last = Some(LastText::new());
+    }
+
+    /// The line of this number, counted from 1, where it was read and is kept.
+    pub fn line(&self, number: u64) -> Option<&[u8]> {
+        self.last.as_ref()?.line(number)
+    }
+
+    /// Says with the first read what is waited for.
+    pub fn tell_wait(&mut self, teller: Teller<'a>, what: &'static str)
+        ensures { self.new.faults ≡ self.old.faults }
+    {
+        self.waiting = Some((teller, what));
+    }
+
+    /// Says what is waited for, unless that was said.
+    fn tell(&mut self)
+        ensures { self.new.faults ≡ self.old.faults }
+    {
+        if let Some((teller, what)) = self.waiting.take() {
+            teller.tell(self.err, what);
+        }
+    }
+
+    /// Keeps what was read, where that is asked for.
+    fn note(&mut self, bytes: &[u8])
+        ensures { self.new.faults ≡ self.old.faults }
+    {
+        if let Some(last) = &mut self.last {
+            last.push(bytes);
+        }
+    }
 }
 
-impl<R: Read> Source for StreamSource<R> {
+impl<'a, R: Read, E: Eprint> Source for StreamSource<'a, R, E> {
     ghost use Rattle.std.specs.Prelude.{false, [], ⊤};
     ghost use Rattle.std.proofs.lemmas.Bool.{false≢true};
 
@@ -51,9 +97,13 @@ impl<R: Read> Source for StreamSource<R> {
     /// Reads what the stream gives at once, and again where a signal interrupts. Each turn but the last one is such an
     /// interruption, so the bound on the turns is never met.
     fn read(&mut self, buf: &mut [u8]) -> Result<usize, SourceFault> {
+        self.tell();
         for _ in 0..u64::MAX {
             match self.stream.read(buf) {
-                Ok(count) => return Ok(count),
+                Ok(count) => {
+                    self.note(&buf[..count]);
+                    return Ok(count);
+                }
                 Err(error) if error.kind() == ErrorKind::Interrupted => {}
                 Err(error) => {
                     self.failure = Some(error);

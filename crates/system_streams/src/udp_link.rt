@@ -3,8 +3,9 @@ ghost use Rattle.outside.specs.Count.{Rose};
 
 use crate::moment;
 use outside::{Got, Link, LinkFault};
+use run_notes::Teller;
 use std::io;
-use std::io::ErrorKind;
+use std::io::{Eprint, ErrorKind};
 use std::net::{Ipv4Addr, Net, SocketAddr, UdpSocket};
 use std::time::Clock;
 
@@ -32,9 +33,10 @@ pub struct UdpLink<'a, R> {
     bound: Option<Bound>,
     faults: u64,
     failure: Option<LinkFailure>,
+    teller: Teller<'a>,
 }
 
-impl<'a, R: Net + Clock> UdpLink<'a, R> {
+impl<'a, R: Net + Clock + Eprint> UdpLink<'a, R> {
     /// A link that was not started yet.
     pub fn new(system: &'a R) -> Self
         ensures { result.faults ≡ 0 }
@@ -44,12 +46,20 @@ impl<'a, R: Net + Clock> UdpLink<'a, R> {
             bound: None,
             faults: 0,
             failure: None,
+            teller: Teller::nobody(),
         }
     }
 
     /// The last call that failed; none where none did.
     pub fn failure(&self) -> Option<LinkFailure> {
         self.failure
+    }
+
+    /// Says to which port the socket is bound, once it is.
+    pub fn tell_port(&mut self, teller: Teller<'a>)
+        ensures { self.new.faults ≡ self.old.faults }
+    {
+        self.teller = teller;
     }
 
     /// The port that the socket is bound to; 0 before the link was started.
@@ -75,6 +85,8 @@ impl<'a, R: Net + Clock> UdpLink<'a, R> {
             port,
             sender: None,
         });
+        self.teller
+            .tell_port(self.system, "serves rquota at UDP port", port);
         Ok(())
     }
 
@@ -123,7 +135,7 @@ impl<'a, R: Net + Clock> UdpLink<'a, R> {
     }
 }
 
-impl<'a, R: Net + Clock> Link for UdpLink<'a, R> {
+impl<'a, R: Net + Clock + Eprint> Link for UdpLink<'a, R> {
     ghost use Rattle.std.specs.Prelude.{None, false, []};
 
     ghost tells = { false };

@@ -114,7 +114,7 @@ fn fill(bytes: &mut Vec<u8>, at: usize, len: usize, value: u8) -> io::Result<()>
 }
 
 /// Whether a step goes as it should where the file has these bytes, which are changed along with it.
-fn goes<R: Files<File = File>>(
+fn goes<R: Files<File = File> + Eprint>(
     files: &R,
     disk: &mut FileDisk<'_, R>,
     bytes: &mut Vec<u8>,
@@ -135,7 +135,7 @@ fn goes<R: Files<File = File>>(
 }
 
 /// The first step that does not go as it should.
-fn first_wrong<R: Files<File = File>>(
+fn first_wrong<R: Files<File = File> + Eprint>(
     alloc: Global,
     files: &R,
     steps: &[Step],
@@ -152,7 +152,7 @@ fn first_wrong<R: Files<File = File>>(
     Ok(None)
 }
 
-fn expect_steps<R: Files<File = File> + Abort>(alloc: Global, rt: &R, steps: &[Step]) {
+fn expect_steps<R: Files<File = File> + Eprint + Abort>(alloc: Global, rt: &R, steps: &[Step]) {
     let found = first_wrong(alloc, rt, steps);
     assert!(rt; matches!(found, Ok(None)), "{found:?}");
 }

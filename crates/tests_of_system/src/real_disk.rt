@@ -152,7 +152,7 @@ fn holds<D: Disk>(disk: &mut D, name: &str, wanted: Found) -> bool {
 }
 
 /// Whether a step goes as it should.
-fn goes<R: Files<File = File>>(
+fn goes<R: Files<File = File> + Eprint>(
     alloc: Global,
     files: &R,
     disk: &mut FileDisk<'_, R>,
@@ -171,7 +171,7 @@ fn goes<R: Files<File = File>>(
 }
 
 /// The first step that does not go as it should. Three files are in the folder behind the last one, and no others.
-fn first_wrong<R: Files<File = File>>(
+fn first_wrong<R: Files<File = File> + Eprint>(
     alloc: Global,
     files: &R,
     steps: &[Step],
@@ -190,7 +190,7 @@ fn first_wrong<R: Files<File = File>>(
     Ok(None)
 }
 
-fn expect_steps<R: Files<File = File> + Abort>(alloc: Global, rt: &R, steps: &[Step]) {
+fn expect_steps<R: Files<File = File> + Eprint + Abort>(alloc: Global, rt: &R, steps: &[Step]) {
     let found = first_wrong(alloc, rt, steps);
     assert!(rt; matches!(found, Ok(None)), "{found:?}");
 }

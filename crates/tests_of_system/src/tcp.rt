@@ -18,7 +18,7 @@ const EXCHANGES: &[(&[u8], &[u8])] = &[
 ];
 
 /// Whether connections that were not listened for have no port, and none of them is opened.
-fn is_idle<'a, R: Net + Clock>(conns: &mut TcpConns<'a, R>) -> bool
+fn is_idle<'a, R: Net + Clock + Eprint>(conns: &mut TcpConns<'a, R>) -> bool
     requires { ⟦<TcpConns<'a, R> as Conns>⟧.is_open conns.old ≡ false }
     ensures { ⟦<TcpConns<'a, R> as Conns>⟧.is_open conns.new ≡ false }
 {
@@ -53,7 +53,7 @@ fn gets<S: Read>(client: &mut S, reply: &[u8]) -> io::Result<bool> {
 }
 
 /// Whether a client's call is taken and answered, at a moment from the time before it on and not after the present one.
-fn goes<'a, R: Net + Clock>(
+fn goes<'a, R: Net + Clock + Eprint>(
     rt: &R,
     conns: &mut TcpConns<'a, R>,
     exchange: &(&[u8], &[u8]),
@@ -71,7 +71,7 @@ fn goes<'a, R: Net + Clock>(
 }
 
 /// Whether connections that are listened for are served, one after another.
-fn all_go<R: Net + Clock>(rt: &R, exchanges: &[(&[u8], &[u8])]) -> io::Result<bool> {
+fn all_go<R: Net + Clock + Eprint>(rt: &R, exchanges: &[(&[u8], &[u8])]) -> io::Result<bool> {
     let mut conns = TcpConns::new(rt);
     if !is_idle(&mut conns) {
         return Ok(false);
@@ -87,7 +87,7 @@ fn all_go<R: Net + Clock>(rt: &R, exchanges: &[(&[u8], &[u8])]) -> io::Result<bo
     Ok(true)
 }
 
-fn expect_exchanges<R: Net + Clock + Abort>(rt: &R, exchanges: &[(&[u8], &[u8])]) {
+fn expect_exchanges<R: Net + Clock + Eprint + Abort>(rt: &R, exchanges: &[(&[u8], &[u8])]) {
     let found = all_go(rt, exchanges);
     assert!(rt; matches!(found, Ok(true)), "{found:?}");
 }

@@ -23,7 +23,7 @@ const EXCHANGES: &[Exchange] = &[
 ];
 
 /// Whether a link that was not started has no port, gives nothing and answers nothing.
-fn is_idle<R: Net + Clock>(link: &mut UdpLink<'_, R>) -> bool {
+fn is_idle<R: Net + Clock + Eprint>(link: &mut UdpLink<'_, R>) -> bool {
     let mut buf = [0; 4096];
     link.port() == 0
         && link.next(&mut buf) == Err(LinkFault)
@@ -31,7 +31,7 @@ fn is_idle<R: Net + Clock>(link: &mut UdpLink<'_, R>) -> bool {
 }
 
 /// Whether a link starts, and answers nothing before a datagram came.
-fn is_started<R: Net + Clock>(link: &mut UdpLink<'_, R>) -> bool {
+fn is_started<R: Net + Clock + Eprint>(link: &mut UdpLink<'_, R>) -> bool {
     link.start(0) == Ok(()) && link.port() != 0 && link.answer(b"early") == Err(LinkFault)
 }
 
@@ -43,7 +43,7 @@ fn asker<R: Net>(rt: &R) -> io::Result<UdpSocket> {
 }
 
 /// Whether a link gives these bytes, at a moment from this one on and not after the present one.
-fn gives<R: Net + Clock>(
+fn gives<R: Net + Clock + Eprint>(
     rt: &R,
     link: &mut UdpLink<'_, R>,
     taken: &[u8],
@@ -65,7 +65,7 @@ fn gets(asker: &UdpSocket, reply: &[u8], port: u16) -> io::Result<bool> {
 }
 
 /// Whether a datagram is taken and answered.
-fn goes<R: Net + Clock>(
+fn goes<R: Net + Clock + Eprint>(
     rt: &R,
     link: &mut UdpLink<'_, R>,
     asker: &UdpSocket,
@@ -78,7 +78,7 @@ fn goes<R: Net + Clock>(
 }
 
 /// Whether a link that starts takes datagrams and answers them, one after another.
-fn all_go<R: Net + Clock>(rt: &R, exchanges: &[Exchange]) -> io::Result<bool> {
+fn all_go<R: Net + Clock + Eprint>(rt: &R, exchanges: &[Exchange]) -> io::Result<bool> {
     let mut link = UdpLink::new(rt);
     let asker = asker(rt)?;
     if !is_idle(&mut link) || !is_started(&mut link) {
@@ -92,7 +92,7 @@ fn all_go<R: Net + Clock>(rt: &R, exchanges: &[Exchange]) -> io::Result<bool> {
     Ok(true)
 }
 
-fn expect_exchanges<R: Net + Clock + Abort>(rt: &R, exchanges: &[Exchange]) {
+fn expect_exchanges<R: Net + Clock + Eprint + Abort>(rt: &R, exchanges: &[Exchange]) {
     let found = all_go(rt, exchanges);
     assert!(rt; matches!(found, Ok(true)), "{found:?}");
 }

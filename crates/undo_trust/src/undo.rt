@@ -11,7 +11,7 @@ use std::os::unix::fs::FileExt;
 pub const UNDO: &str = ".undo";
 
 /// What stands there in the name that a new undo file has first.
-const UND: &str = ".und";
+pub const UND: &str = ".und";
 
 /// What byte 0 of an undo file is where its gate is open.
 pub const OPEN: u8 = 1;

@@ -1,0 +1,53 @@
+use std::alloc::{AllocError, Global};
+
+/// How many bytes of a word or a line are shown at most.
+const MOST: usize = 200;
+
+/// The text of a reason while it is put together. Its bytes are not escaped yet.
+#[derive(Drop)]
+pub(crate) struct Text {
+    bytes: Vec<u8>,
+}
+
+impl Text {
+    /// No text.
+    pub fn new(alloc: Global) -> Self {
+        Text {
+            bytes: Vec::new(alloc),
+        }
+    }
+
+    /// All its bytes.
+    pub fn as_bytes(&self) -> &[u8] {
+        self.bytes.as_slice()
+    }
+
+    /// Puts a piece behind it.
+    pub fn put(&mut self, piece: &str) -> Result<(), AllocError> {
+        self.bytes.extend_from_slice(piece.as_bytes())
+    }
+
+    /// Puts pieces behind it, one after another.
+    pub fn put_all(&mut self, pieces: &[&str]) -> Result<(), AllocError> {
+        for piece in pieces {
+            self.put(piece)?;
+        }
+        Ok(())
+    }
+
+    /// Puts a word or a line behind it, of a long one the front.
+    pub fn put_shown(&mut self, shown: &[u8]) -> Result<(), AllocError> {
+        if shown.len() > MOST {
+            self.bytes.extend_from_slice(&shown[..MOST])?;
+            return self.put("...");
+        }
+        self.bytes.extend_from_slice(shown)
+    }
+
+    /// Puts a word behind it, and what is said of that.
+    pub fn put_of(&mut self, word: &str, said: &str) -> Result<(), AllocError> {
+        self.put_shown(word.as_bytes())?;
+        self.put(": ")?;
+        self.put(said)
+    }
+}

@@ -1,0 +1,111 @@
+use command_reasons::{Lines, reason_of};
+use program_start::{Failed, Reason};
+use std::alloc::Global;
+use std::fs::{File, Files};
+use std::io;
+use std::io::Eprint;
+use system_objects::{DiskFailure, FileDisk};
+use system_streams::{LinkFailure, StreamSource};
+
+/// The last calls that failed of the objects outside. A run ends with the first one, so there is one at most.
+#[derive(Clone, Copy)]
+pub struct Failures<'a> {
+    /// Of the input.
+    pub input: Option<io::Error>,
+    /// Of the output.
+    pub output: Option<io::Error>,
+    /// Of the link.
+    pub link: Option<LinkFailure>,
+    /// Of the disk.
+    pub disk: Option<&'a DiskFailure>,
+    /// What an earlier run left beside the file of the disk's failure, where it did.
+    pub left: Option<&'a str>,
+}
+
+impl<'a> Failures<'a> {
+    /// That of the output, where nothing else was used.
+    pub fn of_output(output: Option<io::Error>) -> Self {
+        Failures {
+            input: None,
+            output,
+            link: None,
+            disk: None,
+            left: None,
+        }
+    }
+
+    /// What the system refused, and why; none where that is not known, or where it refused nothing, but an undo file is not
+    /// believed.
+    pub fn first(&self) -> Option<Reason<'a>> {
+        if let Some(error) = self.input {
+            return refused(Failed::Input, error, None);
+        }
+        if let Some(error) = self.output {
+            return refused(Failed::Output, error, None);
+        }
+        if let Some(failure) = self.link {
+            return refused(Failed::UdpPort(failure.port), failure.error, None);
+        }
+        match self.disk {
+            Some(failure) if failure.distrust.is_none() => {
+                refused(
+                    Failed::File(failure.name.as_str()),
+                    failure.error,
+                    self.left,
+                )
+            }
+            _ => None,
+        }
+    }
+}
+
+/// What the system refused, and why.
+fn refused<'a>(of: Failed<'a>, error: io::Error, left: Option<&'a str>) -> Option<Reason<'a>> {
+    Some(Reason::Refused { of, error, left })
+}
+
+/// The lines that a run has read.
+#[derive(Drop)]
+pub struct ReadLines<'a, 'b, I, R> {
+    /// Of the standard input.
+    pub input: &'a StreamSource<'b, I, R>,
+    /// Of files.
+    pub disk: &'a FileDisk<'b, R>,
+}
+
+impl<'a, 'b, I, R: Files<File = File> + Eprint> Lines for ReadLines<'a, 'b, I, R> {
+    fn of_input(&self, number: u64) -> Option<&[u8]> {
+        self.input.line(number)
+    }
+
+    fn of_file(&self, name: &str, number: u64) -> Option<&[u8]> {
+        self.disk.line(name, number)
+    }
+}
+
+/// The text of the reason of a status behind this error line; none where it is not asked for, where the system refused
+/// something, where no more is known than the error line has, or where there is no memory for it.
+pub fn text_of<L: Lines>(
+    alloc: Global,
+    is_asked: bool,
+    status: u8,
+    error_line: Option<&[u8]>,
+    words: &[String],
+    lines: &L,
+) -> Option<String> {
+    if !is_asked || status == 0 || status == 4 {
+        return None;
+    }
+    reason_of(alloc, error_line?, words, lines).unwrap_or(None)
+}
+
+/// What an earlier run left beside the file at which the disk failed, where that is asked for and it did.
+pub fn left_of<R: Files<File = File> + Eprint>(
+    is_asked: bool,
+    disk: &FileDisk<'_, R>,
+) -> Option<String> {
+    if !is_asked {
+        return None;
+    }
+    disk.left_beside(disk.failure()?.name.as_str())
+}
