@@ -21,6 +21,14 @@ expect 'port 65,536' 2 '' 'quota: usage: BadValue at word 1' quota 65536 1 1 /ho
 expect 'a uid of 2^32' 2 '' 'quota: usage: BadValue at word 2' quota 875 4294967296 1 /home
 expect 'a path with a blank' 2 '' 'quota: usage: BadValue at word 5' quota 875 1 1 /home '/a b'
 expect 'a word that is no UTF-8' 2 '' 'quota: usage: WrongOperands at word 0' quota 875 1 1 $'\377'
+runner=(env QUOTA_CLI_REASONS=always "$client")
+expect 'the reason of another mode' 2 '' 'quota: usage: BadValue at word 0
+quota_client: report: MODE is quota or warn; MODE PORT UID GID, and 1 to 16 paths, are wanted; quota_client --help' report 875 1 1 /home
+expect 'the reason of no words' 2 '' 'quota: usage: WrongOperands at word 0
+quota_client: MODE PORT UID GID, and 1 to 16 paths, are wanted; quota_client --help'
+expect 'the reason of a word that is no UTF-8' 2 '' 'quota: usage: WrongOperands at word 0
+quota_client: a word is not UTF-8' quota 875 1 1 $'\377'
+runner=("$client")
 
 # Streams.
 got=0

@@ -21,6 +21,13 @@ expect 'no connections' 2 '' 'quota: usage: BadValue at word 1' 0 0 any /home us
 expect 'a path twice' 2 '' 'quota: usage: Repeated at word 6' 0 1 any /home user q /home user q
 expect 'a word that is no UTF-8' 2 '' 'quota: usage: WrongOperands at word 0' 0 1 any /home user $'\377'
 expect 'no such file' 1 '' 'quota: none: no such file' 0 1 any /home user none
+runner=(env QUOTA_CLI_REASONS=always "$server")
+expect 'the reason of port 65,536' 2 '' 'quota: usage: BadValue at word 0
+rquotad_tcp: 65536: PORT is a number from 0 to 65535; PORT CONNECTIONS FORMAT, and 1 to 16 times PATH KIND FILE, are wanted; rquotad_tcp --help' \
+    65536 1 any /home user q
+expect 'the reason of no such file' 1 '' 'quota: none: no such file
+rquotad_tcp: none: look at the name; quota_cli quotacheck -c makes a new quota file of a listing' 0 1 any /home user none
+runner=("$server")
 
 # Streams.
 got=0
