@@ -1,5 +1,6 @@
 -- An error line as its parts are written one behind another. Source: this project's own.
 use Rattle.std.specs.Prelude.{ℕ, List, [], ◌++◌, Option, Some, None, codes}
+use Rattle.std.specs.Option.{option_map}
 use Rattle.refusals.specs.Line.{usage_name}
 use Rattle.error_lines.specs.declared.reading.ErrorLine.{ErrorLine}
 use Rattle.error_lines.specs.declared.reading.Said.{Said}
@@ -25,4 +26,4 @@ said_text (Other text) = text.now
 
 -- the line of these parts, without its newline
 abbrev pub line_of : ErrorLine → List ℕ
-line_of read = codes "quota: " ++ (numbered_text (codes "line ") read.line ++ (numbered_text (codes "input line ") read.input_line ++ said_text read.said))
+line_of read = codes "quota: " ++ (numbered_text (codes "line ") (option_map (λ number. number.now) read.line) ++ (numbered_text (codes "input line ") (option_map (λ number. number.now) read.input_line) ++ said_text read.said))

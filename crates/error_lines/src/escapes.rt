@@ -1,11 +1,8 @@
-ghost use Rattle.std.specs.Prelude.{◌≡◌, IfOk, IsTrue, OnOk, string_bytes};
+ghost use Rattle.std.specs.Prelude.{◌<◌, IfOk, IsTrue, OnOk, string_bytes};
 ghost use Rattle.std.specs.List.{list_all};
 ghost use Rattle.error_lines.specs.Shown.{is_printed};
 
 use std::alloc::{AllocError, Global};
-
-/// The digits of a byte in hexadecimal.
-const DIGITS: &[u8; 16] = b"0123456789abcdef";
 
 /// A text as it may be shown on a terminal: control bytes, those outside of ASCII and the backslash are escaped, and behind so
 /// many bytes of the text stand three dots where it has more.
@@ -39,8 +36,21 @@ fn push_shown(shown: &mut String, byte: u8) -> Result<(), AllocError>
         32..=126 => shown.push(char::from(byte)),
         _ => {
             shown.push_str("\\x")?;
-            shown.push(char::from(DIGITS[usize::from(byte / 16)]))?;
-            shown.push(char::from(DIGITS[usize::from(byte % 16)]))
+            push_digit(shown, byte / 16)?;
+            push_digit(shown, byte % 16)
         }
+    }
+}
+
+/// Puts a digit of a hexadecimal number behind a text.
+fn push_digit(shown: &mut String, digit: u8) -> Result<(), AllocError>
+    requires { digit < 16 }
+    ensures printed { OnOk result (IsTrue (list_all is_printed (string_bytes shown.old))
+        → IsTrue (list_all is_printed (string_bytes shown.new))) }
+{
+    if digit < 10 {
+        shown.push(char::from(b'0' + digit))
+    } else {
+        shown.push(char::from(b'a' + (digit - 10)))
     }
 }

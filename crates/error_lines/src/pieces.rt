@@ -4,7 +4,11 @@ ghost use Rattle.std.specs.Prelude.{◌≡◌, ◌++◌, IfSome};
 pub fn behind<'a>(text: &'a [u8], front: &[u8]) -> Option<&'a [u8]>
     ensures { IfSome result (λ rest. text.now ≡ front.now ++ rest.now) }
 {
-    text.strip_prefix(front)
+    if text.len() < front.len() {
+        return None;
+    }
+    let (begin, rest) = text.split_at(front.len());
+    if begin == front { Some(rest) } else { None }
 }
 
 /// What stands before and behind the first middle in a text, where that is there.

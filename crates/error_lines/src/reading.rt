@@ -1,4 +1,5 @@
 ghost use Rattle.std.specs.Prelude.{◌≡◌, ◌++◌, codes, IfSome};
+ghost use Rattle.std.specs.Option.{option_map};
 ghost use Rattle.error_lines.specs.Parts.{line_of, numbered_text, said_text};
 ghost use Rattle.refusals.specs.Line.{usage_name};
 
@@ -83,7 +84,7 @@ pub fn read_error_line(line: &[u8]) -> Option<ErrorLine<'_>>
 
 /// The number of a line that a text names behind this front, where it does, and what stands behind it.
 fn numbered<'a>(text: &'a [u8], front: &[u8]) -> (Option<&'a [u8]>, &'a [u8])
-    ensures { text.now ≡ numbered_text front.now result.0 ++ result.1.now }
+    ensures { text.now ≡ numbered_text front.now (option_map (λ number. number.now) result.0) ++ result.1.now }
 {
     match number_behind(text, front) {
         Some((number, rest)) => (Some(number), rest),
