@@ -136,7 +136,10 @@ fn put_form_line<L: Lines>(
 fn words_in(alloc: Global, line: &[u8]) -> Result<Vec<String>, AllocError> {
     let mut words = Vec::new(alloc);
     let mut rest = line;
-    while let Some((word, behind)) = next_word(rest) {
+    for _ in 0..line.len() {
+        let Some((word, behind)) = next_word(rest) else {
+            break;
+        };
         if let Ok(word) = std::str::from_utf8(word) {
             words.push(String::from_str(alloc, word)?)?;
         }

@@ -24,7 +24,7 @@ pub(crate) fn word_at(words: &[String], at: u64) -> Option<&str> {
 
 /// Whether a word holds options.
 fn holds_options(word: &str) -> bool {
-    word.len() > 1 && word.as_bytes()[0] == b'-'
+    word.len() > 1 && word.starts_with('-')
 }
 
 /// The option with a value that begins in the word of this number.
@@ -34,7 +34,7 @@ pub(crate) fn value_from(tool: Tool, words: &[String], at: u64) -> Option<GivenV
         return None;
     }
     let next = word_at(words, at.checked_add(1)?);
-    if word.as_bytes()[1] == b'-' {
+    if word.starts_with("--") {
         return long_value(tool, word, next);
     }
     letters_value(tool, word, next)
@@ -103,7 +103,7 @@ fn values_behind(tool: Tool, words: &[String], at: u64) -> u64 {
 
 /// Whether a word asks for users, groups or projects.
 pub(crate) fn asks_for_kind(tool: Tool, word: &str) -> bool {
-    if !holds_options(word) || word.as_bytes()[1] == b'-' {
+    if !holds_options(word) || word.starts_with("--") {
         return false;
     }
     for letter in word.as_bytes() {

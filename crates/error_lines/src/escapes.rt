@@ -14,7 +14,8 @@ pub fn shown(alloc: Global, text: &[u8], most: usize) -> Result<String, AllocErr
     ensures printed { IfOk result (λ shown. IsTrue (list_all is_printed (string_bytes shown))) }
 {
     let mut shown = String::new(alloc);
-    for byte in text.iter().take(most) {
+    let front = text.get(..most).unwrap_or(text);
+    for byte in front {
         push_shown(&mut shown, *byte)?;
     }
     if text.len() > most {

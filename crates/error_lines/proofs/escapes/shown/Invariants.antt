@@ -3,5 +3,5 @@ use Rattle.std.specs.List.{list_all}
 use Rattle.error_lines.specs.Shown.{is_printed}
 use Rattle.error_lines.proofs.escapes.shown.Given as goal
 
-abbrev pub invariant-loop : goal.invariant-loop
-invariant-loop l = IsTrue (list_all is_printed (string_bytes l.shown))
+abbrev pub invariant-loop-byte : goal.invariant-loop-byte
+invariant-loop-byte l = IsTrue (list_all is_printed (string_bytes l.shown))
