@@ -18,7 +18,7 @@ pub fn are_reasons_asked<R: Env + AllocGlobal>(rt: &R, is_terminal: bool) -> boo
 
 /// Whether reasons are told by what the variable is, where it is set.
 fn said_by(value: Option<&str>, is_terminal: bool) -> bool
-    ensures { result ≡ asked_by (option_map (λ value. value.now) value) is_terminal }
+    ensures { result ≡ asked_by (option_map (λ value. value.now) value.entry) is_terminal }
 {
     match value {
         Some("always") => true,
