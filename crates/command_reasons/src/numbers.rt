@@ -109,7 +109,8 @@ pub(crate) fn put_name_reason(
     }
 }
 
-/// Puts what is wrong with a word that is to be a number, which stands in the words of a command, or in a line of an input.
+/// Puts what is wrong with a word that is to be a number, which stands in the words of a command, or in a line of an
+/// input.
 pub(crate) fn put_number_reason(
     text: &mut Text,
     words: &[String],

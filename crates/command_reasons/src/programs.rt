@@ -66,7 +66,8 @@ fn wanted_of_client(word: u64) -> &'static str {
     }
 }
 
-/// Why a run of a program was refused, by its error line without the newline; none where no more is known than that has.
+/// Why a run of a program was refused, by its error line without the newline; none where no more is known than that
+/// has.
 ///
 /// # Errors
 ///

@@ -12,8 +12,8 @@ use input_text::{next_word, number_in};
 use option_words::Setting;
 use std::alloc::{AllocError, Global};
 
-/// Why a run was refused, by its error line without the newline: what is wrong with the words or the line that it speaks of,
-/// and what is wanted there; none where no more is known than the error line has.
+/// Why a run was refused, by its error line without the newline: what is wrong with the words or the line that it
+/// speaks of, and what is wanted there; none where no more is known than the error line has.
 ///
 /// # Errors
 ///
@@ -37,8 +37,8 @@ pub fn reason_of<L: Lines>(
     }
 }
 
-/// Puts the reason of an error line, and answers whether there is one. Of a command in a script its words are those of the
-/// script's line.
+/// Puts the reason of an error line, and answers whether there is one. Of a command in a script its words are those of
+/// the script's line.
 fn put_reason<L: Lines>(
     alloc: Global,
     text: &mut Text,

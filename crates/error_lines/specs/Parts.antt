@@ -4,7 +4,8 @@ use Rattle.std.specs.Option.{option_map}
 use Rattle.refusals.specs.Line.{usage_name}
 use Rattle.error_lines.specs.declared.reading.ErrorLine.{ErrorLine}
 use Rattle.error_lines.specs.declared.reading.Said.{Said}
-use Rattle.error_lines.specs.declared.reading.Said.TheVariants.{Usage, UnknownName, BadNumber, BadForm, BadLine, LongLine, Conflict, OfFile, Other}
+use Rattle.error_lines.specs.declared.reading.Said.TheVariants.{Usage, UnknownName, BadNumber, BadForm, BadLine}
+use Rattle.error_lines.specs.declared.reading.Said.TheVariants.{LongLine, Conflict, OfFile, Other}
 
 -- the number of a line behind its front, where one is named
 abbrev pub numbered_text : List ℕ → Option (List ℕ) → List ℕ
@@ -26,4 +27,6 @@ said_text (Other text) = text.now
 
 -- the line of these parts, without its newline
 abbrev pub line_of : ErrorLine → List ℕ
-line_of read = codes "quota: " ++ (numbered_text (codes "line ") (option_map (λ number. number.now) read.line) ++ (numbered_text (codes "input line ") (option_map (λ number. number.now) read.input_line) ++ said_text read.said))
+line_of read =
+    codes "quota: " ++ (numbered_text (codes "line ") (option_map (λ number. number.now) read.line)
+    ++ (numbered_text (codes "input line ") (option_map (λ number. number.now) read.input_line) ++ said_text read.said))

@@ -4,8 +4,8 @@ ghost use Rattle.error_lines.specs.Shown.{is_printed};
 
 use std::alloc::{AllocError, Global};
 
-/// A text as it may be shown on a terminal: control bytes, those outside of ASCII and the backslash are escaped, and behind so
-/// many bytes of the text stand three dots where it has more.
+/// A text as it may be shown on a terminal: control bytes, those outside of ASCII and the backslash are escaped, and
+/// behind so many bytes of the text stand three dots where it has more.
 ///
 /// # Errors
 ///

@@ -1,7 +1,7 @@
 //! Error lines, read back into their parts, and texts as they may be shown on a terminal.
 //!
-//! The one promise: the parts that are read of a line are those of which it was written, and what is shown has no control
-//! byte.
+//! The one promise: the parts that are read of a line are those of which it was written, and what is shown has no
+//! control byte.
 #![tactic(auto)]
 
 mod escapes;

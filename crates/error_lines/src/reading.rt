@@ -169,7 +169,8 @@ fn said_of<'a>(file: &'a [u8], what: &'a [u8]) -> Said<'a>
 
 /// The numbers of two lines of which a text says that they conflict.
 fn conflict_in(what: &[u8]) -> Option<(&[u8], &[u8])>
-    ensures { IfSome result (λ lines. what.now ≡ codes "line " ++ (lines.0.now ++ (codes " conflicts with line " ++ lines.1.now))) }
+    ensures { IfSome result
+        (λ lines. what.now ≡ codes "line " ++ (lines.0.now ++ (codes " conflicts with line " ++ lines.1.now))) }
 {
     parted(behind(what, b"line ")?, b" conflicts with line ")
 }

@@ -25,7 +25,8 @@ pub enum About<'a> {
 }
 
 impl<'a> About<'a> {
-    /// What words ask for: the one word `--help` or `--version`, or `--help` as the only word behind the name of a command.
+    /// What words ask for: the one word `--help` or `--version`, or `--help` as the only word behind the name of a
+    /// command.
     pub fn asked(words: &'a [String]) -> Option<Self>
         ensures { option_map question_of result ≡ asked (texts_of words.now) }
     {
@@ -61,12 +62,13 @@ impl<'a> About<'a> {
     }
 }
 
-/// Writes a text to the output, and answers the status with which the program ends: 0, or that of a fault of the output, of
-/// which the error output gets the line.
+/// Writes a text to the output, and answers the status with which the program ends: 0, or that of a fault of the
+/// output, of which the error output gets the line.
 pub fn tell<O: Sink, E: Sink>(out: &mut O, err: &mut E, text: &str, alloc: Global) -> u8
     ensures told { result ≡ 0 → IsTrue O.tells
         → (O.seen out.new).written ≡ (O.seen out.old).written ++ text.now }
-    ensures part { result ≡ 4 → IsTrue O.tells → AppendsPrefix (O.seen out.old).written (O.seen out.new).written text.now }
+    ensures part { result ≡ 4 → IsTrue O.tells
+        → AppendsPrefix (O.seen out.old).written (O.seen out.new).written text.now }
     ensures fault { (result ≡ 0) ⊎ ((result ≡ 4) × Rose (O.seen out.old).faults (O.seen out.new).faults) }
     // The error output gets nothing, or the line of a fault of the output.
     ensures quiet { result ≡ 0 → err.new ≡ err.old }

@@ -10,8 +10,8 @@ use crate::{About, tell};
 use outside::Sink;
 use std::fs::{File, Files};
 
-/// Writes the text that words ask for, and behind that of a version the commit of an installed program. Answers the status
-/// with which the program ends: 0, or that of a fault of the output, of which the error output gets the line.
+/// Writes the text that words ask for, and behind that of a version the commit of an installed program. Answers the
+/// status with which the program ends: 0, or that of a fault of the output, of which the error output gets the line.
 pub fn tell_asked<R: Files<File = File> + AllocGlobal, O: Sink, E: Sink>(
     system: &R,
     words: &[String],

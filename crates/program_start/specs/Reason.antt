@@ -1,5 +1,5 @@
--- What is added behind an error line where reasons are asked for: what the system refused, and why, or what a text tells. Source:
--- this project's own, in the form of the GNU coding standards, on error messages.
+-- What is added behind an error line where reasons are asked for: what the system refused, and why, or what a text
+-- tells. Source: this project's own, in the form of the GNU coding standards, on error messages.
 use Rattle.std.specs.Prelude.{◌≡◌, ◌≢◌, ◌<◌, ◌⊎◌, ℕ, Bool, true, false, List, ◌∷◌, ◌++◌, codes, decimal, get_or, length}
 use Rattle.std.specs.declared.io.ErrorKind.{ErrorKind}
 use Rattle.std.specs.declared.io.ErrorKind.TheVariants.{InvalidData}

@@ -10,8 +10,8 @@ abbrev pub starting_cause : ErrorKind → Cause
 starting_cause OutOfMemory = Memory
 starting_cause _ = StoreFault
 
--- the cause where the system fails to give the program its words; words that are not all UTF-8 are wrong from the first one on,
--- in the way that the program has for them
+-- the cause where the system fails to give the program its words; words that are not all UTF-8 are wrong from the first
+-- one on, in the way that the program has for them
 abbrev pub words_cause : (unreadable : UsageKind) → ErrorKind → Cause
 words_cause unreadable InvalidData = Usage unreadable 0
 words_cause unreadable kind = starting_cause kind

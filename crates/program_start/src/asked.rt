@@ -7,8 +7,8 @@ use std::env::{self, Env};
 /// The variable that says whether the reasons of statuses are told.
 const VARIABLE: &str = "QUOTA_CLI_REASONS";
 
-/// Whether the reasons of statuses are told: `QUOTA_CLI_REASONS=always` and `QUOTA_CLI_REASONS=never` say so, and else it is
-/// asked for where the error output is a terminal.
+/// Whether the reasons of statuses are told: `QUOTA_CLI_REASONS=always` and `QUOTA_CLI_REASONS=never` say so, and else
+/// it is asked for where the error output is a terminal.
 pub fn are_reasons_asked<R: Env + AllocGlobal>(rt: &R, is_terminal: bool) -> bool {
     match env::var(rt, VARIABLE) {
         Ok(value) => said_by(Some(value.as_str()), is_terminal),

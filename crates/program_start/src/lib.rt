@@ -1,8 +1,8 @@
-//! How every program begins: its words, the standard streams that were closed, the causes for which it stops before it has
-//! begun, and whether the reason of a status is told, and how.
+//! How every program begins: its words, the standard streams that were closed, the causes for which it stops before it
+//! has begun, and whether the reason of a status is told, and how.
 //!
-//! The one promise: where a program stops before it has begun, its status and its error line are those of the cause; and
-//! where reasons are not asked for, or the status is 0, nothing is added.
+//! The one promise: where a program stops before it has begun, its status and its error line are those of the cause;
+//! and where reasons are not asked for, or the status is 0, nothing is added.
 #![tactic(auto)]
 
 mod asked;

@@ -1,4 +1,5 @@
-ghost use Rattle.std.specs.Prelude.{◌≡◌, ◌≤◌, ◌⊎◌, ◌++◌, codes, List, None, IfOk, IfSome, IsTrue, false, is_some, string_bytes, ℕ};
+ghost use Rattle.std.specs.Prelude.{◌≡◌, ◌≤◌, ◌⊎◌, ◌++◌, codes, List, None, IfOk, IfSome, IsTrue, false, is_some};
+ghost use Rattle.std.specs.Prelude.{string_bytes, ℕ};
 ghost use Rattle.outside.specs.Text.{AppendsPrefix};
 ghost use Rattle.program_start.specs.Reason.{IsNameIn, IsReasonLine, TellsOf, failed_name, is_unreadable};
 
@@ -130,8 +131,8 @@ fn line_with(alloc: Global, name: &str, text: &str) -> Result<String, AllocError
     format!(in alloc; "{line}\n")
 }
 
-/// Writes behind the error line why a run ended with another status than 0, where that is asked for and known, and there is
-/// memory for the line.
+/// Writes behind the error line why a run ended with another status than 0, where that is asked for and known, and
+/// there is memory for the line.
 pub fn add_reason<E: Sink>(
     err: &mut E,
     is_asked: bool,
@@ -143,7 +144,8 @@ pub fn add_reason<E: Sink>(
     ensures quiet { (is_asked ≡ false) ⊎ (status ≡ 0) → err.new ≡ err.old }
     ensures unknown { reason.entry ≡ None → err.new ≡ err.old }
     ensures line { IfSome reason.entry (λ reason. IsTrue E.tells → (err.new ≡ err.old)
-        ⊎ ((line : List ℕ) × IsReasonLine called.now reason line × AppendsPrefix (E.seen err.old).written (E.seen err.new).written line)) }
+        ⊎ ((line : List ℕ) × IsReasonLine called.now reason line
+        × AppendsPrefix (E.seen err.old).written (E.seen err.new).written line)) }
     ensures later { (E.seen err.old).faults ≤ (E.seen err.new).faults }
 {
     if !is_asked || status == 0 {

@@ -11,9 +11,9 @@ use refusals::{Cause, Refusal, UsageKind, Word, refuse};
 use std::alloc::Global;
 use std::io::ErrorKind;
 
-/// Why the program stops where the system does not give it its words. Words that are not all UTF-8 are wrong words from the
-/// first one on, in the way that `unreadable` says: a program with commands knows no such command, and another one no such
-/// operands.
+/// Why the program stops where the system does not give it its words. Words that are not all UTF-8 are wrong words from
+/// the first one on, in the way that `unreadable` says: a program with commands knows no such command, and another one
+/// no such operands.
 pub fn words_cause(unreadable: UsageKind, kind: ErrorKind) -> Cause
     ensures { result ≡ words_cause unreadable kind }
 {

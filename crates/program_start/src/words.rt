@@ -1,7 +1,8 @@
 use std::env::{self, Env};
 use std::io;
 
-/// What the program was called as, and the other words of the command line. One that was called as nothing is called `name`.
+/// What the program was called as, and the other words of the command line. One that was called as nothing is called
+/// `name`.
 ///
 /// # Errors
 ///

@@ -1,7 +1,7 @@
 //! Reasons of error lines, and the texts that they are made of.
 //!
-//! The crate has tests and nothing else. A row is an error line with the words of the run, the text that was read and the
-//! reason that is wanted; one small function plays all rows of a table.
+//! The crate has tests and nothing else. A row is an error line with the words of the run, the text that was read and
+//! the reason that is wanted; one small function plays all rows of a table.
 #![tactic(auto)]
 
 #[cfg(test)]

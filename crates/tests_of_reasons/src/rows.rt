@@ -3,8 +3,8 @@ use run_notes::LastText;
 use std::alloc::{AllocError, Global};
 use std::process::Abort;
 
-/// An error line behind `quota: `, words separated by single spaces, the text that was read, and the reason; empty where there
-/// is none.
+/// An error line behind `quota: `, words separated by single spaces, the text that was read, and the reason; empty
+/// where there is none.
 pub type Row = (&'static str, &'static str, &'static str, &'static str);
 
 /// The text that was read, of the standard input or of any file.
