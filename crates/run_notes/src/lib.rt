@@ -1,5 +1,5 @@
-//! What the objects outside note and tell of a run for who watches it: the bytes of a text that were taken last, and
-//! what is waited for.
+//! What the objects outside note and tell of a run for who watches it: the bytes of a text that were taken last, and what is
+//! waited for.
 //!
 //! No clause says anything of them: what they note and tell changes no answer of a call.
 #![tactic(auto)]
