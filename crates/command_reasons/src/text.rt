@@ -37,11 +37,13 @@ impl Text {
 
     /// Puts a word or a line behind it, of a long one the front.
     pub fn put_shown(&mut self, shown: &[u8]) -> Result<(), AllocError> {
-        if shown.len() > MOST {
-            self.bytes.extend_from_slice(&shown[..MOST])?;
-            return self.put("...");
+        match shown.get(..MOST) {
+            Some(front) if front.len() < shown.len() => {
+                self.bytes.extend_from_slice(front)?;
+                self.put("...")
+            }
+            _ => self.bytes.extend_from_slice(shown),
         }
-        self.bytes.extend_from_slice(shown)
     }
 
     /// Puts a word behind it, and what is said of that.
