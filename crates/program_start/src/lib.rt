@@ -13,6 +13,6 @@ mod words;
 
 pub use asked::are_reasons_asked;
 pub use closed::hold_closed_streams;
-pub use reason::{Failed, Reason, add_reason, name_in};
+pub use reason::{Failed, Reason, add_reason, name_in, run_reason};
 pub use starting::{starting_cause, stop, words_cause};
 pub use words::given_words;

@@ -22,6 +22,20 @@ pub enum Failed<'a> {
     File(&'a str),
 }
 
+/// Why a run ended with this status: what the text tells, where there is one, and else, with status 4, what the system
+/// refused.
+pub fn run_reason<'a>(
+    status: u8,
+    text: Option<&'a str>,
+    refused: Option<Reason<'a>>,
+) -> Option<Reason<'a>> {
+    match text {
+        Some(text) => Some(Reason::Text(text)),
+        None if status == 4 => refused,
+        None => None,
+    }
+}
+
 impl Reason<'_> {
     /// Why the words of the command line are not taken: one of them is not UTF-8. None where it is something else.
     pub fn of_words(kind: io::ErrorKind) -> Option<Self>

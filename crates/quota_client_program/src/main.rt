@@ -7,7 +7,7 @@ use command_reasons::{Program, program_reason};
 use help::text_asked;
 use program_help::tell_asked;
 use program_start::{
-    Failed, Reason, add_reason, are_reasons_asked, given_words, hold_closed_streams,
+    Failed, Reason, add_reason, are_reasons_asked, given_words, hold_closed_streams, run_reason,
     starting_cause, stop, words_cause,
 };
 use quota_client::run_client;
@@ -80,11 +80,8 @@ fn main(rt: HostRuntime) -> ExitCode {
                 None => run_client(&words, &mut peer, &mut out, &mut err, first_xid(now)),
             };
             let text = text_of(rt.alloc(), is_asked, status, err.last_line(), &words);
-            let reason = match &text {
-                Some(text) => Some(Reason::Text(text.as_str())),
-                None if status == 4 => system_reason(out.failure(), peer.failure()),
-                None => None,
-            };
+            let refused = system_reason(out.failure(), peer.failure());
+            let reason = run_reason(status, text.as_ref().map(|text| text.as_str()), refused);
             let called = called.as_str();
             add_reason(&mut err, is_asked, status, called, reason, rt.alloc());
             status

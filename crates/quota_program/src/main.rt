@@ -8,7 +8,7 @@ use journal_store::JournalStore;
 use program_help::tell_asked;
 use program_recoveries::tell_undo_files;
 use program_start::{
-    Reason, add_reason, are_reasons_asked, given_words, hold_closed_streams, name_in,
+    Reason, add_reason, are_reasons_asked, given_words, hold_closed_streams, name_in, run_reason,
     starting_cause, stop, words_cause,
 };
 use quota_cli::run::run;
@@ -140,11 +140,8 @@ fn main(rt: HostRuntime) -> ExitCode {
             };
             let line = err.last_line();
             let text = text_of(rt.alloc(), is_asked, status, line, &words, &lines);
-            let reason = match &text {
-                Some(text) => Some(Reason::Text(text.as_str())),
-                None if status == 4 => failures.first(),
-                None => None,
-            };
+            let text = text.as_ref().map(|text| text.as_str());
+            let reason = run_reason(status, text, failures.first());
             add_reason(&mut err, is_asked, status, called, reason, rt.alloc());
             tell_undo_files(
                 &mut err,

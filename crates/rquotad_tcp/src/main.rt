@@ -9,7 +9,7 @@ use program_help::tell_asked;
 use program_recoveries::tell_undo_files;
 use program_start::{
     Failed, Reason, add_reason, are_reasons_asked, given_words, hold_closed_streams, name_in,
-    starting_cause, stop, words_cause,
+    run_reason, starting_cause, stop, words_cause,
 };
 use refusals::{Cause, UsageKind};
 use rpc_record::run_stream;
@@ -122,11 +122,8 @@ fn main(rt: HostRuntime) -> ExitCode {
             let status = run_stream(rt.alloc(), &words, &mut store, &mut conns, &mut err);
             let disk = store.into_disk();
             let text = text_of(rt.alloc(), is_asked, status, err.last_line(), &words);
-            let reason = match &text {
-                Some(text) => Some(Reason::Text(text.as_str())),
-                None if status == 4 => system_reason(disk.failure(), conns.failure()),
-                None => None,
-            };
+            let refused = system_reason(disk.failure(), conns.failure());
+            let reason = run_reason(status, text.as_ref().map(|text| text.as_str()), refused);
             add_reason(&mut err, is_asked, status, called, reason, rt.alloc());
             tell_undo_files(
                 &mut err,
