@@ -22,7 +22,7 @@ use std::io::{BufReader, Eprint, IsTerminal};
 use std::process::ExitCode;
 use system_objects::FileDisk;
 use system_streams::{StreamSink, StreamSource, UdpLink, moment};
-use telling::{Failures, ReadLines, left_of, text_of};
+use telling::{Failures, left_of, text_of};
 
 mod help;
 mod inputs;
@@ -134,12 +134,8 @@ fn main(rt: HostRuntime) -> ExitCode {
                 disk: disk.failure(),
                 left: left.as_ref().map(|left| left.as_str()),
             };
-            let lines = ReadLines {
-                input: &input,
-                disk: &disk,
-            };
             let line = err.last_line();
-            let text = text_of(rt.alloc(), is_asked, status, line, &words, &lines);
+            let text = text_of(rt.alloc(), is_asked, status, line, &words, &input, &disk);
             let text = text.as_ref().map(|text| text.as_str());
             let reason = run_reason(status, text, failures.first());
             add_reason(&mut err, is_asked, status, called, reason, rt.alloc());

@@ -66,14 +66,14 @@ fn refused<'a>(of: Failed<'a>, error: io::Error, left: Option<&'a str>) -> Optio
 
 /// The lines that a run has read.
 #[derive(Drop)]
-pub struct ReadLines<'a, 'b, I, R> {
+struct ReadLines<'a, 'b, 'c, 'd, I, R> {
     /// Of the standard input.
-    pub input: &'a StreamSource<'b, I, R>,
+    input: &'a StreamSource<'b, I, R>,
     /// Of files.
-    pub disk: &'a FileDisk<'b, R>,
+    disk: &'c FileDisk<'d, R>,
 }
 
-impl<'a, 'b, I, R: Files<File = File> + Eprint> Lines for ReadLines<'a, 'b, I, R> {
+impl<'a, 'b, 'c, 'd, I, R: Files<File = File> + Eprint> Lines for ReadLines<'a, 'b, 'c, 'd, I, R> {
     fn of_input(&self, number: u64) -> Option<&[u8]> {
         self.input.line(number)
     }
@@ -85,18 +85,20 @@ impl<'a, 'b, I, R: Files<File = File> + Eprint> Lines for ReadLines<'a, 'b, I, R
 
 /// The text of the reason of a status behind this error line; none where it is not asked for, where the system refused
 /// something, where no more is known than the error line has, or where there is no memory for it.
-pub fn text_of<L: Lines>(
+pub fn text_of<I, R: Files<File = File> + Eprint>(
     alloc: Global,
     is_asked: bool,
     status: u8,
     error_line: Option<&[u8]>,
     words: &[String],
-    lines: &L,
+    input: &StreamSource<'_, I, R>,
+    disk: &FileDisk<'_, R>,
 ) -> Option<String> {
     if !is_asked || status == 0 || status == 4 {
         return None;
     }
-    reason_of(alloc, error_line?, words, lines).unwrap_or(None)
+    let lines = ReadLines { input, disk };
+    reason_of(alloc, error_line?, words, &lines).unwrap_or(None)
 }
 
 /// What an earlier run left beside the file at which the disk failed, where that is asked for and it did.
