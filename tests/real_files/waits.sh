@@ -19,9 +19,9 @@ if command -v python3 >/dev/null; then
     expect 'an input that is no terminal is not told' 0 '' '' setquota -b made </dev/null
     expect 'a file that is free is not told' 0 '' '' setquota 7 1 2 3 4 made
 
-    # A lock is waited for that another program lets go a second later.
-    flock made sleep 1 &
-    sleep 0.3
+    # A lock is waited for that another program lets go some seconds later.
+    flock made sleep 5 &
+    while flock -n made true; do sleep 0.1; done
     expect 'a lock' 0 '' 'quota_cli: made: waits for another program that has locked it' setquota 7 1 2 3 4 made
     wait
     flock made sleep 1 &
