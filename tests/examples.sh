@@ -844,6 +844,9 @@ said() {
     quota_cli repquota .
     quota_cli setquota -b q <.
     quota_cli repquota q >/dev/full
+    # What is told of a word where the reason is asked for.
+    QUOTA_CLI_REASONS=always quota_cli repquota -ug q
+    QUOTA_CLI_REASONS=always quota_cli setquota 7 0 99999999999T 0 0 q
     "$client" hold "$port" quota_cli rquotad --calls 1 --port "$port" --export /home user q
     yes x | head -n 1000000 | (ulimit -v 40000 && exec "$folder/built/quota_cli" script)
     printf '\n\nx\n' | quota_cli setquota -b q

@@ -14,6 +14,7 @@ import sys
 LIMITS = [
     ("README.md", 700, 25),
     ("docs/ARCHITECTURE.md", 4500, 25),
+    ("docs/COMMANDS.md", 6000, 25),
     ("docs/DECISIONS.md", 7000, 25),
     ("docs/PROMISES.md", 7000, 25),
 ]

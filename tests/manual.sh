@@ -172,10 +172,12 @@ awk '/^\.Sh / { on = /EXIT STATUS/ } on && /^\.Bd / { shown = 1; next } /^\.Ed/ 
 sed -nE 's/^\| [0-9] \| `(quota: [^`]*)`.*/\1/p' "$top/docs/COMMANDS.md" | sort >got
 same 'the error lines in COMMANDS'
 
-# The words of a usage error in quota_cli.8 are those of COMMANDS, and it shows one of each.
-sed -nE 's/^\| `([A-Z][A-Za-z]+)` \| .*/\1/p' "$top/docs/COMMANDS.md" >wanted
-awk '/^\.Sh / { on = $0 == ".Sh USAGE ERRORS" } on && /^\.It Cm / { print $3 }' "$top/docs/quota_cli.8" >got
+# The words of a usage error in quota_cli.8 are those of its specification, and it shows one of each, in their order.
+awk '/^\.Sh / { on = $0 == ".Sh USAGE ERRORS" } on && /^\.It Cm / { print $3 }' "$top/docs/quota_cli.8" >words
+sort words >got
+sed -n 's/^usage_name .* = codes "\(.*\)"$/\1/p' "$top/crates/refusals/specs/Line.antt" | sort >wanted
 same 'the words of a usage error'
+cp words wanted
 awk '/^\.Sh / { on = $0 == ".Sh USAGE ERRORS" } on && /^quota: usage: / { print $3 }' "$top/docs/quota_cli.8" >got
 same 'the usage errors that are shown'
 
