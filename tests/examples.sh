@@ -723,7 +723,7 @@ display() {
         'quota_cli '* | 'quotaoff '* | 'find '* | 'flock '* | 'while read '* | 'systemctl '*) carried_out ;;
         'echo '*' | quota_cli script'*) carried_out ;;
         'file: '*) wrong_body ;;
-        'words ──► '*) in_sources ;;
+        'words ──► '* | '  words ─► '*) in_sources ;;
         *)
             case $document/$heading in
                 # what a script of bench/ printed
