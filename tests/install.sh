@@ -233,7 +233,7 @@ if command -v dpkg-deb >/dev/null; then
             printf -- '-rw-r--r-- root/root ./%s\n' usr/share/doc/quota-cli/{changelog.gz,copyright} etc/default/quota_cli
         } | LC_ALL=C sort -k 3)"
     dpkg-deb -x "$package" unpacked
-    same 'the packed programs' "$(starts unpacked/usr)" "$(printf '%s\n' "${names[@]}")"
+    same 'the packed programs' "$(starts unpacked/usr)" "$(printf '%s\nand its commit\n' "${names[@]}")"
     same 'the packed quota_cli' "$(works unpacked/usr/sbin/quota_cli)" "$line"
     same 'what its pages and documents name' "$(named unpacked /usr)" ''
     same 'the program that its units and the rest start' \
