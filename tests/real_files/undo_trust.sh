@@ -123,9 +123,7 @@ if [ -n "$is_root" ]; then
                     done_so "$name of another account is taken away by $mine in mode $mode" $words
                     same "and none is left of $name" "$(ls -d "$name" 2>/dev/null || stat -c %u q)" "$mine"
                 else
-                    # (the reason does not look at whose the file is)
-                    refused "$name of another account in a sticky folder" \
-                        "$name: Operation not permitted; $name was left by a run that was stopped, and may be deleted" $words
+                    refused "$name of another account in a sticky folder" "$name: Operation not permitted" $words
                 fi
             done
         done

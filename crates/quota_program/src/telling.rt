@@ -101,7 +101,8 @@ pub fn text_of<I, R: Files<File = File> + Eprint>(
     reason_of(alloc, error_line?, words, &lines).unwrap_or(None)
 }
 
-/// What an earlier run left beside the file at which the disk failed, where that is asked for and it did.
+/// What an earlier run left beside the file at which the disk failed, where that is asked for and it did. A file that this
+/// account may not use is none that an earlier run of it left.
 pub fn left_of<R: Files<File = File> + Eprint>(
     is_asked: bool,
     disk: &FileDisk<'_, R>,
@@ -109,5 +110,9 @@ pub fn left_of<R: Files<File = File> + Eprint>(
     if !is_asked {
         return None;
     }
-    disk.left_beside(disk.failure()?.name.as_str())
+    let failure = disk.failure()?;
+    match failure.error.kind() {
+        io::ErrorKind::PermissionDenied => None,
+        _ => disk.left_beside(failure.name.as_str()),
+    }
 }
