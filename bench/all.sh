@@ -1,7 +1,7 @@
 #!/usr/bin/env bash
 # Runs the benchmarks of the program one after another, and writes docs/MEASURED.md anew: the day, the machine and the
-# sources, and of each script what it measures, what it printed and how long it took. Run it with nothing else to do on the
-# machine. Where a script fails, the page says so, and this ends with status 1.
+# sources, and of each script, or each part of one, what it measures, what it printed and how long it took. Run it with
+# nothing else to do on the machine. Where a script fails, the page says so, and this ends with status 1.
 # (What proving costs is bench/gate.sh, which is not among them.)
 # usage: bench/all.sh
 # shellcheck disable=SC2016
@@ -35,10 +35,23 @@ sources() {
     echo "- Sources: $commit, of $(git log -1 --format=%cs 2>/dev/null || true)"
 }
 
-# about SCRIPT: the comment with which it begins.
-about() { awk 'NR > 1 { if (!/^#/) exit; sub(/^# ?/, ""); print }' "$1"; }
+# runs SCRIPT: how it is run, a line each: by its name alone, or, where it has parts, with the name of each.
+runs() {
+    local parts it
+    parts=$(sed -n 's/^part_\([a-z]*\)() {$/ \1/p' "$1")
+    while IFS= read -r it; do echo "$1$it"; done <<<"$parts"
+}
 
-programs=$(bin/programs)
+# about SCRIPT [PART]: the comment with which it begins, or that of a part.
+about() {
+    awk -v head="${2:+part_$2() {}" '
+        NR == 1 { next }
+        sub(/^# ?/, "") { text = text $0 "\n"; next }
+        head == "" || $0 == head { printf "%s", text; exit }
+        { text = "" }' "$1"
+}
+
+programs=$(tools/programs)
 mapfile -t names < <(cut -d ' ' -f 2 <<<"$programs")
 bin/build "${names[@]}"
 {
@@ -52,14 +65,16 @@ bin/build "${names[@]}"
     sources
 } >"$work/page"
 failed=0
-for script in "${scripts[@]}"; do
-    echo "bench/all.sh: $script" >&2
+mapfile -t all < <(for script in "${scripts[@]}"; do runs "$script"; done)
+for run in "${all[@]}"; do
+    read -r script part <<<"$run"
+    echo "bench/all.sh: $run" >&2
     start=$SECONDS
     status=0
-    "$script" >"$work/said" 2>"$work/faults" || status=$?
+    "$script" ${part:+"$part"} >"$work/said" 2>"$work/faults" || status=$?
     {
-        printf '\n## `%s`\n\n' "$script"
-        about "$script"
+        printf '\n## `%s`\n\n' "$run"
+        about "$script" "$part"
         printf '\n```\n'
         cat "$work/said"
         printf '```\n\n'
@@ -72,7 +87,7 @@ for script in "${scripts[@]}"; do
     if [ "$status" != 0 ]; then
         failed=1
         cat "$work/faults" >&2
-        echo "bench/all.sh: $script failed with status $status" >&2
+        echo "bench/all.sh: $run failed with status $status" >&2
     fi
 done
 cp "$work/page" "$page"

@@ -1,20 +1,25 @@
 #!/usr/bin/env bash
-# Measures, in one run, changes of the tree files of `bench/tree.sh` where they stand, and of the flat file of
-# `bench/setquota.sh`. First one change, of a user who is known, of one who is new and of one whose record goes: beside
-# reading the file once in pieces of 1,024 bytes the ratio of their times (the best of five each), the most memory that the
-# program holds, and its calls of the system. Then, of the file of the users 0 to 999,999 and of the flat one, `setquota -b`
-# of 1,000 lines, which are made in place one after another, for known users and, of the tree file, for new ones: a line
-# beside writing one block of a copy of the file and syncing it, beside four, as many as a new user needs, one of them past
-# the end, and beside what a rollback journal of one block costs at least: its old bytes and its new ones, a gate that is
-# opened and closed, and a sync behind each; each is done half as often as there are lines before the batch, and half as
-# often behind it. And what a line costs over a folder in memory, without a disk, and the calls of the system for a line.
+# Measures, in one run, changes of the tree files of `bench/large_files.sh tree` where they stand, and of the flat file of
+# `bench/large_files.sh setquota`.
+#
+# First one change: of a user who is known, of one who is new and of one whose record goes. Beside reading the file once in
+# pieces of 1,024 bytes: the ratio of their times (the best of five each), the most memory that the program holds, and its
+# calls of the system.
+#
+# Then `setquota -b` of 1,000 lines, which are made in place one after another: for known users of the file of the users 0 to
+# 999,999 and of the flat one, and for new users of the former. The time of a line stands beside that of writing and syncing
+# one block of a copy of the file, and beside four (as many as a new user needs, one of them past the end). It stands, too,
+# beside what a rollback journal of one block costs at least: its old bytes and its new ones, a gate that is opened and closed,
+# and a sync behind each. Each of these is done half as often as there are lines before the batch, and half as often behind it.
+# Then come what a line costs over a folder in memory, without a disk, and the calls of the system for a line.
+#
 # Then `setquota -b` of `lines` lines (10,000) and of `many` (1,000,000), which are made together and have 16 bytes at most:
-# new limits of as many users of those files, and of as many new ones in a file without records: beside awk, which sets the
-# same limits in a text dump of the file (`bench/edits.awk`), and beside reading the old file and writing and syncing one of
-# the size of the new one, both in pieces of 1,024 bytes, the best of three times each in turn; the most memory that the
-# program holds; and, where it is installed and a file system may be mounted, beside the `setquota` of the quota tools, once,
-# which checks and syncs nothing.
-maker=make_tree_file.py
+# new limits of as many users of those files, and of as many new ones in a file without records. It stands beside awk, which
+# sets the same limits in a text dump of the file (`bench/edits.awk`). It stands, too, beside reading the old file and writing
+# and syncing one of the size of the new one, both in pieces of 1,024 bytes. Each is the best of three times in turn, with the
+# most memory that the program holds. Where the `setquota` of the quota tools is installed and a file system may be mounted, it
+# stands beside that, once, which checks and syncs nothing.
+large=tree
 . "$(dirname "${BASH_SOURCE[0]}")/measure.sh"
 "$top/bin/quota_cli" edquota --print -u 7 q >said
 lines=${lines:-10000}
@@ -205,7 +210,7 @@ echo "multiples of 7, the blocks shuffled:"
 make_file spread
 changes known new leaving
 has_all
-maker=make_flat_file.py
+large=flat
 format=(-F vfsold)
 echo "a flat file of 1,048,576 records, which is full:"
 make_file

@@ -145,14 +145,15 @@ rm -f t t.undo lines all want.txt shown.txt told
 # free STEP: makes a file whose blocks are free but for the header and the root; from each the list leads so many blocks on, and
 # around.
 free() {
-    python3 - "$1" "$limit" <<'PY'
-import struct, sys
+    PYTHONPATH=$top/tests python3 -B - "$1" "$limit" <<'PY'
+import sys
+from quota_files import BLOCK, WEEK, free_block, header
 step, count = int(sys.argv[1]), int(sys.argv[2])
 rest = count - 2
 with open("free", "wb") as file:
-    file.write(struct.pack("<8I", 0xD9C01F11, 1, 604_800, 604_800, 0, count, 2, 0).ljust(2048, b"\0"))
+    file.write(header("user", 1, (WEEK, WEEK), count, 2).ljust(2 * BLOCK, b"\0"))
     for at in range(rest):
-        file.write(struct.pack("<I1020x", 2 + (at + step) % rest if (at + step) % rest else 0))
+        file.write(free_block(2 + (at + step) % rest if (at + step) % rest else 0))
 PY
 }
 

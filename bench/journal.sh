@@ -1,14 +1,15 @@
 #!/usr/bin/env bash
-# Measures, in one run, what the journal of a change in place costs: for one change of a known user, of a new one and of one
-# whose record goes, in the tree file of the users 0 to 999,999, the calls of the system, the syncs and the writes with
-# their bytes, beside those of SQLite's rollback journal (synchronous=FULL, pages of 1,024 bytes) for a change of as many
-# pages, with journal_mode=DELETE and PERSIST. Then the first change of a file ever, what a line of `setquota -b` of 1,000
-# lines costs, and, beside one report of the user 7, the same with a recovery before it. At last the time of such changes of a
-# file of 20,000 users, with the start of the program, beside those of SQLite of 20,000 rows in turn (in a running Python, a
-# connection for each change): the best and the middle one of `rounds`. And what a line of `setquota -b` of 1,000 lines for
-# them costs that are made in place, since a file has the name of a new one, beside one of 1,000 changes of a row over one
-# connection, in turn.
-maker=make_tree_file.py
+# Measures, in one run, what the journal of a change in place costs, in the tree file of the users 0 to 999,999: for one change
+# of a known user, of a new one and of one whose record goes, the calls of the system, the syncs and the writes with their
+# bytes. They stand beside those of SQLite's rollback journal (synchronous=FULL, pages of 1,024 bytes) for a change of as many
+# pages, with journal_mode=DELETE and PERSIST. Then come the first change of a file ever, what a line of `setquota -b` of 1,000
+# lines costs, and, beside one report of the user 7, the same with a recovery before it.
+#
+# At last comes the time of such changes of a file of 20,000 users, with the start of the program: the best and the middle one
+# of `rounds`. It stands beside those of SQLite of 20,000 rows in turn (in a running Python, a connection for each change).
+# Then comes what a line of `setquota -b` of 1,000 lines for them costs that are made in place, since a file has the name of a
+# new one. It stands beside one of 1,000 changes of a row over one connection, in turn.
+large=tree
 . "$(dirname "${BASH_SOURCE[0]}")/measure.sh"
 rounds=${rounds:-15}
 

@@ -1,7 +1,7 @@
-# What the benchmarks share; each of them sources this file. It makes a folder, which is removed when the script ends, and
-# in it a file `q` and a text dump of it, by the script that `maker` names (a full flat file where it names none). `top` is
-# the top of the repository, and `program` the built program; `awk` is mawk where it is there. A command that fails ends the
-# benchmark with its status.
+# What the benchmarks share; each of them sources this file. It makes a folder, which is removed when the script ends,
+# and in it a file `q` and a text dump of it, of the sort that `large` names as make_quota_file.py has it (a full flat
+# file where it names none). `top` is the top of the repository, and `program` the built program; `awk` is mawk where it
+# is there. A command that fails ends the benchmark with its status.
 set -euo pipefail
 shopt -s inherit_errexit
 top=$(cd "$(dirname "${BASH_SOURCE[0]}")/.." && pwd)
@@ -39,9 +39,9 @@ mount_image() {
     fi
 }
 
-# make_file WORD..: makes `q` and `dump`, with further words of the script that `maker` names.
+# make_file [SORT]: makes `q` and `dump`, of the sort that `large` names where none is named.
 make_file() {
-    python3 "$top/bench/${maker:-make_flat_file.py}" q dump "$@"
+    python3 -B "$top/bench/make_quota_file.py" "${1:-${large:-flat}}" q dump
 }
 make_file
 

@@ -29,7 +29,7 @@ print(*(f"{statistics.median(start(sys.argv[1:], it) for _ in range(21)):.1f}" f
 PY
 }
 
-list=$("$top/bin/programs")
+list=$("$top/tools/programs")
 while read -r crate name _; do
     cp "$top/crates/$crate/out/$crate" "$name"
     size=$(stat -c %s "$name")

@@ -1,10 +1,10 @@
 #!/usr/bin/env bash
-# Measures changes beside those of the `setquota` of the quota tools, where that is installed and a file system may be
-# mounted: one of a known user, of a new one and of one whose record goes, in the tree file of the users 0 to 999,999 and in a
-# full flat file, and `setquota -b` of 1,000 lines for known users, which are made in place one after another (edits.sh has
-# more lines, which are made together). Both work on a file system of ext4 in a file, which is mounted for it with quotas off, in
-# turn: the best of five times each, a batch once. The tool checks and syncs nothing.
-maker=make_tree_file.py
+# Measures changes beside those of the `setquota` of the quota tools, where that is installed and a file system may be mounted.
+# They are one of a known user, of a new one and of one whose record goes, in the tree file of the users 0 to 999,999 and in a
+# full flat file; and `setquota -b` of 1,000 lines for known users, which are made in place one after another (edits.sh has
+# more lines, which are made together). Both work on a file system of ext4 in a file, which is mounted for it with quotas off,
+# in turn: the best of five times each, a batch once. The tool checks and syncs nothing.
+large=tree
 . "$(dirname "${BASH_SOURCE[0]}")/measure.sh"
 
 mount_image
@@ -44,6 +44,6 @@ changes() {
 }
 
 changes vfsv1 aquota.user known new leaving
-maker=make_flat_file.py
+large=flat
 make_file
 changes vfsold quota.user known leaving

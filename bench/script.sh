@@ -3,7 +3,7 @@
 # and beside the same lines by `setquota -b`, which makes them together: their seconds and ratios, and how many calls of the
 # system sync a line of each.
 # Then what a sync costs: the script again, over a folder in memory.
-maker=make_flat_file.py
+large=flat
 . "$(dirname "${BASH_SOURCE[0]}")/measure.sh"
 rm q dump
 seq 1000 | awk '{ print $1, 100, 1, $1, 8 }' >listing

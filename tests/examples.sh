@@ -1,8 +1,9 @@
 #!/usr/bin/env bash
-# Goes through all that README.md and its neighbours, docs/*.md and the manual pages show: each display, and what in their text a
-# reader may type or the program says; and through the examples of the help, and of that of each command. Each is run, and what
-# comes of it compared with what stands there; or it is looked at as its rule below says. What no rule knows fails, by its file
-# and line, so that nothing is shown that nobody tries. Ends with status 1 where something differs.
+# Goes through all that README.md and its neighbours, the README.md of each folder, docs/*.md and the manual pages show: each
+# display, and what in their text a reader may type or the program says; and through the examples of the help, and of that of
+# each command. Each is run, and what comes of it compared with what stands there; or it is looked at as its rule below says.
+# What no rule knows fails, by its file and line, so that nothing is shown that nobody tries. Ends with status 1 where
+# something differs.
 #
 # What cannot be run as it stands is run with these changes:
 # - /home, /root, /etc/passwd, /etc/group and /etc/projid are folders and files of this test. In /home are quota files of users, of
@@ -22,7 +23,7 @@ shopt -s inherit_errexit
 trap 'echo "examples: line $LINENO failed at ${document-}:${line-}: $BASH_COMMAND" >&2' ERR
 top=$(cd "$(dirname "${BASH_SOURCE[0]}")/.." && pwd)
 client=$top/tests/serve_client.py
-list=$("$top/bin/programs")
+list=$("$top/tools/programs")
 folder=$(mktemp -d)
 trap 'rm -rf "$folder"' EXIT
 cd "$folder"
@@ -83,11 +84,11 @@ units() {
         awk "$unit"'
             function between(line, text) {
                 gsub(/ +/, " ", text)
-                if (text ~ / |^-[[:alpha:]-]|^(bin|bench|docs|samples|tests|[.]ci)\//) unit(line, "words", text)
+                if (text ~ / |^-[[:alpha:]-]|^(bin|bench|docs|samples|tests|tools|[.]ci)\//) unit(line, "words", text)
             }
             /^ *```/ && !inside { inside = 1; from = NR + 1; indent = index($0, "`"); text = ""; next }
             /^ *```/ {
-                before = before == "display" ? "output" : before ~ /^<!-- .* by bin\/layers -->/ ? "drawn" : "display"
+                before = before == "display" ? "output" : before ~ /^<!-- .* by tools\/layers -->/ ? "drawn" : "display"
                 column = inside = 0
                 unit(from, before, text)
                 next
@@ -234,6 +235,11 @@ prepare() {
     if [[ $text == *'--input form'* ]]; then
         quota_cli edquota "${options[@]}" --print alice "$file" >"$place/form"
         editor "$place/form"
+    fi
+    # (a copy that is put back is that of a file that has other limits since)
+    if [[ $text == *'cp -p /root/aquota.user.old '* ]]; then
+        cp -p "$file" "$place/root/aquota.$kind.old"
+        quota_cli setquota "${options[@]}" alice 5 6 7 8 "$file"
     fi
 }
 # as FORMAT FILE: converts a file of the kind at hand into a format.
@@ -613,14 +619,14 @@ timer_of_mail() {
 wrong_body() {
     local body
     rm -rf copy
-    mkdir -p copy/bench copy/crates/set_edit/wrong-bodies
-    cp "$top/bench/wrong_bodies.sh" copy/bench/
+    mkdir -p copy/tests copy/crates/set_edit/wrong-bodies
+    cp "$top/tests/wrong_bodies.sh" copy/tests/
     cp -r "$top/crates/set_edit/src" copy/crates/set_edit/
     body=$(grep -h '^(true, ' unit.* || true)
     sed -i "/(true, b'T') => /a $body" copy/crates/set_edit/src/number.rt
     echo "$text" >copy/crates/set_edit/wrong-bodies/it.edit
     echo 'wrong_bodies: 1 of 1 can be applied' >wanted
-    copy/bench/wrong_bodies.sh --look | sed '/^$/d' >got || true
+    copy/tests/wrong_bodies.sh --look | sed '/^$/d' >got || true
     same "$line" 'it cannot be applied'
 }
 
@@ -699,6 +705,7 @@ known_to_rt() {
 
 # display: the rule for the display at hand.
 display() {
+    local run
     if [ "$next_kind" = output ]; then
         compared
         return
@@ -727,7 +734,10 @@ display() {
         *)
             case $document/$heading in
                 # what a script of bench/ printed
-                docs/MEASURED.md/bench/*.sh) in_repository "$heading" ;;
+                docs/MEASURED.md/bench/*)
+                    read -ra run <<<"$heading"
+                    in_repository "${run[@]}"
+                    ;;
                 docs/quota_cli.8/'EXIT STATUS') quoted 'quota: ' ;;
                 *.[1-9]/*) quoted '' ;;
                 *) wrong "$line" 'no rule of tests/examples.sh knows this display' ;;
@@ -788,7 +798,7 @@ theirs() {
 : >shown
 : >quotes
 cd "$top"
-documents=(*.md docs/*.*)
+documents=(*.md */README.md docs/*.*)
 cd "$folder"
 documents+=('quota_cli --help')
 while read -r it; do documents+=("quota_cli $it --help"); done < <(grep -oE '^  [a-z]+' help | sort -u)
@@ -803,7 +813,7 @@ for document in "${documents[@]}"; do
         case $unit_kind in
             display) display ;;
             words) words ;;
-            # (an output is looked at with its display, and the picture of the crates by bin/layers --check)
+            # (an output is looked at with its display, and the picture of the crates by tools/layers --check)
             output | drawn) ;;
             *) wrong "$line" 'tests/examples.sh does not read displays of this form' ;;
         esac

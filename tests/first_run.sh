@@ -1,12 +1,12 @@
 #!/usr/bin/env bash
-# Looks at how the first run proves and builds a program (bin/build, bin/prove_crate, and the script in bin/ of each program of
-# programs.txt), in a repository of four small crates and with a stand-in for `rt`, so it takes seconds and proves nothing.
-# Ends with status 1 where it does otherwise.
+# Looks at how the first run proves and builds a program (bin/build, tools/prove_crate, and the script in bin/ of each
+# program of programs.txt), in a repository of four small crates and with a stand-in for `rt`, so it takes seconds and
+# proves nothing. Ends with status 1 where it does otherwise.
 set -Eeuo pipefail
 shopt -s inherit_errexit
 trap 'echo "first_run: line $LINENO failed: $BASH_COMMAND" >&2' ERR
 top=$(cd "$(dirname "${BASH_SOURCE[0]}")/.." && pwd)
-list=$("$top/bin/programs")
+list=$("$top/tools/programs")
 folder=$(mktemp -d)
 trap 'rm -rf "$folder"' EXIT
 failed=0
@@ -24,9 +24,10 @@ same() {
 repository() {
     local it crate name
     rm -rf "$folder/the repository"
-    mkdir -p "$folder/the repository/bin"
+    mkdir -p "$folder/the repository/bin" "$folder/the repository/tools"
     cd "$folder/the repository"
-    cp "$top/bin/build" "$top/bin/prove_crate" bin/
+    cp "$top/bin/build" bin/
+    cp "$top/tools/prove_crate" tools/
     printf '%s\n' '# The crates.' low: middle: high: 'over: low high arrayvec' other: \
         'further_program: low other over high middle' >crates.txt
     for it in low middle high over other further_program; do

@@ -32,7 +32,7 @@ works() {
 line='#1000 -- 3145728 6291456 7340032 - 84213 160000 200000 -'
 
 # The programs, and what the list has of each, by its name. This builds those that are stale, and shows how.
-list=$("$top/bin/programs")
+list=$("$top/tools/programs")
 names=()
 pages=()
 declare -A folder_of=() pages_of=()
@@ -100,9 +100,12 @@ named() {
         while IFS= read -r it; do
             it=${it%.}
             if [ ! -e "$1$it" ]; then echo "${file##*/} names $it"; fi
-        done < <(grep -oE "$2/(share/doc|s?bin/quota_cli)[^]\`'\" ,:;()]*" text || true)
-        if grep -E '(^|[^/])(samples/|tests/serve_client|docs/(quota_|COMMANDS|COMING|FORMATS|PROMISES))' text; then
+        done < <(grep -oE "$2/(share/doc|s?bin/quota_cli|s?bin/rquotad_tcp)[^]\`'\" ,:;()]*" text || true)
+        if grep -E '(^|[^/])(samples/|tests/serve_client|docs/(r?quota|COMMANDS|COMING|FORMATS|PROMISES))' text; then
             echo "${file##*/} names the repository"
+        fi
+        if grep -E '(^|[^[:alnum:]])/usr/local/s?bin/(quota_cli|rquotad_tcp)' text; then
+            echo "${file##*/} names a program where it is not installed"
         fi
     done
 }
@@ -200,7 +203,7 @@ got=0
 "$top/bin/install" --all >said 2>err || got=$?
 same 'an unknown option' "$got $(cat err)" '2 install: usage: bin/install [--remove] [PREFIX]'
 mkdir copy
-cp -r "$top"/{bin,docs,crates.txt,programs.txt} copy/
+cp -r "$top"/{bin,docs,tools,crates.txt,programs.txt} copy/
 while read -r crate _; do
     mkdir -p "copy/crates/$crate/src"
     touch "copy/crates/$crate/src/main.rt"

@@ -6,7 +6,7 @@ set -Eeuo pipefail
 shopt -s inherit_errexit
 trap 'echo "manual: line $LINENO failed: $BASH_COMMAND" >&2' ERR
 top=$(cd "$(dirname "${BASH_SOURCE[0]}")/.." && pwd)
-list=$("$top/bin/programs")
+list=$("$top/tools/programs")
 folder=$(mktemp -d)
 trap 'rm -rf "$folder"' EXIT
 cd "$folder"

@@ -31,7 +31,7 @@ repository() {
     local crate
     rm -rf copy
     mkdir copy
-    cp -r "$top"/{bin,docs,samples,tests,crates.txt,programs.txt} "$top"/*.md copy/
+    cp -r "$top"/{bin,docs,samples,tests,tools,crates.txt,programs.txt} "$top"/*.md copy/
     cd copy
     while read -r crate _; do
         mkdir -p "crates/$crate/src"
@@ -52,7 +52,7 @@ repository() {
 # all_refuse WHAT SAID: whatever goes over the programs says this of the copy as it is, and ends badly.
 all_refuse() {
     local it got
-    for it in bin/programs bin/install bin/package bin/layers 'bin/layers --check' \
+    for it in tools/programs bin/install bin/package tools/layers 'tools/layers --check' \
         tests/first_run.sh tests/install.sh tests/manual.sh tests/examples.sh; do
         got=0
         # (of its words none has a blank)
@@ -62,7 +62,7 @@ all_refuse() {
     done
 }
 
-list=$("$top/bin/programs")
+list=$("$top/tools/programs")
 
 # Something is missing.
 repository
@@ -106,9 +106,9 @@ same 'nothing was proved' "$(cat asked 2>/dev/null || true)" ''
 # A whole one.
 repository
 cd copy
-same 'the programs' "$(bin/programs)" "$list
+same 'the programs' "$(tools/programs)" "$list
 second_program second bin second.1"
-same 'the picture of the crates has it' "$(bin/layers && sed -n '/^```/,/^for tests alone/p' docs/ARCHITECTURE.md | grep -cw second_program)" 1
+same 'the picture of the crates has it' "$(tools/layers && sed -n '/^```/,/^for tests alone/p' docs/ARCHITECTURE.md | grep -cw second_program)" 1
 same 'it is not built' "$(bin/build --look second || echo stale)" stale
 mkdir crates/second_program/out
 printf '#!/bin/sh\necho "second 0.1.0"\n' >crates/second_program/out/second_program

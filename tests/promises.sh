@@ -209,7 +209,7 @@ def look_at_files(path):
         if not line.startswith("| "):
             continue
         for token in re.findall(r"`([^`]*)`", line):
-            if re.fullmatch(r"(?:[\w.]+/)*\w+\.(?:rt|antt|md|sh|py|txt|bash)|(?:bin|tests|bench|docs)/\w+", token):
+            if re.fullmatch(r"(?:[\w.]+/)*\w+\.(?:rt|antt|md|sh|py|txt|bash)|(?:bin|tests|bench|tools|docs)/\w+", token):
                 if not is_file(token, USES):
                     yield f"{path}:{number}: {token}"
 

@@ -66,14 +66,14 @@ gate() { od -An -tu1 -N1 "$1.undo" | tr -d ' '; }
 # open_gate FILE: leaves a file as a change that was stopped leaves it, whose first 600 bytes are overwritten and which has
 # grown by a block, with an open gate.
 open_gate() {
-    python3 - "$1" <<'PY'
-import struct, sys
+    PYTHONPATH=$top/tests python3 -B - "$1" <<'PY'
+import sys
+from quota_files import BLOCK, undo_file
 with open(sys.argv[1], "r+b") as file:
     old = file.read()
     with open(sys.argv[1] + ".undo", "wb") as undo:
-        undo.write(struct.pack("<B7xQI1004x", 1, len(old), 2))
-        undo.write(struct.pack("<QH6x600s424x", 0, 600, old[:600]))
-        undo.write(struct.pack("<QH6x", len(old), 0))
+        # (the last range saves nothing, so the file ends behind its head)
+        undo.write(undo_file(len(old), [(0, old[:600].ljust(600, b"\0")), (len(old), b"")])[:-BLOCK])
     file.seek(0)
     file.write(b"x" * 600)
     file.seek(len(old))

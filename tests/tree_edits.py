@@ -1,6 +1,6 @@
 #!/usr/bin/env python3
 """Random edits of a tree file by `setquota` and `edquota`, whose outcome is compared with a map, by a reader of its own
-(plain_reader.py).
+(quota_files.py).
 
 tree_edits.py PROGRAM FORMAT SEED ROUNDS LINES RUNS FORMS all|kept [FILE]
     Makes a file of that format in the current folder, or a copy of FILE, whose users get new limits first. Changes it in
@@ -18,7 +18,7 @@ import shutil
 import subprocess
 import sys
 
-from plain_reader import BLOCK, Refused, Tree, Unsound
+from quota_files import BLOCK, Refused, Tree, Unsound
 
 FILE = "edited"
 
@@ -68,7 +68,7 @@ class Edited:
             os.chown(FILE, 65534, 65534)
         # An undo file that saves nothing is there, as the first edit would make it beside the file.
         with open(FILE + ".undo", "wb") as undo:
-            undo.write(bytes(1024))
+            undo.write(bytes(BLOCK))
         os.chmod(FILE + ".undo", 0o640)
         if os.geteuid() == 0:
             os.chown(FILE + ".undo", 65534, 65534)

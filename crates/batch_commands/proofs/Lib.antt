@@ -10,5 +10,6 @@ pub mod ReachLemmas
 pub mod ReadsLemmas
 pub mod RefusedLemmas
 pub mod SoundLemmas
+pub mod FirstChangeLemmas
 pub mod TogetherLemmas
 pub mod WantingLemmas

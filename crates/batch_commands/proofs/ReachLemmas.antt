@@ -9,8 +9,10 @@ use Rattle.batch_commands.specs.Batch.{record_end}
 use Rattle.batch_commands.specs.declared.batch_line.LineEdit.{LineEdit}
 
 -- with one line more they are within the greater of two numbers
-pub reach_more : (format : Format) (lines : List LineEdit) (at most more end : ℕ) (line : LineEdit) → at < length lines → end ≡ record_end format (get_or lines at line).id → more ≡ max most end
-    → AllWithin (λ (other : LineEdit). record_end format other.id ≤ most) lines 0 at → AllWithin (λ (other : LineEdit). record_end format other.id ≤ more) lines 0 (at + 1)
+pub reach_more : (format : Format) (lines : List LineEdit) (at most more end : ℕ) (line : LineEdit) → at < length lines
+    → end ≡ record_end format (get_or lines at line).id → more ≡ max most end
+    → AllWithin (λ (other : LineEdit). record_end format other.id ≤ most) lines 0 at
+    → AllWithin (λ (other : LineEdit). record_end format other.id ≤ more) lines 0 (at + 1)
 reach_more format lines at most more end line low is greater held = λ k other from upto. elim (cases_lt k at) [
   | inl before ↦
       let old : record_end format (get_or lines k other).id ≤ most = held k other from before in
@@ -23,7 +25,8 @@ reach_more format lines at most more end line low is greater held = λ k other f
 ]
 
 -- which is the least one
-pub reach_least : (format : Format) (lines : List LineEdit) (at most more end room : ℕ) (line : LineEdit) → at < length lines → end ≡ record_end format (get_or lines at line).id → more ≡ max most end
+pub reach_least : (format : Format) (lines : List LineEdit) (at most more end room : ℕ) (line : LineEdit)
+    → at < length lines → end ≡ record_end format (get_or lines at line).id → more ≡ max most end
     → most ≤ room → All (λ (other : LineEdit). record_end format other.id ≤ room) lines → more ≤ room
 reach_least format lines at most more end room line low is greater few all =
     let here : record_end format (get_or lines at line).id ≤ room = all at line low in

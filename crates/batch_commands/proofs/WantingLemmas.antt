@@ -25,19 +25,24 @@ wants_none (File NoMemory) wants is = absurd wants
 wants_none (Unfit out) wants is = cc
 
 -- what was not refused for lack of memory
-pub wanting_never : (result : Result (Unit {0}) Refusal) (fact : Type 0) → IfErr result (λ (refusal : Refusal). refusal.cause ≢ Memory) → IfWanting fact result
+pub wanting_never : (result : Result (Unit {0}) Refusal) (fact : Type 0)
+    → IfErr result (λ (refusal : Refusal). refusal.cause ≢ Memory) → IfWanting fact result
 wanting_never (Ok passed) fact none = tt
 wanting_never (Err refusal) fact none = λ is. absurd (none is)
 
 -- nothing was written, and then again nothing
-pub unwritten_both : (old middle new : StoreSeen) → IsUnwritten old middle → IsUnwritten middle new → IsUnwritten old new
-unwritten_both old middle new first then = record { files = then.files ∙ first.files; writes = then.writes ∙ first.writes }
+pub unwritten_both : (old middle new : StoreSeen) → IsUnwritten old middle → IsUnwritten middle new
+    → IsUnwritten old new
+unwritten_both old middle new first then =
+    record { files = then.files ∙ first.files; writes = then.writes ∙ first.writes }
 
 -- nothing was written before either
-pub wanting_since : (result : Result (Unit {0}) Refusal) (old middle new : StoreSeen) → IsUnwritten old middle → IfWanting (IsUnwritten middle new) result → IfWanting (IsUnwritten old new) result
+pub wanting_since : (result : Result (Unit {0}) Refusal) (old middle new : StoreSeen) → IsUnwritten old middle
+    → IfWanting (IsUnwritten middle new) result → IfWanting (IsUnwritten old new) result
 wanting_since (Ok passed) old middle new first wanting = tt
 wanting_since (Err refusal) old middle new first wanting = λ is. unwritten_both old middle new first (wanting is)
 
 -- a line is not refused for lack of memory
-pub line_wants : (names : List NameLine) (place : List ℕ) (cause : Cause) (said : List ℕ) → LineMayRefuse names place cause said → cause ≢ Memory
+pub line_wants : (names : List NameLine) (place : List ℕ) (cause : Cause) (said : List ℕ)
+    → LineMayRefuse names place cause said → cause ≢ Memory
 line_wants names place cause said may is = subst (λ (c : Cause). LineMayRefuse names place c said) is may

@@ -1,6 +1,7 @@
--- `setquota -b`: new limits of many identifiers, a line of an input each. Source: the manual page of setquota; what stands in
--- a line, and that the edits of the lines before a refused one stay, is this project's own.
-use Rattle.std.specs.Prelude.{◌≡◌, ◌⊎◌, ⊤, ℕ, ◌+◌, ◌*◌, ◌<◌, ◌≤◌, ◌&&◌, All, IsTrue, length, nat_le, nat_lt, Bool, true, false, if◌then◌else◌, List, [], ◌∷◌, Option, Some, None, is_none}
+-- `setquota -b`: new limits of many identifiers, a line of an input each. Source: the manual page of setquota; what
+-- stands in a line, and that the edits of the lines before a refused one stay, is this project's own.
+use Rattle.std.specs.Prelude.{◌≡◌, ◌⊎◌, ⊤, ℕ, ◌+◌, ◌*◌, ◌<◌, ◌≤◌, All, IsTrue, length, Bool, true, false, if◌then◌else◌}
+use Rattle.std.specs.Prelude.{List, [], ◌∷◌, Option, Some, None, is_none}
 use Rattle.std.specs.List.{list_all}
 use Rattle.std.specs.Str.{is_utf8}
 use Rattle.id_names.specs.NamesFile.{NameLine}
@@ -10,7 +11,6 @@ use Rattle.input_text.specs.InputLines.{InputLines, NoLine, LineThen, LongNext, 
 use Rattle.quota_value.specs.QuotaValue.{QuotaValue}
 use Rattle.input_text.specs.Words.{words_of}
 use Rattle.file_blocks.specs.Block.{file_of}
-use Rattle.opened_file.specs.Replace.{pieces_of}
 use Rattle.outside.specs.World.{World}
 use Rattle.quota_map.specs.Asked.{AnyTree, Asked, InFormat, asked_of}
 use Rattle.quota_map.specs.View.{most_blocks, opening_reads, asks_tree}
@@ -45,7 +45,11 @@ line_named number cause = if stands_in_line cause then Some number else None
 -- a refusal that is met at a line of the input
 abbrev pub at_line : ℕ → Refusal → Refusal
 at_line number refusal =
-    record { cause = refusal.cause; name = refusal.name; place = record { line = None; input_line = line_named number refusal.cause } }
+    record {
+      cause = refusal.cause;
+      name = refusal.name;
+      place = record { line = None; input_line = line_named number refusal.cause };
+    }
 
 -- the outcome of an edit that is met at a line of the input
 abbrev pub met_at : {V : Type 0} → ℕ → Outcome V → Outcome V
@@ -54,8 +58,8 @@ met_at number (Refused refusal) = Refused (at_line number refusal)
 
 -- What a line says.
 
--- The five words of a line, that for an identifier and those for its four limits. Each has to be UTF-8, and so is the line
--- then, since a blank is no part of a longer character.
+-- The five words of a line, that for an identifier and those for its four limits. Each has to be UTF-8, and so is the
+-- line then, since a blank is no part of a longer character.
 abbrev pub five_of : List (List ℕ) → Option FiveWords
 five_of (name ∷ bsoft ∷ bhard ∷ isoft ∷ ihard ∷ []) =
     if list_all is_utf8 (name ∷ bsoft ∷ bhard ∷ isoft ∷ ihard ∷ [])
@@ -105,7 +109,8 @@ asks_then (Refused refusal) more = ends_with (Some refusal)
 -- what lines ask for, of which the first has this number, in an input of this name
 abbrev pub lines_ask : List NameLine → List ℕ → ℕ → InputLines → AskedEdits
 lines_ask names place number NoLine = ends_with None
-lines_ask names place number (LineThen line more) = asks_then (line_asks names place number line) (lines_ask names place (number + 1) more)
+lines_ask names place number (LineThen line more) =
+    asks_then (line_asks names place number line) (lines_ask names place (number + 1) more)
 lines_ask names place number LongNext = ends_with (Some (refusal_of (LongLine number) place))
 lines_ask names place number PastNext = ends_with (Some (refusal_of TooLarge place))
 
@@ -138,14 +143,15 @@ abbrev pub way_behind : Way → (idle : Bool) → Way
 way_behind (Together others) false = Behind
 way_behind way idle = way
 
--- Edits are done, the first one in this way, each in the file as the ones before it left it, up to one that is refused; and behind the
--- last one comes this refusal, if there is one.
+-- Edits are done, the first one in this way, each in the file as the ones before it left it, up to one that is refused;
+-- and behind the last one comes this refusal, if there is one.
 abbrev pub EditsThen : Way → List ℕ → ℕ → List LineEdit → QuotaValue → Option Refusal → Steps
 EditsThen way name now [] value behind = Ending behind
 EditsThen way name now (line ∷ lines) value behind =
     Looking (λ (files : World).
     Then (met_at line.number (edit_step way name (edit_of line now) (files name) value)) (λ (acts : List Act).
-    DoingAll acts (EditsThen (way_behind way ((edit_of line now).is_idle value)) name now lines (value_left ((edit_of line now).edited value) value) behind)))
+    DoingAll acts (EditsThen (way_behind way ((edit_of line now).is_idle value)) name now lines
+    (value_left ((edit_of line now).edited value) value) behind)))
 
 -- edits are done, up to one that is refused, and then comes the refusal of the line behind them
 abbrev pub Applying : List ℕ → ℕ → QuotaValue → AskedEdits → Steps
@@ -174,9 +180,9 @@ abbrev pub AreWithin : Asked → List LineEdit → (room : ℕ) → Type 0
 AreWithin AnyTree lines room = ⊤
 AreWithin (InFormat format) lines room = All (λ (line : LineEdit). record_end format line.id ≤ room) lines
 
--- So many lines leave room in a file of this length, which is no tree file, or with 4,096 bytes for each of them, and for two more, has
--- fewer bytes than the most blocks that it may have. (What a line needs that is refused counts as one more, and as another one what a file
--- may lack of its header and its root.)
+-- So many lines leave room in a file of this length, which is no tree file, or with 4,096 bytes for each of them, and
+-- for two more, has fewer bytes than the most blocks that it may have. (What a line needs that is refused counts as one
+-- more, and as another one what a file may lack of its header and its root.)
 abbrev pub LeaveRoom : Asked → (count length : ℕ) → Type 0
 LeaveRoom asked count length = IsTrue (asks_tree asked) → length + 4096 * (2 + count) < 1024 * most_blocks
 
@@ -189,7 +195,8 @@ abbrev pub if_neither : (names from : Option (List ℕ)) → ℕ → Option ℕ
 if_neither None None reads = Some reads
 if_neither names from reads = None
 
--- how many calls of `read` lines of the standard input make at most, the opening of the file with them, where there are no names
+-- how many calls of `read` lines of the standard input make at most, the opening of the file with them, where there are
+-- no names
 abbrev pub batch_reads : Common → Option (List ℕ) → List ℕ → World → (bytes : List ℕ) → Option ℕ
 batch_reads common from file files bytes =
     if_neither common.names from
@@ -197,7 +204,16 @@ batch_reads common from file files bytes =
 
 -- edits of lines change the store, and those before a refused one stay
 abbrev pub line_uses : Uses
-line_uses = record { input = false; out = false; link = false; changes = true; all_or_nothing = false; warns = false; reads_commands = false; reads_edits = true }
+line_uses = record {
+  input = false;
+  out = false;
+  link = false;
+  changes = true;
+  all_or_nothing = false;
+  warns = false;
+  reads_commands = false;
+  reads_edits = true;
+}
 
 -- lines that are read from an input use it, and change the store by their edits
 abbrev pub batch_uses : Option (List ℕ) → Uses
@@ -231,4 +247,5 @@ NamedBatchMayRefuse asked from file names cause name =
 abbrev pub BatchMayRefuse : Common → Option (List ℕ) → List ℕ → Cause → List ℕ → Type 0
 BatchMayRefuse common from file cause name =
     NamesMayRefuse common.names cause name
-    ⊎ ((names : List NameLine) × MayBeNames common.names names × NamedBatchMayRefuse (asked_of common.format) from file names cause name)
+    ⊎ ((names : List NameLine) × MayBeNames common.names names
+    × NamedBatchMayRefuse (asked_of common.format) from file names cause name)

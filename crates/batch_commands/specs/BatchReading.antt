@@ -13,7 +13,8 @@ use Rattle.batch_commands.specs.declared.batch_input.InputFault.{InputFault}
 use Rattle.batch_commands.specs.declared.batch_input.InputFault.TheVariants.{Source, Memory as NoMemory}
 use Rattle.batch_commands.specs.declared.batch_line.LineEdit.{LineEdit}
 use Rattle.batch_commands.specs.declared.batch_line.BatchLineRead.{BatchLineRead}
-use Rattle.batch_commands.specs.declared.batch_line.BatchLineRead.TheVariants.{Nothing, Edit as Found, Refused as Faulty}
+use Rattle.batch_commands.specs.declared.batch_line.BatchLineRead.TheVariants.{Nothing, Edit as Found}
+use Rattle.batch_commands.specs.declared.batch_line.BatchLineRead.TheVariants.{Refused as Faulty}
 use Rattle.batch_commands.specs.Batch.{AskedEdits, ends_with, asks_then, EditsThen, LineMayRefuse}
 
 -- the answer that says so
@@ -43,7 +44,8 @@ input_cause NoMemory failed = Memory
 abbrev pub LineSteps : Way → List ℕ → ℕ → List LineEdit → QuotaValue → Steps
 LineSteps way file now edits value = EditsThen way file now edits value None
 
--- A refusal that a line may have. It stands in no line of a script, and in none of an input unless its cause may stand in one.
+-- A refusal that a line may have. It stands in no line of a script, and in none of an input unless its cause may stand
+-- in one.
 pub record IsOfInputLine (names : List NameLine) (place : List ℕ) (refusal : Refusal) : Type 0 where
   pub may : LineMayRefuse names place refusal.cause refusal.name
   pub line : refusal.place.line ≡ None

@@ -1,4 +1,5 @@
-ghost use Rattle.std.specs.Prelude.{ℕ, ◌+◌, ◌*◌, ◌≤◌, List, Option, None, ◌≡◌, ◌≢◌, Bool, Ok, false, IfErr, IsSome, IsTrue, OnOk, length, is_ok};
+ghost use Rattle.std.specs.Prelude.{ℕ, ◌+◌, ◌*◌, ◌≤◌, List, Option, None, ◌≡◌, ◌≢◌, Bool, Ok, false, IfErr, IsSome};
+ghost use Rattle.std.specs.Prelude.{IsTrue, OnOk, length, is_ok};
 ghost use Rattle.file_blocks.specs.Block.{file_of};
 ghost use Rattle.outside.specs.ManyCalls.{Syncs};
 ghost use Rattle.quota_value.specs.QuotaValue.{QuotaValue};
@@ -18,7 +19,9 @@ ghost use Rattle.run_steps.specs.Steps.{Opening};
 ghost use Rattle.run_steps.specs.Taking.{input_said};
 ghost use Rattle.run_steps.specs.Writes.{ReadsWithin};
 ghost use Rattle.batch_commands.specs.AtOnce.{AreMadeTogether, MakeTogether};
-ghost use Rattle.batch_commands.specs.Batch.{AskedEdits, BatchMayRefuse, BatchSteps, LineEditMayRefuse, NamedBatchMayRefuse, ReadSteps, batch_reads, batch_step, batch_uses, input_edits, line_reads, line_uses, way_of};
+ghost use Rattle.batch_commands.specs.Batch.{AskedEdits, BatchMayRefuse, BatchSteps, LineEditMayRefuse};
+ghost use Rattle.batch_commands.specs.Batch.{NamedBatchMayRefuse, ReadSteps, batch_reads, batch_step, batch_uses};
+ghost use Rattle.batch_commands.specs.Batch.{input_edits, line_reads, line_uses, way_of};
 ghost use Rattle.batch_commands.specs.BatchReading.{LineSteps};
 ghost use Rattle.batch_commands.specs.LinesCommitted.{CommitsEach, CommitsFrom};
 ghost use Rattle.batch_commands.specs.Together.{HasMade, IfOwn, IfWanting, refusal_in};
@@ -38,7 +41,8 @@ use run_steps::{opening_cause, read_names};
 use set_edit::set_limits;
 use std::alloc::Global;
 
-/// Sets the limits that lines of an input ask for, up to the first that is refused, at the moment `now` in seconds since 1970.
+/// Sets the limits that lines of an input ask for, up to the first that is refused, at the moment `now` in seconds
+/// since 1970.
 ///
 /// # Errors
 ///
@@ -53,7 +57,8 @@ pub fn apply_lines<S: Store, I: Source>(
     now: u64,
 ) -> Result<(), Refusal>
     ensures carries { (out err : SinkSeen) (link : LinkSeen) (out_tells err_tells link_tells : Bool) (line : Option ℕ)
-        → CarriesOut (BatchSteps common from file (record { now = now; line = line })) (batch_uses from) (BatchMayRefuse common from file)
+        → CarriesOut (BatchSteps common from file (record { now = now; line = line })) (batch_uses from)
+        (BatchMayRefuse common from file)
         (tells_of S.tells I.tells out_tells err_tells link_tells)
         (seen_of (S.seen store.old) (I.seen input.old) out err link)
         (seen_of (S.seen store.new) (I.seen input.new) out err link) result }
@@ -63,18 +68,25 @@ pub fn apply_lines<S: Store, I: Source>(
     ensures others { ReplacesOnly file (S.seen store.old).files (S.seen store.new).files }
     // What was written has been synced where it was done, and where it was not too, unless a call on the store failed.
     ensures synced { IsTrue S.tells → Syncs (is_ok result) (S.seen store.old) (S.seen store.new) }
-    // All that was committed is files that the steps come to, behind some first lines, in which no file has changed but this one and the
-    // one with `.new` added to its name; and where lines are made together those of one moment alone.
+    // All that was committed is files that the steps come to, behind some first lines, in which no file has changed but
+    // this one and the one with `.new` added to its name; and where lines are made together those of one moment alone.
     ensures commits { (datagrams : List Datagram) (line : Option ℕ) → IsTrue S.tells → (from ≡ None → IsTrue I.tells)
         → CommitsSteps
-        (AreMadeTogether common from file now (record { files = (S.seen store.old).files; input = (I.seen input.old).left; datagrams = datagrams }))
-        (is_ok result) (BatchSteps common from file (record { now = now; line = line })) (ReplacesOnly file (S.seen store.old).files)
-        (record { files = (S.seen store.old).files; input = (I.seen input.old).left; datagrams = datagrams }) (S.seen store.new).files
+        (AreMadeTogether common from file now (record {
+          files = (S.seen store.old).files;
+          input = (I.seen input.old).left;
+          datagrams = datagrams;
+        }))
+        (is_ok result) (BatchSteps common from file (record { now = now; line = line }))
+        (ReplacesOnly file (S.seen store.old).files)
+        (record { files = (S.seen store.old).files; input = (I.seen input.old).left; datagrams = datagrams })
+        (S.seen store.new).files
         (λ worlds. S.commits worlds store.old store.new) }
-    // Where it was done without a file of names, and out of the standard input, no more was read than the opening of the file takes,
-    // and seventeen blocks for each line that asks for an edit.
+    // Where it was done without a file of names, and out of the standard input, no more was read than the opening of
+    // the file takes, and seventeen blocks for each line that asks for an edit.
     ensures reads { OnOk result (IsTrue S.tells → IsTrue I.tells
-        → ReadsWithin (batch_reads common from file (S.seen store.old).files (I.seen input.old).left) (S.seen store.old) (S.seen store.new)) }
+        → ReadsWithin (batch_reads common from file (S.seen store.old).files (I.seen input.old).left) (S.seen store.old)
+        (S.seen store.new)) }
     ensures untouched { IsSome from → input.new ≡ input.old }
     ensures keeps { I.keeps false input.old input.new }
 {
@@ -116,10 +128,13 @@ fn apply_named<S: Store, I: Source>(
         → (asked : AskedEdits)
         → input_said from (batch_step names.now from) (S.seen store.old).files (I.seen input.old).left ≡ Passed asked
         → MakeTogether (asked_of format) file now asked.edits (S.seen store.old).files value)
-        (is_ok result) (Opening kind (asked_of format) file (ReadSteps names.now from file now)) (ReplacesOnly file (S.seen store.old).files)
-        (record { files = (S.seen store.old).files; input = (I.seen input.old).left; datagrams = datagrams }) (S.seen store.new).files
+        (is_ok result) (Opening kind (asked_of format) file (ReadSteps names.now from file now))
+        (ReplacesOnly file (S.seen store.old).files)
+        (record { files = (S.seen store.old).files; input = (I.seen input.old).left; datagrams = datagrams })
+        (S.seen store.new).files
         (λ worlds. S.commits worlds store.old store.new) }
-    ensures reads { from ≡ None → OnOk result (IsTrue S.tells → IsTrue I.tells → (S.seen store.new).reads ≤ (S.seen store.old).reads
+    ensures reads { from ≡ None
+        → OnOk result (IsTrue S.tells → IsTrue I.tells → (S.seen store.new).reads ≤ (S.seen store.old).reads
         + (opening_reads (asked_of format) (file_of (S.seen store.old).files file)
         + line_reads (input_edits names.now (I.seen input.old).left))) }
     ensures untouched { IsSome from → input.new ≡ input.old }
@@ -146,12 +161,14 @@ fn apply_opened<S: Store, I: Source>(
     input: &mut I,
     now: u64,
 ) -> Result<(), Refusal>
-    requires { ⟦<AnyFile as QuotaFile<S>>⟧.seen opened ≡ fresh_seen file (⟦<AnyFile as QuotaFile<S>>⟧.seen opened).format }
+    requires { ⟦<AnyFile as QuotaFile<S>>⟧.seen opened
+        ≡ fresh_seen file (⟦<AnyFile as QuotaFile<S>>⟧.seen opened).format }
     ensures carries { IsOpenedAs (asked_of format) (⟦<AnyFile as QuotaFile<S>>⟧.seen opened).format
         → (value : QuotaValue) → (IsTrue S.tells → ⟦<AnyFile as QuotaFile<S>>⟧.holds opened store.old value)
         → (IsTrue S.tells → IsView ((S.seen store.old).files file) kind (asked_of format) (Ok value))
         → (out err : SinkSeen) (link : LinkSeen) (out_tells err_tells link_tells : Bool)
-        → CarriesOut (ReadSteps names.now from file now value) (batch_uses from) (NamedBatchMayRefuse (asked_of format) from file names.now)
+        → CarriesOut (ReadSteps names.now from file now value) (batch_uses from)
+        (NamedBatchMayRefuse (asked_of format) from file names.now)
         (tells_of S.tells I.tells out_tells err_tells link_tells)
         (seen_of (S.seen store.old) (I.seen input.old) out err link)
         (seen_of (S.seen store.new) (I.seen input.new) out err link) result }
@@ -162,10 +179,12 @@ fn apply_opened<S: Store, I: Source>(
         → (value : QuotaValue) → ⟦<AnyFile as QuotaFile<S>>⟧.holds opened store.old value
         → IsView ((S.seen store.old).files file) kind (asked_of format) (Ok value)
         → CommitsSteps
-        ((asked : AskedEdits) → input_said from (batch_step names.now from) (S.seen store.old).files (I.seen input.old).left ≡ Passed asked
+        ((asked : AskedEdits)
+        → input_said from (batch_step names.now from) (S.seen store.old).files (I.seen input.old).left ≡ Passed asked
         → MakeTogether (asked_of format) file now asked.edits (S.seen store.old).files value)
         (is_ok result) (ReadSteps names.now from file now value) (ReplacesOnly file (S.seen store.old).files)
-        (record { files = (S.seen store.old).files; input = (I.seen input.old).left; datagrams = datagrams }) (S.seen store.new).files
+        (record { files = (S.seen store.old).files; input = (I.seen input.old).left; datagrams = datagrams })
+        (S.seen store.new).files
         (λ worlds. S.commits worlds store.old store.new) }
     ensures reads { IsOpenedAs (asked_of format) (⟦<AnyFile as QuotaFile<S>>⟧.seen opened).format
         → (value : QuotaValue) → (IsTrue S.tells → ⟦<AnyFile as QuotaFile<S>>⟧.holds opened store.old value)
@@ -200,8 +219,8 @@ fn apply_opened<S: Store, I: Source>(
     }
 }
 
-/// Sets the limits that lines ask for in an opened file of this name, up to the first edit that is refused: by one replacement of the
-/// file where that pays, and otherwise in its place, one line after another.
+/// Sets the limits that lines ask for in an opened file of this name, up to the first edit that is refused: by one
+/// replacement of the file where that pays, and otherwise in its place, one line after another.
 fn edit_lines<S: Store>(
     alloc: Global,
     kind: Kind,
@@ -212,11 +231,13 @@ fn edit_lines<S: Store>(
     store: &mut S,
     now: u64,
 ) -> Result<(), Refusal>
-    requires { ⟦<AnyFile as QuotaFile<S>>⟧.seen opened ≡ fresh_seen file (⟦<AnyFile as QuotaFile<S>>⟧.seen opened).format }
+    requires { ⟦<AnyFile as QuotaFile<S>>⟧.seen opened
+        ≡ fresh_seen file (⟦<AnyFile as QuotaFile<S>>⟧.seen opened).format }
     ensures carries { IsOpenedAs (asked_of format) (⟦<AnyFile as QuotaFile<S>>⟧.seen opened).format
         → (value : QuotaValue) → (IsTrue S.tells → ⟦<AnyFile as QuotaFile<S>>⟧.holds opened store.old value)
         → (IsTrue S.tells → IsView ((S.seen store.old).files file) kind (asked_of format) (Ok value))
-        → (input : SourceSeen) (out err : SinkSeen) (link : LinkSeen) (input_tells out_tells err_tells link_tells : Bool)
+        → (input : SourceSeen) (out err : SinkSeen) (link : LinkSeen)
+        (input_tells out_tells err_tells link_tells : Bool)
         → CarriesOut (LineSteps (way_of lines.now) file now lines.now value) line_uses
         (LineEditMayRefuse (asked_of format) file)
         (tells_of S.tells input_tells out_tells err_tells link_tells)
@@ -228,7 +249,8 @@ fn edit_lines<S: Store>(
     ensures commits { IsTrue S.tells → (value : QuotaValue) → ⟦<AnyFile as QuotaFile<S>>⟧.holds opened store.old value
         → IsView ((S.seen store.old).files file) kind (asked_of format) (Ok value)
         → CommitsFrom (MakeTogether (asked_of format) file now lines.now (S.seen store.old).files value) (is_ok result)
-        (LineSteps (way_of lines.now) file now lines.now value) (ReplacesOnly file (S.seen store.old).files) (S.seen store.old).files (S.seen store.new).files (λ worlds. S.commits worlds store.old store.new) }
+        (LineSteps (way_of lines.now) file now lines.now value) (ReplacesOnly file (S.seen store.old).files)
+        (S.seen store.old).files (S.seen store.new).files (λ worlds. S.commits worlds store.old store.new) }
     ensures reads { IsOpenedAs (asked_of format) (⟦<AnyFile as QuotaFile<S>>⟧.seen opened).format
         → (value : QuotaValue) → (IsTrue S.tells → ⟦<AnyFile as QuotaFile<S>>⟧.holds opened store.old value)
         → (IsTrue S.tells → IsView ((S.seen store.old).files file) kind (asked_of format) (Ok value))
@@ -262,19 +284,23 @@ pub fn edit_all<S: Store>(
     store: &mut S,
     now: u64,
 ) -> EditedLines
-    requires { ⟦<AnyFile as QuotaFile<S>>⟧.seen opened.old ≡ fresh_seen file (⟦<AnyFile as QuotaFile<S>>⟧.seen opened.old).format }
+    requires { ⟦<AnyFile as QuotaFile<S>>⟧.seen opened.old
+        ≡ fresh_seen file (⟦<AnyFile as QuotaFile<S>>⟧.seen opened.old).format }
     ensures carries { (way : Way) (asked : Asked)
         → IsOpenedAs asked (⟦<AnyFile as QuotaFile<S>>⟧.seen opened.old).format
         → (value : QuotaValue) → (IsTrue S.tells → ⟦<AnyFile as QuotaFile<S>>⟧.holds opened.old store.old value)
-        → (input : SourceSeen) (out err : SinkSeen) (link : LinkSeen) (input_tells out_tells err_tells link_tells : Bool)
+        → (input : SourceSeen) (out err : SinkSeen) (link : LinkSeen)
+        (input_tells out_tells err_tells link_tells : Bool)
         → CarriesOut (LineSteps way file now lines.now value) line_uses (LineEditMayRefuse asked file)
         (tells_of S.tells input_tells out_tells err_tells link_tells)
         (seen_of (S.seen store.old) input out err link)
         (seen_of (S.seen store.new) input out err link) result.ended }
     // So many lines were edited as it says, unless it ended since something failed.
-    ensures counted { IsTrue S.tells → (others : ℕ) (value : QuotaValue) → ⟦<AnyFile as QuotaFile<S>>⟧.holds opened.old store.old value
+    ensures counted { IsTrue S.tells → (others : ℕ) (value : QuotaValue)
+        → ⟦<AnyFile as QuotaFile<S>>⟧.holds opened.old store.old value
         → (input : SourceSeen) (out err : SinkSeen) (link : LinkSeen) (tells : RunTells)
-        → IfOwn result.ended (HasMade (LineSteps (Together others) file now lines.now value) tells (refusal_in result.ended) result.made
+        → IfOwn result.ended
+        (HasMade (LineSteps (Together others) file now lines.now value) tells (refusal_in result.ended) result.made
         (seen_of (S.seen store.old) input out err link)
         (seen_of (S.seen store.new) input out err link)) }
     ensures few { result.made ≤ length lines.now }
@@ -282,10 +308,12 @@ pub fn edit_all<S: Store>(
     ensures memory { IfErr result.ended (λ refusal. refusal.cause ≢ Memory) }
     ensures leaves { EditsOne file (S.seen store.old) (S.seen store.new) }
     ensures synced { IsTrue S.tells → Syncs (is_ok result.ended) (S.seen store.old) (S.seen store.new) }
-    // All that was committed is files that the steps of the lines come to, in their order, in which no other file has changed: of so many
-    // moments at most as there are lines.
-    ensures commits { IsTrue S.tells → (way : Way) (value : QuotaValue) → ⟦<AnyFile as QuotaFile<S>>⟧.holds opened.old store.old value
-        → CommitsEach (LineSteps way file now lines.now value) (KeepsOthers file (S.seen store.old).files) (S.seen store.old).files
+    // All that was committed is files that the steps of the lines come to, in their order, in which no other file has
+    // changed: of so many moments at most as there are lines.
+    ensures commits { IsTrue S.tells → (way : Way) (value : QuotaValue)
+        → ⟦<AnyFile as QuotaFile<S>>⟧.holds opened.old store.old value
+        → CommitsEach (LineSteps way file now lines.now value) (KeepsOthers file (S.seen store.old).files)
+        (S.seen store.old).files
         (length lines.now) (λ worlds. S.commits worlds store.old store.new) }
     ensures reads { OnOk result.ended ((S.seen store.new).reads ≤ (S.seen store.old).reads + 17 * length lines.now) }
 {

@@ -1,4 +1,5 @@
-ghost use Rattle.std.specs.Prelude.{◌≡◌, ◌≤◌, ◌<◌, ◌-◌, [], true, false, IfErr, IfOk, IfSome, IsSome, IsTrue, MatchResult, None, Ok, Some, unwrap_or};
+ghost use Rattle.std.specs.Prelude.{◌≡◌, ◌≤◌, ◌<◌, ◌-◌, [], true, false, IfErr, IfOk, IfSome, IsSome, IsTrue};
+ghost use Rattle.std.specs.Prelude.{MatchResult, None, Ok, Some, unwrap_or};
 ghost use Rattle.outside.specs.Behind.{IsBehind};
 ghost use Rattle.outside.specs.Count.{Rose};
 ghost use Rattle.outside.specs.Frame.{OnlyReads};
@@ -10,7 +11,8 @@ ghost use Rattle.run_steps.specs.Taking.{InputMayRefuse, Lines, file_said, input
 ghost use Rattle.run_steps.specs.Causes.{IsInputFault};
 ghost use Rattle.batch_commands.specs.Batch.{batch_step, input_asks, lines_ask};
 ghost use Rattle.batch_commands.specs.BatchReading.{IsOfInputLine, input_cause, read_then, refusal_read};
-ghost use Rattle.batch_commands.specs.declared.batch_input.InputFault.TheVariants.{Source as SourceFailed, Memory as NoMemory};
+ghost use Rattle.batch_commands.specs.declared.batch_input.InputFault.TheVariants.{Source as SourceFailed};
+ghost use Rattle.batch_commands.specs.declared.batch_input.InputFault.TheVariants.{Memory as NoMemory};
 ghost use Rattle.batch_commands.specs.declared.batch_line.BatchLineRead.TheVariants.{Refused as Faulty};
 ghost use Rattle.refusals.specs.Refusals.{nowhere, refusal_of};
 
@@ -61,18 +63,21 @@ pub fn take_batch<S: Store, I: Source>(
     ensures read { IfOk result (λ batch. IsTrue S.tells → (from ≡ None → IsTrue I.tells)
         → input_said from (batch_step names.now from) (S.seen store.old).files (I.seen input.old).left
         ≡ Passed (record { edits = batch.edits.items; refusal = batch.refusal })) }
-    ensures ended { IfOk result (λ batch. batch.refusal ≡ None → from ≡ None → IsTrue I.tells → (I.seen input.new).left ≡ []) }
+    ensures ended { IfOk result
+        (λ batch. batch.refusal ≡ None → from ≡ None → IsTrue I.tells → (I.seen input.new).left ≡ []) }
     ensures behind { (from ≡ None → IsTrue I.tells) → IsBehind (I.seen input.old).left (I.seen input.new).left }
     ensures untouched { IsSome from → input.new ≡ input.old }
     ensures unread { from ≡ None → store.new ≡ store.old }
     ensures may_ask { IfOk result (λ batch. IfSome batch.refusal (IsOfInputLine names.now (input_name from))) }
     ensures refused { IfErr result (λ refusal. IsInputFault (Rose (S.seen store.old).faults (S.seen store.new).faults)
         (Rose (I.seen input.old).faults (I.seen input.new).faults) (IsTrue S.tells × (from ≡ None → IsTrue I.tells))
-        (input_said from (batch_step names.now from) (S.seen store.old).files (I.seen input.old).left) refusal refusal.cause) }
+        (input_said from (batch_step names.now from) (S.seen store.old).files (I.seen input.old).left) refusal
+        refusal.cause) }
     ensures may { IfErr result (λ refusal. InputMayRefuse Lines from refusal.cause refusal.name) }
     ensures placed { IfErr result (λ refusal. refusal.place ≡ nowhere) }
     ensures leaves { OnlyReads false (unwrap_or from []) (S.seen store.old) (S.seen store.new) }
-    ensures synced { IfOk result (λ batch. batch.refusal ≡ None → AddsNone (S.seen store.old).unsynced (S.seen store.new).unsynced) }
+    ensures synced { IfOk result
+        (λ batch. batch.refusal ≡ None → AddsNone (S.seen store.old).unsynced (S.seen store.new).unsynced) }
     ensures commits { S.commits [] store.old store.new }
     ensures later { (I.seen input.old).faults ≤ (I.seen input.new).faults }
     ensures keeps { I.keeps false input.old input.new }
@@ -90,7 +95,8 @@ fn take_input<I: Source>(alloc: Global, names: &Names, input: &mut I) -> Result<
     ensures ended { IfOk result (λ batch. batch.refusal ≡ None → IsTrue I.tells → (I.seen input.new).left ≡ []) }
     ensures behind { IsTrue I.tells → IsBehind (I.seen input.old).left (I.seen input.new).left }
     ensures may_ask { IfOk result (λ batch. IfSome batch.refusal (IsOfInputLine names.now [])) }
-    ensures refused { IfErr result (λ refusal. IsInputFault ⊥ (Rose (I.seen input.old).faults (I.seen input.new).faults) (IsTrue I.tells)
+    ensures refused { IfErr result
+        (λ refusal. IsInputFault ⊥ (Rose (I.seen input.old).faults (I.seen input.new).faults) (IsTrue I.tells)
         (batch_step names.now None (I.seen input.old).left) refusal refusal.cause) }
     ensures may { IfErr result (λ refusal. InputMayRefuse Lines None refusal.cause refusal.name) }
     ensures placed { IfErr result (λ refusal. refusal.place ≡ nowhere) }
@@ -120,7 +126,8 @@ fn take_file<S: Store>(
     ensures may { IfErr result (λ refusal. InputMayRefuse Lines (Some name) refusal.cause refusal.name) }
     ensures placed { IfErr result (λ refusal. refusal.place ≡ nowhere) }
     ensures leaves { OnlyReads false name (S.seen store.old) (S.seen store.new) }
-    ensures synced { IfOk result (λ batch. batch.refusal ≡ None → AddsNone (S.seen store.old).unsynced (S.seen store.new).unsynced) }
+    ensures synced { IfOk result
+        (λ batch. batch.refusal ≡ None → AddsNone (S.seen store.old).unsynced (S.seen store.new).unsynced) }
     ensures commits { S.commits [] store.old store.new }
 {
     match store.size(name.as_str()) {
@@ -137,7 +144,8 @@ fn take_there<S: Store>(
     name: Word,
     store: &mut S,
 ) -> Result<Batch, Refusal>
-    ensures read { IfOk result (λ batch. IsTrue S.tells → input_asks names.now name (left_from ((S.seen store.old).files name) 0)
+    ensures read { IfOk result
+        (λ batch. IsTrue S.tells → input_asks names.now name (left_from ((S.seen store.old).files name) 0)
         ≡ record { edits = batch.edits.items; refusal = batch.refusal }) }
     ensures may_ask { IfOk result (λ batch. IfSome batch.refusal (IsOfInputLine names.now name)) }
     ensures refused { IfErr result (λ refusal. IsInputFault
@@ -146,7 +154,8 @@ fn take_there<S: Store>(
     ensures may { IfErr result (λ refusal. InputMayRefuse Lines (Some name) refusal.cause refusal.name) }
     ensures placed { IfErr result (λ refusal. refusal.place ≡ nowhere) }
     ensures leaves { OnlyReads false name (S.seen store.old) (S.seen store.new) }
-    ensures synced { IfOk result (λ batch. batch.refusal ≡ None → AddsNone (S.seen store.old).unsynced (S.seen store.new).unsynced) }
+    ensures synced { IfOk result
+        (λ batch. batch.refusal ≡ None → AddsNone (S.seen store.old).unsynced (S.seen store.new).unsynced) }
     ensures commits { S.commits [] store.old store.new }
 {
     let Ok(place) = Word::copy_of(alloc, name.as_str()) else {
@@ -187,7 +196,8 @@ fn read_batch<I: Source>(
         ≡ record { edits = batch.edits.items; refusal = batch.refusal }) }
     ensures ended { IfOk result (λ batch. batch.refusal ≡ None → IsTrue I.tells → (I.seen source.new).left ≡ []) }
     ensures may_ask { IfOk result (λ batch. IfSome batch.refusal (IsOfInputLine names.now place.now)) }
-    ensures cause { IfErr result (λ fault. fault ≡ SourceFailed → Rose (I.seen source.old).faults (I.seen source.new).faults) }
+    ensures cause { IfErr result
+        (λ fault. fault ≡ SourceFailed → Rose (I.seen source.old).faults (I.seen source.new).faults) }
     ensures later { (I.seen source.old).faults ≤ (I.seen source.new).faults }
     ensures keeps { I.keeps false source.old source.new }
     ensures kept { IfOk result (λ batch. batch.refusal ≡ None → I.keeps true source.old source.new) }
@@ -230,12 +240,15 @@ fn take_line<I: Source>(
 ) -> Result<Option<BatchLineRead>, InputFault>
     ensures read { IfOk result (λ read. IsTrue I.tells
         → lines_ask names.now place.now reader.old.number (lines_left 1024 16777216 reader.old (I.seen source.old).left)
-        ≡ read_then read (lines_ask names.now place.now reader.new.number (lines_left 1024 16777216 reader.new (I.seen source.new).left))) }
+        ≡ read_then read
+        (lines_ask names.now place.now reader.new.number
+        (lines_left 1024 16777216 reader.new (I.seen source.new).left))) }
     ensures ended { IfOk result (λ read. read ≡ None → IsTrue I.tells → (I.seen source.new).left ≡ []) }
     ensures may_ask { IfOk result (λ read. IfSome (refusal_read read) (IsOfInputLine names.now place.now)) }
     ensures nearer { IfOk result (λ read. IsSome read → refusal_read read ≡ None
         → 16777216 - reader.new.given < 16777216 - reader.old.given) }
-    ensures cause { IfErr result (λ fault. fault ≡ SourceFailed → Rose (I.seen source.old).faults (I.seen source.new).faults) }
+    ensures cause { IfErr result
+        (λ fault. fault ≡ SourceFailed → Rose (I.seen source.old).faults (I.seen source.new).faults) }
     ensures later { (I.seen source.old).faults ≤ (I.seen source.new).faults }
     ensures keeps { I.keeps false source.old source.new }
     ensures kept { IfOk result (λ read. refusal_read read ≡ None → I.keeps true source.old source.new) }
@@ -258,7 +271,8 @@ fn refused_input(
     cause: Cause,
     place: &str,
 ) -> Result<Option<BatchLineRead>, InputFault>
-    ensures { MatchResult result (λ read. read ≡ Some (Faulty (refusal_of cause place.now))) (λ fault. fault ≡ NoMemory) }
+    ensures { MatchResult result (λ read. read ≡ Some (Faulty (refusal_of cause place.now)))
+        (λ fault. fault ≡ NoMemory) }
 {
     match Word::copy_of(alloc, place) {
         Ok(name) => Ok(Some(BatchLineRead::Refused(Refusal::of(cause, name)))),

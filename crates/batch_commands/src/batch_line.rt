@@ -43,8 +43,8 @@ pub enum BatchLineRead {
     Refused(Refusal),
 }
 
-/// Reads the line of this number, in an input of this name: an identifier and its four limits, unless it is a comment or
-/// has no words.
+/// Reads the line of this number, in an input of this name: an identifier and its four limits, unless it is a comment
+/// or has no words.
 ///
 /// # Errors
 ///
@@ -161,7 +161,8 @@ pub fn at_line(number: u64, refusal: Refusal) -> Refusal
     Refusal { place, ..refusal }
 }
 
-/// The line of an input in which what was refused stands: that of a faulty word, and of a value for which there is no room.
+/// The line of an input in which what was refused stands: that of a faulty word, and of a value for which there is no
+/// room.
 fn line_named(number: u64, cause: Cause) -> Option<u64>
     ensures { result ≡ line_named number cause }
 {

@@ -17,17 +17,19 @@ ghost use Rattle.run_steps.specs.Done.{Outside};
 ghost use Rattle.run_steps.specs.Meaning.{EndsBy};
 ghost use Rattle.run_steps.specs.declared.invocation.Invocation.{Invocation};
 
-/// Where the edit of a line is refused since a file is full, that file is the one that was to be edited, and at the end, as the lines
-/// before the refused one left it, it has no room for the edit: with the value that the edit makes of it, it would have more blocks
-/// than it may have.
+/// Where the edit of a line is refused since a file is full, that file is the one that was to be edited, and at the
+/// end, as the lines before the refused one left it, it has no room for the edit: with the value that the edit makes of
+/// it, it would have more blocks than it may have.
 pub fn a_file_that_is_full_is_so_behind_lines()
-    ensures lines { (common : Common) (from : Option (List ℕ)) (file : List ℕ) (invocation : Invocation) (old new : Outside) (acts : List Act) (refusal : Refusal) (blocks limit : ℕ)
-        → EndsBy (BatchSteps common from file invocation) old acts new (Some refusal) → refusal.cause ≡ Full blocks limit
+    ensures lines { (common : Common) (from : Option (List ℕ)) (file : List ℕ) (invocation : Invocation)
+        (old new : Outside) (acts : List Act) (refusal : Refusal) (blocks limit : ℕ)
+        → EndsBy (BatchSteps common from file invocation) old acts new (Some refusal)
+        → refusal.cause ≡ Full blocks limit
         → (refusal.name ≡ file) × IsFullForLine common from file invocation.now old new.files blocks limit }
 {}
 
-/// With the opening of their file lines make at most four calls of `read` for each 1,024 bytes of it, or a part of them, four more, and
-/// seventeen for each line, whichever way they are made.
+/// With the opening of their file lines make at most four calls of `read` for each 1,024 bytes of it, or a part of
+/// them, four more, and seventeen for each line, whichever way they are made.
 pub fn lines_read_a_file_four_times_at_most()
     ensures reads { (kind : Kind) (asked : Asked) (file : List ℕ) (value : QuotaValue) (lines : List LineEdit)
         → IsView (Some file) kind asked (Ok value)

@@ -28,8 +28,9 @@ pub const MOST_BYTES: u64 = 1 << 42;
 /// How many bytes a tree file of the most blocks has.
 const FULL_TREE: u64 = 1024 * MOST_BLOCKS as u64;
 
-/// How many bytes the file, which now has this many, may come to have by the edits of these lines. It is `None` where a replacement by
-/// so many takes more calls of `write` than the edits may make, or cannot be made, and where the lines may fill the file.
+/// How many bytes the file, which now has this many, may come to have by the edits of these lines. It is `None` where a
+/// replacement by so many takes more calls of `write` than the edits may make, or cannot be made, and where the lines
+/// may fill the file.
 pub fn most_bytes(format: Option<Format>, lines: &[LineEdit], size: u64) -> Option<u64>
     ensures few { IfSome result (λ most. pieces_of most ≤ 12 * length lines.now) }
     ensures within { IfSome result (λ most. most ≤ 2 ^ 42) }
@@ -57,8 +58,8 @@ pub fn most_bytes(format: Option<Format>, lines: &[LineEdit], size: u64) -> Opti
     }
 }
 
-/// Whether lines leave room in a file of this length: with as many bytes as they may add to a tree file, and with those of two more, it
-/// is no full one.
+/// Whether lines leave room in a file of this length: with as many bytes as they may add to a tree file, and with those
+/// of two more, it is no full one.
 fn leave_room(format: Option<Format>, lines: &[LineEdit], size: u64) -> bool
     ensures room { result ≡ true → LeaveRoom (asked_of format) (length lines.now) size }
     ensures none { result ≡ false → LeaveRoom (asked_of format) (length lines.now) size → ⊥ }
@@ -90,7 +91,8 @@ pub fn reach(format: Option<Format>, lines: &[LineEdit], size: u64) -> u64
     }
 }
 
-/// How many bytes a flat file of this many may have once these lines are edited: those up to the end of its last record.
+/// How many bytes a flat file of this many may have once these lines are edited: those up to the end of its last
+/// record.
 fn flat_reach(format: Format, lines: &[LineEdit], size: u64) -> u64
     ensures { IsFlatReach (InFormat format) size lines.now result }
 {

@@ -1,4 +1,5 @@
-ghost use Rattle.std.specs.Prelude.{◌≡◌, ◌⊎◌, ◌+◌, ◌*◌, ◌<◌, ◌≤◌, ◌^◌, ℕ, Bool, true, Option, None, Some, IfErr, IfOk, IfSome, IsErrAnd, IsSome, IsTrue, List, [], Ok, OnOk, false, length, is_ok, ⊤};
+ghost use Rattle.std.specs.Prelude.{◌≡◌, ◌⊎◌, ◌+◌, ◌*◌, ◌<◌, ◌≤◌, ◌^◌, ℕ, Bool, true, Option, None, Some, IfErr, IfOk};
+ghost use Rattle.std.specs.Prelude.{IfSome, IsErrAnd, IsSome, IsTrue, List, [], Ok, OnOk, false, length, is_ok, ⊤};
 ghost use Rattle.std.specs.Option.{option_map};
 ghost use Rattle.outside.specs.ManyCalls.{Syncs};
 ghost use Rattle.outside.specs.Replacement.{ReplacesOnly, replacement_name};
@@ -8,7 +9,7 @@ ghost use Rattle.quota_value.specs.QuotaValue.{QuotaValue};
 ghost use Rattle.opened_file.specs.Replace.{pieces_of};
 ghost use Rattle.outside.specs.Seen.{LinkSeen, SinkSeen, SourceSeen};
 ghost use Rattle.quota_map.specs.Asked.{Asked, asked_of};
-ghost use Rattle.quota_map.specs.View.{IsOpenedAs, IsView, asks_tree, fresh_seen};
+ghost use Rattle.quota_map.specs.View.{IsOpenedAs, IsView, fresh_seen};
 ghost use Rattle.refusals.specs.Status.{status_of};
 ghost use Rattle.run_steps.specs.Act.{Together};
 ghost use Rattle.run_steps.specs.Done.{IsUnwritten, seen_of, tells_of};
@@ -20,7 +21,9 @@ ghost use Rattle.batch_commands.specs.Batch.{LineEditMayRefuse, line_uses, way_o
 ghost use Rattle.batch_commands.specs.BatchReading.{LineSteps};
 ghost use Rattle.batch_commands.specs.LinesCommitted.{CommitsFrom};
 ghost use Rattle.batch_commands.specs.declared.together.GivenUp.TheVariants.{NoMemory};
-ghost use Rattle.batch_commands.specs.Together.{AreNeverDone, HasBytes, IfEnded, IfNotMade, IfWanting, IsEditOf, IsFlatReach, IsGivenUp, IsMadeInMemory, IsOnlyRead, IsWithin, MayPay, ReadsWhole, StandsAlone, is_of_call, refusal_in, replace_cause};
+ghost use Rattle.batch_commands.specs.Together.{AreNeverDone, HasBytes, IfEnded, IfNotMade, IfWanting, IsEditOf};
+ghost use Rattle.batch_commands.specs.Together.{IsGivenUp, IsMadeInMemory, IsOnlyRead, IsWithin, MayPay, ReadsWhole};
+ghost use Rattle.batch_commands.specs.Together.{StandsAlone, is_of_call, refusal_in, replace_cause};
 
 use crate::batch::{EditedLines, edit_all};
 use crate::batch_line::LineEdit;
@@ -82,15 +85,15 @@ pub struct Edited {
     pub lines: EditedLines,
 }
 
-/// Sets the limits that lines ask for in the file of this name, up to the first edit that is refused, by one replacement of the file.
-/// So it is done where there are at least two lines that leave room in the file, where no file has its name with `.new` added, and where
-/// it pays: where the replacement takes no more than twelve calls of `write` for each line that was edited. Where the edits change
-/// nothing nothing is written.
+/// Sets the limits that lines ask for in the file of this name, up to the first edit that is refused, by one
+/// replacement of the file. So it is done where there are at least two lines that leave room in the file, where no file
+/// has its name with `.new` added, and where it pays: where the replacement takes no more than twelve calls of `write`
+/// for each line that was edited. Where the edits change nothing nothing is written.
 ///
 /// # Errors
 ///
-/// In what became of it: a line was refused by its edit, the store failed, or there is not enough memory, with which nothing was
-/// written.
+/// In what became of it: a line was refused by its edit, the store failed, or there is not enough memory, with which
+/// nothing was written.
 pub fn edit_together<S: Store>(
     alloc: Global,
     kind: Kind,
@@ -100,9 +103,13 @@ pub fn edit_together<S: Store>(
     store: &mut S,
     now: u64,
 ) -> Attempt
-    ensures carries { (value : QuotaValue) → (IsTrue S.tells → IsView ((S.seen store.old).files file) kind (asked_of format) (Ok value))
-        → (input : SourceSeen) (out err : SinkSeen) (link : LinkSeen) (input_tells out_tells err_tells link_tells : Bool)
-        → IfEnded result (CarriesOut (LineSteps (way_of lines.now) file now lines.now value) line_uses (LineEditMayRefuse (asked_of format) file)
+    ensures carries { (value : QuotaValue)
+        → (IsTrue S.tells → IsView ((S.seen store.old).files file) kind (asked_of format) (Ok value))
+        → (input : SourceSeen) (out err : SinkSeen) (link : LinkSeen)
+        (input_tells out_tells err_tells link_tells : Bool)
+        → IfEnded result
+        (CarriesOut (LineSteps (way_of lines.now) file now lines.now value) line_uses
+        (LineEditMayRefuse (asked_of format) file)
         (tells_of S.tells input_tells out_tells err_tells link_tells)
         (seen_of (S.seen store.old) input out err link) (seen_of (S.seen store.new) input out err link)) }
     ensures back { IfNotMade result (λ name. name ≡ file) }
@@ -110,14 +117,20 @@ pub fn edit_together<S: Store>(
     ensures wanting { IfEnded result (IfWanting (IsUnwritten (S.seen store.old) (S.seen store.new))) }
     ensures reads_only { IfNotMade result (λ _. IsOnlyRead true (S.seen store.old) (S.seen store.new)) }
     ensures others { ReplacesOnly file (S.seen store.old).files (S.seen store.new).files }
-    ensures synced { IfEnded result (λ ended. IsTrue S.tells → Syncs (is_ok ended) (S.seen store.old) (S.seen store.new)) }
-    // The files of one moment were committed, to which the steps come: of the end, where all was done; and where they were not made, none.
-    ensures commits { IsTrue S.tells → (value : QuotaValue) → IsView ((S.seen store.old).files file) kind (asked_of format) (Ok value)
+    ensures synced { IfEnded result
+        (λ ended. IsTrue S.tells → Syncs (is_ok ended) (S.seen store.old) (S.seen store.new)) }
+    // The files of one moment were committed, to which the steps come: of the end, where all was done; and where they
+    // were not made, none.
+    ensures commits { IsTrue S.tells → (value : QuotaValue)
+        → IsView ((S.seen store.old).files file) kind (asked_of format) (Ok value)
         → IfEnded result (λ ended. CommitsFrom ⊤ (is_ok ended) (LineSteps (way_of lines.now) file now lines.now value)
-        (ReplacesOnly file (S.seen store.old).files) (S.seen store.old).files (S.seen store.new).files (λ worlds. S.commits worlds store.old store.new)) }
+        (ReplacesOnly file (S.seen store.old).files) (S.seen store.old).files (S.seen store.new).files
+        (λ worlds. S.commits worlds store.old store.new)) }
     ensures none_committed { IfNotMade result (λ _. S.commits [] store.old store.new) }
     // They are made wherever they are said to be made together.
-    ensures together { IfNotMade result (λ _. IsTrue S.tells → (value : QuotaValue) → IsView ((S.seen store.old).files file) kind (asked_of format) (Ok value)
+    ensures together { IfNotMade result
+        (λ _.
+        IsTrue S.tells → (value : QuotaValue) → IsView ((S.seen store.old).files file) kind (asked_of format) (Ok value)
         → MakeTogether (asked_of format) file now lines.now (S.seen store.old).files value → ⊥) }
     // Where all was done, no more was read than twelve blocks a line.
     ensures reads { IfEnded result (λ ended. OnOk ended (IsTrue S.tells
@@ -137,8 +150,8 @@ pub fn edit_together<S: Store>(
     }
 }
 
-/// The file of this name, where a replacement of it may take no more calls of `write` than the edits of these lines, which leave room in
-/// it, and none has its name with `.new` added.
+/// The file of this name, where a replacement of it may take no more calls of `write` than the edits of these lines,
+/// which leave room in it, and none has its name with `.new` added.
 fn read_whole<S: Store>(
     alloc: Global,
     format: Option<Format>,
@@ -148,7 +161,8 @@ fn read_whole<S: Store>(
 ) -> Result<Option<Whole>, LoadFault>
     ensures whole { IfOk result (λ found. IfSome found (λ whole. IsTrue S.tells
         → StandsAlone (S.seen store.old).files name.now whole.bytes.items)) }
-    ensures pays { IfOk result (λ found. IfSome found (λ whole. IsTrue S.tells → MayPay (asked_of format) (length lines.now) whole)) }
+    ensures pays { IfOk result
+        (λ found. IfSome found (λ whole. IsTrue S.tells → MayPay (asked_of format) (length lines.now) whole)) }
     ensures refused { IfErr result (IsLoadFault (S.seen store.old).faults (S.seen store.new).faults S.tells
         ((S.seen store.old).files name.now) (length (file_of (S.seen store.old).files name.now))) }
     ensures leaves { IsOnlyRead (is_ok result) (S.seen store.old) (S.seen store.new) }
@@ -206,22 +220,29 @@ fn edit_bytes<S: Store>(
     ensures carries { (others : ℕ) → length lines.now ≡ 1 + others
         → (value : QuotaValue) → (IsTrue S.tells → StandsAlone (S.seen store.old).files file whole.bytes.items)
         → (IsTrue S.tells → IsView (Some whole.bytes.items) kind (asked_of format) (Ok value))
-        → (input : SourceSeen) (out err : SinkSeen) (link : LinkSeen) (input_tells out_tells err_tells link_tells : Bool)
-        → IfEnded result (CarriesOut (LineSteps (Together others) file now lines.now value) line_uses (LineEditMayRefuse (asked_of format) file)
+        → (input : SourceSeen) (out err : SinkSeen) (link : LinkSeen)
+        (input_tells out_tells err_tells link_tells : Bool)
+        → IfEnded result
+        (CarriesOut (LineSteps (Together others) file now lines.now value) line_uses
+        (LineEditMayRefuse (asked_of format) file)
         (tells_of S.tells input_tells out_tells err_tells link_tells)
         (seen_of (S.seen store.old) input out err link) (seen_of (S.seen store.new) input out err link)) }
     ensures back { IfNotMade result (λ name. name ≡ file) }
     ensures untouched { IfNotMade result (λ _. S.seen store.new ≡ S.seen store.old) }
     ensures wanting { IfEnded result (IfWanting (IsUnwritten (S.seen store.old) (S.seen store.new))) }
     ensures others { ReplacesOnly file (S.seen store.old).files (S.seen store.new).files }
-    ensures synced { IfEnded result (λ ended. IsTrue S.tells → Syncs (is_ok ended) (S.seen store.old) (S.seen store.new)) }
-    ensures commits { IsTrue S.tells → (others : ℕ) (value : QuotaValue) → StandsAlone (S.seen store.old).files file whole.bytes.items
+    ensures synced { IfEnded result
+        (λ ended. IsTrue S.tells → Syncs (is_ok ended) (S.seen store.old) (S.seen store.new)) }
+    ensures commits { IsTrue S.tells → (others : ℕ) (value : QuotaValue)
+        → StandsAlone (S.seen store.old).files file whole.bytes.items
         → IsView (Some whole.bytes.items) kind (asked_of format) (Ok value)
         → IfEnded result (λ ended. CommitsFrom ⊤ (is_ok ended) (LineSteps (Together others) file now lines.now value)
-        (ReplacesOnly file (S.seen store.old).files) (S.seen store.old).files (S.seen store.new).files (λ worlds. S.commits worlds store.old store.new)) }
+        (ReplacesOnly file (S.seen store.old).files) (S.seen store.old).files (S.seen store.new).files
+        (λ worlds. S.commits worlds store.old store.new)) }
     ensures none_committed { IfNotMade result (λ _. S.commits [] store.old store.new) }
     // Where it does not pay, one of the lines is refused in every file.
-    ensures never { MayPay (asked_of format) (length lines.now) whole → (value : QuotaValue) → IsView (Some whole.bytes.items) kind (asked_of format) (Ok value)
+    ensures never { MayPay (asked_of format) (length lines.now) whole → (value : QuotaValue)
+        → IsView (Some whole.bytes.items) kind (asked_of format) (Ok value)
         → IfNotMade result (λ _. AreNeverDone file now lines.now value) }
     // Where all of them fit it pays.
     ensures fitting { MayPay (asked_of format) (length lines.now) whole
@@ -237,7 +258,8 @@ fn edit_bytes<S: Store>(
     }
 }
 
-/// Edits lines of a file that was read whole in memory, up to the first edit that is refused. It is `None` where the file is not opened.
+/// Edits lines of a file that was read whole in memory, up to the first edit that is refused. It is `None` where the
+/// file is not opened.
 ///
 /// # Errors
 ///
@@ -253,12 +275,17 @@ fn edit_in_memory(
 ) -> Result<Option<Edited>, GivenUp>
     ensures made { IfOk result (λ found. IfSome found (λ edited. (others : ℕ) (value : QuotaValue)
         → IsView (Some whole.bytes.items) kind (asked_of format) (Ok value)
-        → IsMadeInMemory (LineSteps (Together others) name.now now lines.now value) name.now whole.bytes.items edited)) }
-    ensures edits { IfOk result (λ found. IfSome found (IsEditOf (LineEditMayRefuse (asked_of format) name.now) (length lines.now) whole.bytes.items)) }
+        → IsMadeInMemory (LineSteps (Together others) name.now now lines.now value) name.now
+        whole.bytes.items edited)) }
+    ensures edits { IfOk result
+        (λ found.
+        IfSome found (IsEditOf (LineEditMayRefuse (asked_of format) name.now) (length lines.now) whole.bytes.items)) }
     ensures within { IfOk result (λ found. IfSome found (IsWithin whole.most (length lines.now))) }
     // A copy that was opened is given up only where a call on it failed, or where it has more bytes than it may.
     ensures given_up { IfErr result (IsGivenUp ⊤ whole.most 0) }
-    ensures opens { IfOk result (λ found. found ≡ None → (value : QuotaValue) → IsView (Some whole.bytes.items) kind (asked_of format) (Ok value) → ⊥) }
+    ensures opens { IfOk result
+        (λ found.
+        found ≡ None → (value : QuotaValue) → IsView (Some whole.bytes.items) kind (asked_of format) (Ok value) → ⊥) }
 {
     let Whole { bytes, most } = whole;
     let file = Word::copy_of(alloc, name)?;
@@ -281,7 +308,8 @@ fn is_of_call(fault: OpenFault) -> bool
 ///
 /// # Errors
 ///
-/// A call on the copy failed for lack of memory, or it has more than `most` bytes, which no edit makes of it. It is handed back so.
+/// A call on the copy failed for lack of memory, or it has more than `most` bytes, which no edit makes of it. It is
+/// handed back so.
 fn edit_opened(
     mut opened: AnyFile,
     lines: &[LineEdit],
@@ -290,7 +318,8 @@ fn edit_opened(
     most: u64,
     now: u64,
 ) -> Result<Edited, GivenUp>
-    requires { ⟦<AnyFile as QuotaFile<OneFile>>⟧.seen opened ≡ fresh_seen file (⟦<AnyFile as QuotaFile<OneFile>>⟧.seen opened).format }
+    requires { ⟦<AnyFile as QuotaFile<OneFile>>⟧.seen opened
+        ≡ fresh_seen file (⟦<AnyFile as QuotaFile<OneFile>>⟧.seen opened).format }
     ensures made { IfOk result (λ edited. (bytes : List ℕ) → HasBytes file bytes (⟦<OneFile as Store>⟧.seen memory)
         → (others : ℕ) (value : QuotaValue) → ⟦<AnyFile as QuotaFile<OneFile>>⟧.holds opened memory value
         → IsMadeInMemory (LineSteps (Together others) file now lines.now value) file bytes edited) }
@@ -299,7 +328,8 @@ fn edit_opened(
         → (value : QuotaValue) → ⟦<AnyFile as QuotaFile<OneFile>>⟧.holds opened memory value
         → IsEditOf (LineEditMayRefuse asked file) (length lines.now) bytes edited) }
     ensures within { IfOk result (IsWithin most (length lines.now)) }
-    ensures given_up { IfErr result (λ cause. (value : QuotaValue) → ⟦<AnyFile as QuotaFile<OneFile>>⟧.holds opened memory value
+    ensures given_up { IfErr result
+        (λ cause. (value : QuotaValue) → ⟦<AnyFile as QuotaFile<OneFile>>⟧.holds opened memory value
         → IsGivenUp ⊥ most (⟦<OneFile as Store>⟧.seen memory).faults cause) }
 {
     let edited = edit_all(&mut opened, lines, file, &mut memory, now);
@@ -329,15 +359,17 @@ fn is_fault(ended: &Result<(), Refusal>) -> bool
     }
 }
 
-/// Puts a file that was edited in memory in the place of the one of this name, where that pays. Where the edits of its lines wrote
-/// nothing there is nothing to be put.
+/// Puts a file that was edited in memory in the place of the one of this name, where that pays. Where the edits of its
+/// lines wrote nothing there is nothing to be put.
 fn put_back<S: Store>(alloc: Global, file: Word, edited: Edited, store: &mut S) -> Attempt
     ensures carries { (asked : Asked) (bytes : List ℕ) (now : ℕ) (lines : List LineEdit) (value : QuotaValue)
         → IsEditOf (LineEditMayRefuse asked file) (length lines) bytes edited → (others : ℕ) → length lines ≡ 1 + others
         → (IsTrue S.tells → StandsAlone (S.seen store.old).files file bytes
         × IsMadeInMemory (LineSteps (Together others) file now lines value) file bytes edited)
-        → (input : SourceSeen) (out err : SinkSeen) (link : LinkSeen) (input_tells out_tells err_tells link_tells : Bool)
-        → IfEnded result (CarriesOut (LineSteps (Together others) file now lines value) line_uses (LineEditMayRefuse asked file)
+        → (input : SourceSeen) (out err : SinkSeen) (link : LinkSeen)
+        (input_tells out_tells err_tells link_tells : Bool)
+        → IfEnded result
+        (CarriesOut (LineSteps (Together others) file now lines value) line_uses (LineEditMayRefuse asked file)
         (tells_of S.tells input_tells out_tells err_tells link_tells)
         (seen_of (S.seen store.old) input out err link) (seen_of (S.seen store.new) input out err link)) }
     ensures back { IfNotMade result (λ name. name ≡ file) }
@@ -346,11 +378,15 @@ fn put_back<S: Store>(alloc: Global, file: Word, edited: Edited, store: &mut S) 
         → IsEditOf (LineEditMayRefuse asked file) count bytes edited
         → IfEnded result (IfWanting (IsUnwritten (S.seen store.old) (S.seen store.new))) }
     ensures others { ReplacesOnly file (S.seen store.old).files (S.seen store.new).files }
-    ensures synced { IfEnded result (λ ended. IsTrue S.tells → Syncs (is_ok ended) (S.seen store.old) (S.seen store.new)) }
-    ensures commits { IsTrue S.tells → (bytes : List ℕ) (now : ℕ) (lines : List LineEdit) (value : QuotaValue) (others : ℕ)
-        → StandsAlone (S.seen store.old).files file bytes → IsMadeInMemory (LineSteps (Together others) file now lines value) file bytes edited
+    ensures synced { IfEnded result
+        (λ ended. IsTrue S.tells → Syncs (is_ok ended) (S.seen store.old) (S.seen store.new)) }
+    ensures commits { IsTrue S.tells
+        → (bytes : List ℕ) (now : ℕ) (lines : List LineEdit) (value : QuotaValue) (others : ℕ)
+        → StandsAlone (S.seen store.old).files file bytes
+        → IsMadeInMemory (LineSteps (Together others) file now lines value) file bytes edited
         → IfEnded result (λ ended. CommitsFrom ⊤ (is_ok ended) (LineSteps (Together others) file now lines value)
-        (ReplacesOnly file (S.seen store.old).files) (S.seen store.old).files (S.seen store.new).files (λ worlds. S.commits worlds store.old store.new)) }
+        (ReplacesOnly file (S.seen store.old).files) (S.seen store.old).files (S.seen store.new).files
+        (λ worlds. S.commits worlds store.old store.new)) }
     ensures none_committed { IfNotMade result (λ _. S.commits [] store.old store.new) }
     // Where it is not put there it does not pay, and a line was refused.
     ensures unpaid { IfNotMade result (λ _. length edited.bytes.items ≤ 2 ^ 42

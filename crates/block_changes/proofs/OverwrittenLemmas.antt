@@ -1,5 +1,6 @@
 -- An entry that was overwritten where the leaf of its identifier leads: it is the record of that identifier.
-use Rattle.std.proofs.Common.{◌≡◌, ℕ, ◌+◌, ◌≤◌, Bool, cond, ◌==◌, ◌&&◌, nat_le, List, [], ◌∷◌, length, find, Some, None, option_and_then, refl, sym, ap, subst, ◌∙◌, inl, inr, arith}
+use Rattle.std.proofs.Common.{◌≡◌, ℕ, ◌+◌, ◌≤◌, Bool, cond, ◌==◌, ◌&&◌, nat_le, List, [], ◌∷◌, length, find, Some, None}
+use Rattle.std.proofs.Common.{option_and_then, refl, sym, ap, subst, ◌∙◌, inl, inr, arith}
 use Rattle.std.proofs.lemmas.Bool.{cases_Bool, cases_eq}
 use Rattle.std.specs.FinMap.{get, insert}
 use Rattle.std.specs.List.{AllByRecursion}
@@ -25,7 +26,8 @@ use Rattle.block_changes.proofs.OneBlockLemmas.{changed, count_of, data_no_tree,
 use Rattle.block_changes.proofs.OneLeafLemmas.{inserted_own, inserted_rest}
 
 -- what holds of each leaf holds of one that is found
-found_holds : (P : TreePath → Type 0) (test : TreePath → Bool) (ps : List TreePath) (leaf : TreePath) → find test ps ≡ Some leaf → AllByRecursion P ps → P leaf
+found_holds : (P : TreePath → Type 0) (test : TreePath → Bool) (ps : List TreePath) (leaf : TreePath)
+    → find test ps ≡ Some leaf → AllByRecursion P ps → P leaf
 found_holds P test [] leaf found all = absurd cc
 found_holds P test (p ∷ ps) leaf found all = elim (cases_Bool (test p)) [
   | inl passes ↦
@@ -35,9 +37,13 @@ found_holds P test (p ∷ ps) leaf found all = elim (cases_Bool (test p)) [
   | inr fails ↦ found_holds P test ps leaf (sym (ap (λ (b : Bool). cond b (Some p) (find test ps)) fails) ∙ found) all.1
 ]
 
-module _ (held : List ℕ) (format : Format) (old new : List ℕ) (len : ℕ) (heads : Heads) (records : Records) (block place id : ℕ) (rec : Rec)
+module _ (held : List ℕ) (format : Format) (old new : List ℕ) (len : ℕ) (heads : Heads) (records : Records)
+    (block place id : ℕ) (rec : Rec)
     (tree : IsTree (loose_of held None None) format old len heads records)
-    (found : find (λ (leaf : TreePath). leaf.number == id) (leaves old heads.blocks) ≡ Some (record { number = id; block = block }))
+    (found : find (λ (leaf : TreePath). leaf.number == id) (leaves old heads.blocks) ≡ Some (record {
+      number = id;
+      block = block;
+    }))
     (rewrites : RewritesEntry format block place (record { id = id; rec = rec }) old new) where
   abbrev loose : Loose
   loose = loose_of held None None
@@ -51,7 +57,8 @@ module _ (held : List ℕ) (format : Format) (old new : List ℕ) (len : ℕ) (h
   -- the identifier leads to the block, so this is data
   leads_there : StandsIn (ids_at old_leaves block) id
   leads_there =
-      found_holds (λ (leaf : TreePath). StandsIn (ids_at old_leaves leaf.block) leaf.number) (λ (leaf : TreePath). leaf.number == id) old_leaves
+      found_holds (λ (leaf : TreePath). StandsIn (ids_at old_leaves leaf.block) leaf.number)
+      (λ (leaf : TreePath). leaf.number == id) old_leaves
       (record { number = id; block = block }) found (leaves_lead old heads.blocks)
 
   is_data : StandsIn (data_with loose old heads.blocks) block
@@ -64,20 +71,25 @@ module _ (held : List ℕ) (format : Format) (old new : List ℕ) (len : ℕ) (h
   same_ids = overwritten_ids format place entry (block_of old block) (block_of new block) rewrites.overwrites
 
   same_counts : counts_as_data loose new heads.blocks block ≡ counts_as_data loose old heads.blocks block
-  same_counts = ap (λ (ps : List TreePath). nat_le 1 (times (blocks_of ps) block)) (leaves_same loose format old new len heads records block tree no_tree rewrites.keeps)
+  same_counts =
+      ap (λ (ps : List TreePath). nat_le 1 (times (blocks_of ps) block))
+      (leaves_same loose format old new len heads records block tree no_tree rewrites.keeps)
 
   record_now : (number : ℕ) → get (insert records id rec) number ≡ record_by_leaves format new old_leaves number
   record_now number = elim (cases_eq id number) [
     | inl own ↦ subst (λ (n : ℕ). get (insert records id rec) n ≡ record_by_leaves format new old_leaves n) own
         (inserted_own records id rec
         ∙ sym (ap (option_and_then (λ (leaf : TreePath). record_in format (block_of new leaf.block) id)) found
-        ∙ overwritten_own format place entry (block_of old block) (block_of new block) rewrites.overwrites (tree.filled.one_entry block id leads_there)))
+        ∙ overwritten_own format place entry (block_of old block) (block_of new block) rewrites.overwrites
+        (tree.filled.one_entry block id leads_there)))
     | inr other ↦ inserted_rest records id number rec other ∙ tree.each_record number
         ∙ sym (records_stay loose format old new len heads records block tree no_tree rewrites.keeps number
-        (overwritten_other format place entry (block_of old block) (block_of new block) rewrites.overwrites number (λ is. other (sym is))) old_leaves)
+        (overwritten_other format place entry (block_of old block) (block_of new block) rewrites.overwrites number
+        (λ is. other (sym is))) old_leaves)
   ]
 
-  pub overwritten : (now_len : ℕ) → len ≤ now_len → IsTree (loose_of held None None) format new now_len heads (insert records id rec)
+  pub overwritten : (now_len : ℕ) → len ≤ now_len
+      → IsTree (loose_of held None None) format new now_len heads (insert records id rec)
   overwritten =
       changed loose format old new len heads records block tree no_tree rewrites.keeps loose (insert records id rec)
       (record { before = λ at low. rewrites.head.before at (omega (arith, low)); behind = rewrites.head.behind })
@@ -85,12 +97,15 @@ module _ (held : List ℕ) (format : Format) (old new : List ℕ) (len : ℕ) (h
         awaited = tt;
         held_own = ap (λ (b : Bool). times held block + count_of b) same_counts;
         held_others = λ number other. refl;
-        listed_own = λ i. same_counts i && overwritten_room format place entry (block_of old block) (block_of new block) rewrites.overwrites i;
+        listed_own = λ i. same_counts i
+            && overwritten_room format place entry (block_of old block) (block_of new block) rewrites.overwrites i;
         listed_others = λ number other holds. refl;
         ids_others = λ number other. refl;
-        one_entry = λ number stands. ap (λ (ids : List ℕ). times ids number) same_ids ∙ tree.filled.one_entry block number stands;
+        one_entry = λ number stands.
+            ap (λ (ids : List ℕ). times ids number) same_ids ∙ tree.filled.one_entry block number stands;
         stated = ap length same_ids ∙ tree.filled.stated block is_data
-            ∙ sym (number_same 2 8 (block_of new block) (block_of old block) (λ k from to. rewrites.head.before k (omega (arith, to))));
+            ∙ sym (number_same 2 8 (block_of new block) (block_of old block)
+            (λ k from to. rewrites.head.before k (omega (arith, to))));
         counted = ap length same_ids ∙ tree.filled.counted block is_data;
         each_record = record_now;
       })

@@ -12,17 +12,19 @@ ghost use Rattle.tree_meaning.specs.Loose.{loose_of};
 ghost use Rattle.tree_meaning.specs.Roles.{has_room};
 ghost use Rattle.block_changes.specs.EntryChanges.{LosesEntry};
 
-/// Where the entry of an awaited leaf is cleared and its block has others, no leaf is awaited, and its identifier has no record.
-/// The block is misplaced then where it was full, since it does not stand in the entry list yet.
+/// Where the entry of an awaited leaf is cleared and its block has others, no leaf is awaited, and its identifier has
+/// no record. The block is misplaced then where it was full, since it does not stand in the entry list yet.
 pub fn a_cleared_entry_is_awaited_no_longer()
-    ensures with_room { (held : List ℕ) (format : Format) (old new : List ℕ) (len now_len : ℕ) (heads : Heads) (records : Records)
+    ensures with_room { (held : List ℕ) (format : Format) (old new : List ℕ) (len now_len : ℕ) (heads : Heads)
+        (records : Records)
         (block place id : ℕ)
         → IsTree (loose_of held (Some (record { number = id; block = block })) None) format old len heads records
         → LosesEntry format block place id old new
         → used_ids format (block_of new block) ≢ []
         → has_unused format (block_of old block) ≡ true → len ≤ now_len
         → IsTree (loose_of held None None) format new now_len heads (remove records id) }
-    ensures was_full { (held : List ℕ) (format : Format) (old new : List ℕ) (len now_len : ℕ) (heads : Heads) (records : Records)
+    ensures was_full { (held : List ℕ) (format : Format) (old new : List ℕ) (len now_len : ℕ) (heads : Heads)
+        (records : Records)
         (block place id : ℕ)
         → IsTree (loose_of held (Some (record { number = id; block = block })) None) format old len heads records
         → LosesEntry format block place id old new
@@ -37,10 +39,11 @@ pub fn a_cleared_entry_is_awaited_no_longer()
         → has_room (loose_of held None (Some block)) format new heads.blocks block ≡ true }
 {}
 
-/// Where the entry of an awaited leaf is cleared and was the last of its block, the block is held, and is misplaced: it stands
-/// in the entry list still, though it is no data block.
+/// Where the entry of an awaited leaf is cleared and was the last of its block, the block is held, and is misplaced: it
+/// stands in the entry list still, though it is no data block.
 pub fn a_block_without_entries_is_held()
-    ensures tree { (held : List ℕ) (format : Format) (old new : List ℕ) (len now_len : ℕ) (heads : Heads) (records : Records)
+    ensures tree { (held : List ℕ) (format : Format) (old new : List ℕ) (len now_len : ℕ) (heads : Heads)
+        (records : Records)
         (block place id : ℕ)
         → IsTree (loose_of held (Some (record { number = id; block = block })) None) format old len heads records
         → LosesEntry format block place id old new

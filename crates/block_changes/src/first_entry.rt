@@ -12,10 +12,11 @@ ghost use Rattle.tree_meaning.specs.Loose.{loose_of};
 ghost use Rattle.tree_meaning.specs.Roles.{has_room};
 ghost use Rattle.block_changes.specs.EntryChanges.{WritesEntry};
 
-/// The first entry of a block that is held and blank, for an identifier without a record, makes a data block of it, has its
-/// leaf awaited, and the block misplaced: it has room, and does not stand in the entry list yet.
+/// The first entry of a block that is held and blank, for an identifier without a record, makes a data block of it, has
+/// its leaf awaited, and the block misplaced: it has room, and does not stand in the entry list yet.
 pub fn a_fresh_block_gets_its_first_entry()
-    ensures tree { (held : List ℕ) (format : Format) (old new : List ℕ) (len now_len : ℕ) (heads : Heads) (records : Records)
+    ensures tree { (held : List ℕ) (format : Format) (old new : List ℕ) (len now_len : ℕ) (heads : Heads)
+        (records : Records)
         (block place id : ℕ) (rec : Rec)
         → IsTree (loose_of (block ∷ held) None None) format old len heads records
         → block_of old block ≡ replicate 1024 0
@@ -23,11 +24,13 @@ pub fn a_fresh_block_gets_its_first_entry()
         → WritesEntry format block place (record { id = id; rec = rec }) old new → len ≤ now_len
         → IsTree (loose_of held (Some (record { number = id; block = block })) (Some block)) format new now_len heads
         (insert records id rec) }
-    ensures room { (held : List ℕ) (format : Format) (old new : List ℕ) (len now_len : ℕ) (heads : Heads) (records : Records)
+    ensures room { (held : List ℕ) (format : Format) (old new : List ℕ) (len now_len : ℕ) (heads : Heads)
+        (records : Records)
         (block place id : ℕ) (rec : Rec)
         → IsTree (loose_of (block ∷ held) None None) format old len heads records
         → block_of old block ≡ replicate 1024 0
         → WritesEntry format block place (record { id = id; rec = rec }) old new
-        → has_room (loose_of held (Some (record { number = id; block = block })) (Some block)) format new heads.blocks block
+        → has_room (loose_of held (Some (record { number = id; block = block })) (Some block)) format new
+        heads.blocks block
         ≡ true }
 {}

@@ -15,10 +15,12 @@ ghost use Rattle.tree_meaning.specs.IsTree.{IsTree};
 ghost use Rattle.tree_meaning.specs.Loose.{Loose, loose_of};
 ghost use Rattle.tree_meaning.specs.Roles.{data_with, has_room};
 
-/// Where no block changed but such as are held or data, each identifier has the way that it had, and the same blocks are free.
-/// Where it is a tree still, whatever block the entry list begins with, the blocks that are held or data are those that were.
+/// Where no block changed but such as are held or data, each identifier has the way that it had, and the same blocks
+/// are free. Where it is a tree still, whatever block the entry list begins with, the blocks that are held or data are
+/// those that were.
 pub fn blocks_that_are_held_or_data_are_on_no_way()
-    ensures ways { (loose : Loose) (format : Format) (old new numbers : List ℕ) (len : ℕ) (heads : Heads) (records : Records)
+    ensures ways { (loose : Loose) (format : Format) (old new numbers : List ℕ) (len : ℕ) (heads : Heads)
+        (records : Records)
         (id : ℕ)
         → IsTree loose format old len heads records
         → ((block : ℕ) → StandsIn numbers block → StandsIn (loose.held ++ data_with loose old heads.blocks) block)
@@ -36,12 +38,14 @@ pub fn blocks_that_are_held_or_data_are_on_no_way()
         → IsTree now format new now_len (record heads { first = first }) now_records
         → ((block : ℕ) → StandsIn numbers block → StandsIn (was.held ++ data_with was old heads.blocks) block)
         → KeepsBlocksBut numbers old new
-        → times (now.held ++ data_with now new heads.blocks) number ≡ times (was.held ++ data_with was old heads.blocks) number }
+        → times (now.held ++ data_with now new heads.blocks) number
+        ≡ times (was.held ++ data_with was old heads.blocks) number }
 {}
 
 /// The block of an awaited leaf is data, and has one entry of the leaf's identifier. It has no room where it is full.
 pub fn an_awaited_leaf_has_its_entry()
-    ensures data_block { (held : List ℕ) (misplaced : Option ℕ) (format : Format) (file : List ℕ) (len : ℕ) (heads : Heads)
+    ensures data_block { (held : List ℕ) (misplaced : Option ℕ) (format : Format) (file : List ℕ)
+        (len : ℕ) (heads : Heads)
         (records : Records) (leaf : TreePath)
         → IsTree (loose_of held (Some leaf) misplaced) format file len heads records
         → StandsIn (data_with (loose_of held (Some leaf) misplaced) file heads.blocks) leaf.block }

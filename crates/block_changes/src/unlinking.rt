@@ -12,7 +12,8 @@ ghost use Rattle.tree_meaning.specs.Loose.{loose_of};
 
 /// The leaf of an identifier whose whole way is there can be unlinked.
 pub fn a_leaf_can_be_unlinked()
-    ensures { (held way : List ℕ) (format : Format) (old : List ℕ) (len : ℕ) (heads : Heads) (records : Records) (id : ℕ)
+    ensures { (held way : List ℕ) (format : Format) (old : List ℕ) (len : ℕ) (heads : Heads)
+        (records : Records) (id : ℕ)
         → IsTree (loose_of held None None) format old len heads records
         → way ≡ blocks_on_way old heads.blocks id
         → IsUnlinkable old heads.blocks way id }
@@ -28,6 +29,7 @@ pub fn an_unlinked_leaf_is_awaited()
         → ClearsAlong way (3 - length emptied) id old new
         → KeepsBlocksBut (emptied ++ slice_index way (3 - length emptied) ∷ []) old new
         → LosesLeaf way emptied id heads.blocks old new → len ≤ now_len
-        → IsTree (loose_of (emptied ++ held) (Some (record { number = id; block = slice_index way 4 })) None) format new now_len
+        → IsTree (loose_of (emptied ++ held) (Some (record { number = id; block = slice_index way 4 })) None)
+        format new now_len
         heads records }
 {}

@@ -16,10 +16,11 @@ ghost use Rattle.tree_meaning.specs.Loose.{loose_of};
 ghost use Rattle.tree_meaning.specs.Roles.{data_with};
 ghost use Rattle.block_changes.specs.EntryChanges.{RewritesEntry, WritesEntry};
 
-/// An entry that is written at an unused place of a data block, for an identifier without a record, has its leaf awaited. The
-/// block is misplaced then where it was the last unused place, since it stands in the entry list still.
+/// An entry that is written at an unused place of a data block, for an identifier without a record, has its leaf
+/// awaited. The block is misplaced then where it was the last unused place, since it stands in the entry list still.
 pub fn an_entry_is_written_before_its_leaf()
-    ensures with_room { (held : List ℕ) (format : Format) (old new : List ℕ) (len now_len : ℕ) (heads : Heads) (records : Records)
+    ensures with_room { (held : List ℕ) (format : Format) (old new : List ℕ) (len now_len : ℕ) (heads : Heads)
+        (records : Records)
         (block place id : ℕ) (rec : Rec)
         → IsTree (loose_of held None None) format old len heads records
         → StandsIn (data_with (loose_of held None None) old heads.blocks) block
@@ -28,7 +29,8 @@ pub fn an_entry_is_written_before_its_leaf()
         → has_unused format (block_of new block) ≡ true → len ≤ now_len
         → IsTree (loose_of held (Some (record { number = id; block = block })) None) format new now_len heads
         (insert records id rec) }
-    ensures full { (held : List ℕ) (format : Format) (old new : List ℕ) (len now_len : ℕ) (heads : Heads) (records : Records)
+    ensures full { (held : List ℕ) (format : Format) (old new : List ℕ) (len now_len : ℕ) (heads : Heads)
+        (records : Records)
         (block place id : ℕ) (rec : Rec)
         → IsTree (loose_of held None None) format old len heads records
         → StandsIn (data_with (loose_of held None None) old heads.blocks) block
@@ -39,13 +41,14 @@ pub fn an_entry_is_written_before_its_leaf()
         (insert records id rec) }
 {}
 
-/// An entry that is overwritten where the leaf of its identifier leads is the record of that identifier, and all else is as
-/// it was.
+/// An entry that is overwritten where the leaf of its identifier leads is the record of that identifier, and all else
+/// is as it was.
 pub fn an_overwritten_entry_is_the_record()
     ensures { (held : List ℕ) (format : Format) (old new : List ℕ) (len now_len : ℕ) (heads : Heads) (records : Records)
         (block place id : ℕ) (rec : Rec)
         → IsTree (loose_of held None None) format old len heads records
-        → find (λ (leaf : TreePath). leaf.number == id) (leaves old heads.blocks) ≡ Some (record { number = id; block = block })
+        → find (λ (leaf : TreePath). leaf.number == id) (leaves old heads.blocks)
+        ≡ Some (record { number = id; block = block })
         → RewritesEntry format block place (record { id = id; rec = rec }) old new → len ≤ now_len
         → IsTree (loose_of held None None) format new now_len heads (insert records id rec) }
 {}

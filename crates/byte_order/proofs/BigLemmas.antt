@@ -10,7 +10,8 @@ big_from-drop zero from at file = refl
 big_from-drop (suc width) from at file =
     let next : at + suc from ≡ suc (at + from) = omega arith in
     ap (λ (byte : ℕ). byte * 256 ^ width + big_from (suc from) width (drop at file)) (get_or-drop at file from 0)
-    ∙ ap (λ (rest : ℕ). get_or file (at + from) 0 * 256 ^ width + rest) (big_from-drop width (suc from) at file ∙ ap (big_at width file) next)
+    ∙ ap (λ (rest : ℕ). get_or file (at + from) 0 * 256 ^ width + rest)
+    (big_from-drop width (suc from) at file ∙ ap (big_at width file) next)
 
 -- what is read from a place on is the number there
 pub big_number-drop : (width at : ℕ) (file : List ℕ) → big_number width (drop at file) ≡ big_at width file at

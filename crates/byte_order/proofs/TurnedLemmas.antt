@@ -1,5 +1,6 @@
 -- The bytes of a file whose words are turned round.
-use Rattle.std.proofs.Common.{◌≡◌, ℕ, ◌+◌, ◌-◌, ◌*◌, ◌/◌, ◌%◌, ◌<◌, ◌≤◌, List, length, take, drop, refl, sym, ap, ◌∙◌, inl, inr, arith, length-take, length-drop}
+use Rattle.std.proofs.Common.{◌≡◌, ℕ, ◌+◌, ◌-◌, ◌*◌, ◌/◌, ◌%◌, ◌<◌, ◌≤◌, List, length, take, drop, refl, sym, ap, ◌∙◌}
+use Rattle.std.proofs.Common.{inl, inr, arith, length-take, length-drop}
 use Rattle.std.proofs.lemmas.Bool.{cases_lt}
 use Rattle.std.proofs.lemmas.List.{get_or_past, get_or-drop, get_or-take}
 use Rattle.std.proofs.lemmas.List.FromFn.{length-map-range_with_len, get_or-map-range_with_len}
@@ -9,7 +10,8 @@ use Rattle.byte_order.specs.Words.{turned, turned_place, words_in}
 
 pub length-turned : (file : List ℕ) → length (turned file) ≡ 4 * words_in (length file)
 unfolding turned
-length-turned file = length-map-range_with_len (λ (at : ℕ). byte_at file (turned_place at)) 0 (4 * words_in (length file))
+length-turned file =
+    length-map-range_with_len (λ (at : ℕ). byte_at file (turned_place at)) 0 (4 * words_in (length file))
 
 -- past the last word both are 0
 turned_past : (file : List ℕ) (at : ℕ) → 4 * words_in (length file) ≤ at → length file ≤ turned_place at
@@ -19,7 +21,8 @@ turned_past file at past = omega arith
 pub byte_at-turned : (file : List ℕ) (at : ℕ) → byte_at (turned file) at ≡ byte_at file (turned_place at)
 unfolding turned
 byte_at-turned file at = elim (cases_lt at (4 * words_in (length file))) [
-  | inl low ↦ get_or-map-range_with_len (λ (k : ℕ). byte_at file (turned_place k)) 0 (4 * words_in (length file)) at at 0 low (omega arith)
+  | inl low ↦ get_or-map-range_with_len (λ (k : ℕ). byte_at file (turned_place k)) 0 (4 * words_in (length file)) at at
+      0 low (omega arith)
   | inr high ↦
       get_or_past (turned file) at 0 (omega (arith, length-turned file))
       ∙ sym (get_or_past file (turned_place at) 0 (turned_past file at high))
@@ -52,7 +55,8 @@ turned_twice file words whole =
     same_number_lists (turned (turned file)) file twice (λ k lt. byte_at-turned_twice file k)
 
 -- some words of a file turned round are these words of the file, turned round
-pub turned_part : (file : List ℕ) (skip words : ℕ) → take (4 * words) (drop (4 * skip) (turned file)) ≡ turned (take (4 * words) (drop (4 * skip) file))
+pub turned_part : (file : List ℕ) (skip words : ℕ)
+    → take (4 * words) (drop (4 * skip) (turned file)) ≡ turned (take (4 * words) (drop (4 * skip) file))
 turned_part file skip words =
     let part : List ℕ = take (4 * words) (drop (4 * skip) file) in
     let front : length (take (4 * words) (drop (4 * skip) (turned file))) ≡ length (turned part) =
@@ -71,4 +75,5 @@ turned_part file skip words =
     let mirrored : turned_place k < 4 * words = omega arith in
     get_or-take (4 * words) (drop (4 * skip) (turned file)) k 0 low ∙ get_or-drop (4 * skip) (turned file) k 0
     ∙ byte_at-turned file (4 * skip + k) ∙ ap (byte_at file) (turned_further skip k)
-    ∙ sym (byte_at-turned part k ∙ get_or-take (4 * words) (drop (4 * skip) file) (turned_place k) 0 mirrored ∙ get_or-drop (4 * skip) file (turned_place k) 0))
+    ∙ sym (byte_at-turned part k ∙ get_or-take (4 * words) (drop (4 * skip) file) (turned_place k) 0 mirrored
+    ∙ get_or-drop (4 * skip) file (turned_place k) 0))

@@ -1,5 +1,6 @@
 -- The words of a file that is read in an order.
-use Rattle.std.proofs.Common.{◌≡◌, ℕ, zero, suc, ◌+◌, ◌*◌, ◌/◌, ◌^◌, ◌<◌, ◌≤◌, List, length, take, drop, refl, sym, ap, ◌∙◌, arith}
+use Rattle.std.proofs.Common.{◌≡◌, ℕ, zero, suc, ◌+◌, ◌*◌, ◌/◌, ◌^◌, ◌<◌, ◌≤◌, List, length, take, drop, refl, sym, ap}
+use Rattle.std.proofs.Common.{◌∙◌, arith}
 use Rattle.std.proofs.lemmas.Grind.{same_number_lists}
 use Rattle.std.proofs.lemmas.List.{get_or_past}
 use Rattle.quota_types.specs.Bytes.{byte_at, number_at}
@@ -10,10 +11,12 @@ use Rattle.byte_order.specs.declared.order.Order.{Order}
 use Rattle.byte_order.specs.declared.order.Order.TheVariants.{Little, Big}
 use Rattle.byte_order.specs.Number.{big_at, number_in}
 use Rattle.byte_order.specs.Words.{in_order, turned, turned_place}
-use Rattle.byte_order.proofs.TurnedLemmas.{byte_at-turned, byte_at-turned_twice, length-turned, turned_further, turned_part, turned_twice}
+use Rattle.byte_order.proofs.TurnedLemmas.{byte_at-turned, byte_at-turned_twice, length-turned, turned_further}
+use Rattle.byte_order.proofs.TurnedLemmas.{turned_part, turned_twice}
 
 -- a byte of a word that is turned round is the one that stands as far from the word's end as it from its start
-byte_of_word : (file : List ℕ) (word at from : ℕ) → at + from ≡ 8 * word + 3 → 4 * word ≤ at → 4 * word ≤ from → byte_at (turned file) at ≡ byte_at file from
+byte_of_word : (file : List ℕ) (word at from : ℕ) → at + from ≡ 8 * word + 3 → 4 * word ≤ at → 4 * word ≤ from
+    → byte_at (turned file) at ≡ byte_at file from
 byte_of_word file word at from far above below =
     let same : at / 4 ≡ word = omega arith in
     let mirrored : turned_place at ≡ from = omega arith in
@@ -40,7 +43,8 @@ first_half_turned file word =
     omega (arith, third, fourth)
 
 -- and the second half the first one
-pub second_half_turned : (file : List ℕ) (word : ℕ) → big_at 2 file (4 * word + 2) ≡ number_at 2 (turned file) (4 * word)
+pub second_half_turned : (file : List ℕ) (word : ℕ)
+    → big_at 2 file (4 * word + 2) ≡ number_at 2 (turned file) (4 * word)
 unfolding big_at number_at
 second_half_turned file word =
     let at : ℕ = 4 * word in
@@ -56,7 +60,9 @@ two_words file at =
     rw e4 (omega arith)
 
 -- two words turned round stand in the other order
-pub double_turned : (file : List ℕ) (word : ℕ) → big_at 8 file (4 * word) ≡ number_at 4 (turned file) (4 * word + 4) + 2 ^ 32 * number_at 4 (turned file) (4 * word)
+pub double_turned : (file : List ℕ) (word : ℕ)
+    → big_at 8 file (4 * word)
+    ≡ number_at 4 (turned file) (4 * word + 4) + 2 ^ 32 * number_at 4 (turned file) (4 * word)
 double_turned file word =
     let next : 4 * suc word ≡ 4 * word + 4 = omega arith in
     let low : big_at 4 file (4 * word + 4) ≡ number_at 4 (turned file) (4 * word + 4) =
@@ -64,7 +70,8 @@ double_turned file word =
     omega (arith, two_words file (4 * word), word_turned file word, low)
 
 -- a word of a file, read in an order
-pub word_in_order : (order : Order) (file : List ℕ) (word : ℕ) → number_in order 4 file (4 * word) ≡ number_at 4 (in_order order file) (4 * word)
+pub word_in_order : (order : Order) (file : List ℕ) (word : ℕ)
+    → number_in order 4 file (4 * word) ≡ number_at 4 (in_order order file) (4 * word)
 word_in_order Little file word = refl
 word_in_order Big file word = word_turned file word
 
@@ -72,7 +79,8 @@ word_in_order Big file word = word_turned file word
 block_turned : (file : List ℕ) (number : ℕ) → block_of (turned file) number ≡ turned (block_of file number)
 block_turned file number =
     let long : length (block_of (turned file) number) ≡ length (turned (block_of file number)) =
-    omega (arith, length-block_of (turned file) number, length-turned (block_of file number), length-block_of file number) in
+    omega
+    (arith, length-block_of (turned file) number, length-turned (block_of file number), length-block_of file number) in
     same_number_lists (block_of (turned file) number) (turned (block_of file number)) long
     (λ k lt.
     let low : k < 1024 = omega (arith, length-block_of (turned file) number) in
@@ -85,14 +93,18 @@ block_turned file number =
     ∙ ap (λ (n : ℕ). byte_at file (n + turned_place k)) (sym whole)
     ∙ sym (byte_at-turned (block_of file number) k ∙ byte_at-block_of file number (turned_place k) mirrored))
 
-pub block_in_order : (order : Order) (file : List ℕ) (number : ℕ) → block_of (in_order order file) number ≡ in_order order (block_of file number)
+pub block_in_order : (order : Order) (file : List ℕ) (number : ℕ)
+    → block_of (in_order order file) number ≡ in_order order (block_of file number)
 block_in_order Little file number = refl
 block_in_order Big file number = block_turned file number
 
 -- a word of a block, read in an order, is that of the block of the file's words
-pub word_of_block : (order : Order) (file : List ℕ) (number word : ℕ) → number_in order 4 (block_of file number) (4 * word) ≡ number_at 4 (block_of (in_order order file) number) (4 * word)
+pub word_of_block : (order : Order) (file : List ℕ) (number word : ℕ)
+    → number_in order 4 (block_of file number) (4 * word)
+    ≡ number_at 4 (block_of (in_order order file) number) (4 * word)
 word_of_block order file number word =
-    word_in_order order (block_of file number) word ∙ ap (λ (block : List ℕ). number_at 4 block (4 * word)) (sym (block_in_order order file number))
+    word_in_order order (block_of file number) word
+    ∙ ap (λ (block : List ℕ). number_at 4 block (4 * word)) (sym (block_in_order order file number))
 
 big_past : (width at : ℕ) (file : List ℕ) → length file ≤ at → big_at width file at ≡ 0
 unfolding big_at
@@ -108,27 +120,35 @@ number_past Little width at file past = number_at-past width at file past
 number_past Big width at file past = big_past width at file past
 
 -- the stated number of a data block, in the words of a big-endian file
-pub stated_turned : (file : List ℕ) (number : ℕ) → big_at 2 (block_of file number) 8 ≡ number_at 2 (block_of (turned file) number) 10
+pub stated_turned : (file : List ℕ) (number : ℕ)
+    → big_at 2 (block_of file number) 8 ≡ number_at 2 (block_of (turned file) number) 10
 stated_turned file number =
-    first_half_turned (block_of file number) 2 ∙ ap (λ (block : List ℕ). number_at 2 block 10) (sym (block_turned file number))
+    first_half_turned (block_of file number) 2
+    ∙ ap (λ (block : List ℕ). number_at 2 block 10) (sym (block_turned file number))
 
 -- the length of the words of a file
-pub length_in_order : (order : Order) (file : List ℕ) → (length file ≤ length (in_order order file)) × (length (in_order order file) < length file + 4)
+pub length_in_order : (order : Order) (file : List ℕ)
+    → (length file ≤ length (in_order order file)) × (length (in_order order file) < length file + 4)
 length_in_order Little file = (omega arith, omega arith)
 length_in_order Big file = (omega (arith, length-turned file), omega (arith, length-turned file))
 
-pub whole_length : (order : Order) (file : List ℕ) (words : ℕ) → length file ≡ 4 * words → length (in_order order file) ≡ length file
+pub whole_length : (order : Order) (file : List ℕ) (words : ℕ) → length file ≡ 4 * words
+    → length (in_order order file) ≡ length file
 whole_length Little file words whole = refl
 whole_length Big file words whole = omega (arith, length-turned file)
 
-pub twice_in_order : (order : Order) (file : List ℕ) (words : ℕ) → length file ≡ 4 * words → in_order order (in_order order file) ≡ file
+pub twice_in_order : (order : Order) (file : List ℕ) (words : ℕ) → length file ≡ 4 * words
+    → in_order order (in_order order file) ≡ file
 twice_in_order Little file words whole = refl
 twice_in_order Big file words whole = turned_twice file words whole
 
-pub byte_twice_in_order : (order : Order) (file : List ℕ) (at : ℕ) → byte_at (in_order order (in_order order file)) at ≡ byte_at file at
+pub byte_twice_in_order : (order : Order) (file : List ℕ) (at : ℕ)
+    → byte_at (in_order order (in_order order file)) at ≡ byte_at file at
 byte_twice_in_order Little file at = refl
 byte_twice_in_order Big file at = byte_at-turned_twice file at
 
-pub part_in_order : (order : Order) (file : List ℕ) (skip words : ℕ) → take (4 * words) (drop (4 * skip) (in_order order file)) ≡ in_order order (take (4 * words) (drop (4 * skip) file))
+pub part_in_order : (order : Order) (file : List ℕ) (skip words : ℕ)
+    → take (4 * words) (drop (4 * skip) (in_order order file))
+    ≡ in_order order (take (4 * words) (drop (4 * skip) file))
 part_in_order Little file skip words = refl
 part_in_order Big file skip words = turned_part file skip words

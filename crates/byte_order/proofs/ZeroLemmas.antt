@@ -1,5 +1,6 @@
 -- Bytes that are all 0, with their words turned round.
-use Rattle.std.proofs.Common.{◌≡◌, ℕ, suc, ◌<◌, ◌==◌, ◌⊎◌, inl, inr, Bool, true, false, List, [], ◌∷◌, length, get_or, refl, sym, ap, ◌∙◌, arith}
+use Rattle.std.proofs.Common.{◌≡◌, ℕ, suc, ◌<◌, ◌==◌, ◌⊎◌, inl, inr, Bool, true, false, List, [], ◌∷◌, length, get_or}
+use Rattle.std.proofs.Common.{refl, sym, ap, ◌∙◌, arith}
 use Rattle.std.specs.List.{list_all}
 use Rattle.std.proofs.lemmas.Bool.{cases_lt}
 use Rattle.std.proofs.lemmas.List.{get_or_past}
@@ -39,7 +40,8 @@ zeros_turned file zeros = zeros_each (turned file) (λ k lt. byte_at-turned file
 
 zeros_back : (file : List ℕ) → are_zeros (turned file) ≡ true → are_zeros file ≡ true
 zeros_back file zeros =
-    zeros_each file (λ k lt. ap (byte_at file) (sym (turned_back k)) ∙ sym (byte_at-turned file (turned_place k)) ∙ zero_at (turned file) zeros (turned_place k))
+    zeros_each file (λ k lt. ap (byte_at file) (sym (turned_back k)) ∙ sym (byte_at-turned file (turned_place k))
+    ∙ zero_at (turned file) zeros (turned_place k))
 
 same_tests : (b c : Bool) → (b ≡ true → c ≡ true) → (c ≡ true → b ≡ true) → c ≡ b
 same_tests true c to from = to refl

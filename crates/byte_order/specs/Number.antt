@@ -1,6 +1,6 @@
 -- Numbers of a file that a machine of either byte order wrote. Source: `__le16`, `__le32` and `__le64` of the kernel's
--- `include/uapi/linux/types.h`, in which a quota file is to be, and `__be16`, `__be32` and `__be64`, in which it is where it was
--- written without a change of order.
+-- `include/uapi/linux/types.h`, in which a quota file is to be, and `__be16`, `__be32` and `__be64`, in which it is
+-- where it was written without a change of order.
 use Rattle.std.specs.Prelude.{ℕ, zero, suc, ◌+◌, ◌*◌, ◌^◌, List}
 use Rattle.quota_types.specs.Bytes.{byte_at, number_at}
 use Rattle.byte_order.specs.declared.order.Order.{Order}

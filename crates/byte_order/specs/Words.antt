@@ -1,6 +1,6 @@
--- The words of a file, of four bytes each, as they are where it is read in an order. Source: the references of a tree block and
--- the links of `struct qt_disk_dqdbheader` in the kernel's `fs/quota/quota_tree.h`, each a number of four bytes at a
--- multiple of four.
+-- The words of a file, of four bytes each, as they are where it is read in an order. Source: the references of a tree
+-- block and the links of `struct qt_disk_dqdbheader` in the kernel's `fs/quota/quota_tree.h`, each a number of four
+-- bytes at a multiple of four.
 use Rattle.std.specs.Prelude.{ℕ, ◌+◌, ◌-◌, ◌*◌, ◌/◌, ◌%◌, List, length, map}
 use Rattle.std.specs.List.{range_with_len}
 use Rattle.quota_types.specs.Bytes.{byte_at}
@@ -15,7 +15,8 @@ turned_place at = 4 * (at / 4) + (3 - at % 4)
 abbrev pub words_in : ℕ → ℕ
 words_in bytes = (bytes + 3) / 4
 
--- Each word of a file turned round. Bytes past its end count as 0, so that a word which the end cuts is filled up with zeros.
+-- Each word of a file turned round. Bytes past its end count as 0, so that a word which the end cuts is filled up with
+-- zeros.
 unfoldable pub turned : List ℕ → List ℕ
 turned file = map (λ at. byte_at file (turned_place at)) (range_with_len 0 (4 * words_in (length file)))
 

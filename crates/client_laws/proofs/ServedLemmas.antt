@@ -19,12 +19,15 @@ keeps_xid exported = record {
   fits = λ call moment reply few same. (known_by_call exported call moment reply same).1 few;
 }
 
-pub has_replies : (exported : ExportedValues) (asked : Asked) (first : ℕ) (done : List PathAsked) (old new : PeerSeen) → AsksPaths asked first done old new → HasRepliesOf exported asked first done
+pub has_replies : (exported : ExportedValues) (asked : Asked) (first : ℕ) (done : List PathAsked) (old new : PeerSeen)
+    → AsksPaths asked first done old new → HasRepliesOf exported asked first done
 has_replies exported asked first done old new asks = asks.own (reply_of exported) (keeps_xid exported)
 
 -- a run that ended with status 0 or 1 asked for each path
-pub prints_replies : (exported : ExportedValues) (words : Result Asked Fault) (asked : Asked) (first : ℕ) (tells : ClientTells) (old new : ClientSeen) (status : ℕ) → words ≡ Ok asked → IsTrue tells.asking.peer
-    → IsTrue tells.asking.out → status ≤ 1 → Runs words first tells old new status → PrintsRepliesOf exported asked first old.asking new.asking status
+pub prints_replies : (exported : ExportedValues) (words : Result Asked Fault) (asked : Asked) (first : ℕ)
+    (tells : ClientTells) (old new : ClientSeen) (status : ℕ) → words ≡ Ok asked → IsTrue tells.asking.peer
+    → IsTrue tells.asking.out → status ≤ 1 → Runs words first tells old new status
+    → PrintsRepliesOf exported asked first old.asking new.asking status
 prints_replies exported words asked first tells old new status is told_peer told_out few runs =
     elim (subst (λ (w : Result Asked Fault). Runs w first tells old new status) is runs) [
       | inl done ↦
@@ -36,5 +39,8 @@ prints_replies exported words asked first tells old new status is told_peer told
             replies = has_replies exported asked first has.done old.asking.peer new.asking.peer has.asks;
             ended = has.ended;
           }
-      | inr fails ↦ elim fails [ inl peer ↦ absurd (omega (arith, few, peer.ended)) | inr out ↦ absurd (omega (arith, few, out.ended)) ]
+      | inr fails ↦ elim fails [
+        | inl peer ↦ absurd (omega (arith, few, peer.ended))
+        | inr out ↦ absurd (omega (arith, few, out.ended))
+      ]
     ]

@@ -1,4 +1,5 @@
-//! Laws of the client of rquotad and the server of this repository together. Nothing runs them: their contracts are the laws.
+//! Laws of the client of rquotad and the server of this repository together. Nothing runs them: their contracts are the
+//! laws.
 //!
 //! The one promise: what the client prints of a path with a reply is what the server replied to the call for this path,
 //! whichever datagrams are lost, late, doubled or out of order.
@@ -16,16 +17,16 @@ ghost use Rattle.client_laws.specs.Served.{HasRepliesOf, PrintsRepliesOf};
 use outside::Sink;
 use quota_client::{Peer, run_client};
 
-/// Each path that was asked for and has a reply has one to its own call, where the datagrams come from an `rquotad`, whatever
-/// it exports.
+/// Each path that was asked for and has a reply has one to its own call, where the datagrams come from an `rquotad`,
+/// whatever it exports.
 pub fn each_reply_of_rquotad_is_one_to_its_own_call()
     ensures { (exported : ExportedValues) (asked : Asked) (first : ℕ) (done : List PathAsked) (old new : PeerSeen)
         → AsksPaths asked first done old new → HasRepliesOf exported asked first done }
 {}
 
-/// Runs the client, and answers its status. Where that is 0 or 1, each path was asked for by its own call, and where also the
-/// datagrams that were taken come from an `rquotad`, what was printed of a path with a reply is what that server replied to
-/// the call for this path.
+/// Runs the client, and answers its status. Where that is 0 or 1, each path was asked for by its own call, and where
+/// also the datagrams that were taken come from an `rquotad`, what was printed of a path with a reply is what that
+/// server replied to the call for this path.
 pub fn ask_rquotad<P: Peer, O: Sink, E: Sink>(
     words: &[String],
     peer: &mut P,

@@ -1,5 +1,6 @@
 -- Commands whose words are refused, and what all commands share.
-use Rattle.std.proofs.Common.{◌≡◌, ◌≢◌, ◌∙◌, ℕ, ◌≤◌, ◌+◌, true, false, IsTrue, List, [], Option, None, Some, Ok, Err, Result, is_ok, inl, inr, refl, sym, subst, arith}
+use Rattle.std.proofs.Common.{◌≡◌, ◌≢◌, ◌∙◌, ℕ, ◌≤◌, ◌+◌, false, IsTrue, List, [], Option, None, Some, Ok, Err, Result}
+use Rattle.std.proofs.Common.{is_ok, inl, inr, refl, sym, subst, arith}
 use Rattle.std.specs.Prelude.{IfErr, IfSome, IsErr, IsErrAnd, OnErr, OnOk, ◌↔◌}
 use Rattle.std.proofs.lemmas.Bool.{false≢true}
 use Rattle.std.proofs.lemmas.Result.{on_ok_weaker}
@@ -37,7 +38,8 @@ abbrev pub SparesWords : (Cause → List ℕ → Type 0) → Type 0
 SparesWords may = (kind : UsageKind) (word : ℕ) (said : List ℕ) → may (Usage kind word) said → ⊥
 
 -- no command that was read is refused with status 2, where it is refused for no cause of words
-not_usage : (may : Cause → List ℕ → Type 0) (cause : Cause) (said : List ℕ) → SparesWords may → may cause said → status_of cause ≢ 2
+not_usage : (may : Cause → List ℕ → Type 0) (cause : Cause) (said : List ℕ) → SparesWords may → may cause said
+    → status_of cause ≢ 2
 not_usage may cause said spares is two =
     let words = words_alone cause two in
     spares words.0 words.1 said (subst (λ (c : Cause). may c said) words.2 is)
@@ -45,15 +47,22 @@ not_usage may cause said spares is two =
 -- What words ask for that were read.
 
 -- what a command was carried out for, words were carried out for that ask for it
-pub read_carried : (table : Command → Description) (command : Command) (asked : Result Command Refusal) (invocation : Invocation) (tells : RunTells) (old new : RunSeen) (result : Result (Unit {0}) Refusal) → asked ≡ Ok command
-    → IsCarriedOut (table command) invocation tells old new result → IsCarriedOut (asked_by table asked) invocation tells old new result
+pub read_carried : (table : Command → Description) (command : Command) (asked : Result Command Refusal)
+    (invocation : Invocation) (tells : RunTells) (old new : RunSeen) (result : Result (Unit {0}) Refusal)
+    → asked ≡ Ok command
+    → IsCarriedOut (table command) invocation tells old new result
+    → IsCarriedOut (asked_by table asked) invocation tells old new result
 read_carried table command asked invocation tells old new result is carried =
-    subst (λ (a : Result Command Refusal). IsCarriedOut (asked_by table a) invocation tells old new result) (sym is) (record {
+    subst (λ (a : Result Command Refusal). IsCarriedOut (asked_by table a) invocation tells old new result)
+    (sym is) (record {
       carries = carries_more _ _ _ _ tells old new result (λ cause said may. inr may) carried.carries;
       named = carried.named;
       edited = carried.edited;
       unwritten = carried.unwritten;
-      within = record { files = record { alone = carried.within.files.alone; anew = carried.within.files.anew }; few = carried.within.few };
+      within = record {
+        files = record { alone = carried.within.files.alone; anew = carried.within.files.anew };
+        few = carried.within.few;
+      };
       reads = carried.reads;
       made = carried.made;
       synced = carried.synced;
@@ -64,11 +73,13 @@ read_carried table command asked invocation tells old new result is carried =
     })
 
 -- the status of a command that was read
-pub usage_read : (may : Cause → List ℕ → Type 0) (command : Command) (asked : Result Command Refusal) (result : Result (Unit {0}) Refusal) → asked ≡ Ok command
+pub usage_read : (may : Cause → List ℕ → Type 0) (command : Command) (asked : Result Command Refusal)
+    (result : Result (Unit {0}) Refusal) → asked ≡ Ok command
     → SparesWords may → IfErr result (λ (refusal : Refusal). may refusal.cause refusal.name)
     → IsErrAnd result (λ (refusal : Refusal). status_of refusal.cause ≡ 2) ↔ IsErr asked
 usage_read may command (Ok other) (Ok value) is spares said = (λ two. absurd two, λ err. absurd (cc))
-usage_read may command (Ok other) (Err refusal) is spares said = (λ two. absurd (not_usage may refusal.cause refusal.name spares said two), λ err. absurd (cc))
+usage_read may command (Ok other) (Err refusal) is spares said =
+    (λ two. absurd (not_usage may refusal.cause refusal.name spares said two), λ err. absurd (cc))
 usage_read may command (Err other) result is spares said = absurd (cc)
 
 -- Words that were not read.
@@ -91,8 +102,10 @@ most_same None writes = tt
 most_same (Some m) writes = omega arith
 
 -- nothing was done for what is refused, but for a fault of the link
-nothing_done : (command : Description) (invocation : Invocation) (tells : RunTells) (old : RunSeen) (refusal : Refusal) → refusal.cause ≢ LinkFault
-    → CarriesOut (command.steps invocation) command.uses command.may tells old old (Err refusal) → IsCarriedOut command invocation tells old old (Err refusal)
+nothing_done : (command : Description) (invocation : Invocation) (tells : RunTells) (old : RunSeen) (refusal : Refusal)
+    → refusal.cause ≢ LinkFault
+    → CarriesOut (command.steps invocation) command.uses command.may tells old old (Err refusal)
+    → IsCarriedOut command invocation tells old old (Err refusal)
 nothing_done command invocation tells old refusal other carries = record {
   carries = carries;
   named = holds_of_one command.replaces _ (λ file told. refl);
@@ -109,32 +122,41 @@ nothing_done command invocation tells old refusal other carries = record {
 }
 
 -- a command that is refused at once
-stopped_at_once : (command : Description) (invocation : Invocation) (tells : RunTells) (old : RunSeen) (kind : UsageKind) (word : ℕ) → command.steps invocation ≡ Stop (refusal_of (Usage kind word) []) → command.may (Usage kind word) []
+stopped_at_once : (command : Description) (invocation : Invocation) (tells : RunTells) (old : RunSeen)
+    (kind : UsageKind) (word : ℕ) → command.steps invocation ≡ Stop (refusal_of (Usage kind word) [])
+    → command.may (Usage kind word) []
     → IsCarriedOut command invocation tells old old (Err (refusal_of (Usage kind word) []))
 stopped_at_once command invocation tells old kind word stops may =
     nothing_done command invocation tells old (refusal_of (Usage kind word) []) (λ is. cc)
-    (subst (λ (steps : Steps). CarriesOut steps command.uses command.may tells old old (Err (refusal_of (Usage kind word) []))) (sym stops)
-    (stop_carried command.uses command.may tells old (refusal_of (Usage kind word) []) (λ is. cc) (λ stated fact. fact) may (record { line = λ no. refl; input_line = λ no. refl })))
+    (subst (λ (steps : Steps).
+    CarriesOut steps command.uses command.may tells old old (Err (refusal_of (Usage kind word) []))) (sym stops)
+    (stop_carried command.uses command.may tells old (refusal_of (Usage kind word) []) (λ is. cc) (λ stated fact. fact)
+    may (record { line = λ no. refl; input_line = λ no. refl })))
 
-pub not_read : (table : Command → Description) (asked : Result Command Refusal) (invocation : Invocation) (tells : RunTells) (old : RunSeen) (fault : UsageFault) → IsUsageFault asked fault
+pub not_read : (table : Command → Description) (asked : Result Command Refusal) (invocation : Invocation)
+    (tells : RunTells) (old : RunSeen) (fault : UsageFault) → IsUsageFault asked fault
     → IsCarriedOut (asked_by table asked) invocation tells old old (Err (usage_refusal fault))
 not_read table (Ok command) invocation tells old (UsageOf kind word) is = absurd (cc)
 not_read table (Ok command) invocation tells old NoMemory is =
     nothing_done (asked_by table (Ok command)) invocation tells old (usage_refusal NoMemory) (λ is. cc)
-    (nothing_carried ((table command).steps invocation) _ _ tells old (usage_refusal NoMemory) (λ is. cc) tt (inl refl) (record { line = λ no. refl; input_line = λ no. refl }))
+    (nothing_carried ((table command).steps invocation) _ _ tells old (usage_refusal NoMemory) (λ is. cc) tt (inl refl)
+    (record { line = λ no. refl; input_line = λ no. refl }))
 not_read table (Err refusal) invocation tells old (UsageOf kind word) is =
     let same : refusal ≡ usage_refusal (UsageOf kind word) = cc in
-    subst (λ (r : Refusal). IsCarriedOut (refused r) invocation tells old old (Err (usage_refusal (UsageOf kind word)))) (sym same)
+    subst (λ (r : Refusal).
+    IsCarriedOut (refused r) invocation tells old old (Err (usage_refusal (UsageOf kind word)))) (sym same)
     (stopped_at_once (refused (usage_refusal (UsageOf kind word))) invocation tells old kind word refl refl)
 not_read table (Err refusal) invocation tells old NoMemory is = absurd (cc)
 
 -- a command that does not stand here is refused
-pub not_here_carried : (invocation : Invocation) (tells : RunTells) (old : RunSeen) → IsCarriedOut not_here invocation tells old old (Err unknown_command)
+pub not_here_carried : (invocation : Invocation) (tells : RunTells) (old : RunSeen)
+    → IsCarriedOut not_here invocation tells old old (Err unknown_command)
 not_here_carried invocation tells old = stopped_at_once not_here invocation tells old UnknownCommand 0 refl refl
 
 -- the status of words that were not read
 pub usage_not_read : (asked : Result Command Refusal) (fault : UsageFault) → IsUsageFault asked fault
-    → (status_of (usage_refusal fault).cause ≡ 2 → IsErr asked) × (IsErr asked → status_of (usage_refusal fault).cause ≡ 2)
+    → (status_of (usage_refusal fault).cause ≡ 2 → IsErr asked)
+    × (IsErr asked → status_of (usage_refusal fault).cause ≡ 2)
 usage_not_read (Ok command) (UsageOf kind word) is = absurd (cc)
 usage_not_read (Ok command) NoMemory is = (λ two. absurd (omega (arith, two)), λ err. absurd (cc))
 usage_not_read (Err refusal) (UsageOf kind word) is = (λ two. refl, λ err. refl)
@@ -143,7 +165,8 @@ usage_not_read (Err refusal) NoMemory is = absurd (cc)
 -- Facts of a refusal.
 
 -- what holds of every refusal holds of the one that was answered
-pub of_refusal : (result : Result (Unit {0}) Refusal) (holds : Refusal → Type 0) → ((refusal : Refusal) → holds refusal) → IfErr result holds
+pub of_refusal : (result : Result (Unit {0}) Refusal) (holds : Refusal → Type 0) → ((refusal : Refusal) → holds refusal)
+    → IfErr result holds
 of_refusal (Ok value) holds all = tt
 of_refusal (Err refusal) holds all = all refusal
 
@@ -153,40 +176,49 @@ of_done (Ok value) holds is = is
 of_done (Err refusal) holds is = tt
 
 -- a command that uses no link and reads no commands was carried out
-pub carried_alone : (d : Description) (invocation : Invocation) (tells : RunTells) (old new : RunSeen) (result : Result (Unit {0}) Refusal)
-    → (IsTrue d.unwritten → IfErr result (λ (refusal : Refusal). refusal.cause ≡ Memory → IsUnwritten old.store new.store))
-    → d.unfinished invocation tells old new → d.uses.reads_commands ≡ false → new.link ≡ old.link → CarriesOut (d.steps invocation) d.uses
+pub carried_alone : (d : Description) (invocation : Invocation) (tells : RunTells) (old new : RunSeen)
+    (result : Result (Unit {0}) Refusal)
+    → (IsTrue d.unwritten
+    → IfErr result (λ (refusal : Refusal). refusal.cause ≡ Memory → IsUnwritten old.store new.store))
+    → d.unfinished invocation tells old new → d.uses.reads_commands ≡ false → new.link ≡ old.link
+    → CarriesOut (d.steps invocation) d.uses
     d.may tells old new result
-    → IfSome d.replaces (λ (file : List ℕ). OnErr result (IsTrue tells.store → new.store.files file ≡ old.store.files file))
+    → IfSome d.replaces
+    (λ (file : List ℕ). OnErr result (IsTrue tells.store → new.store.files file ≡ old.store.files file))
     → IfSome d.edits (λ (file : List ℕ). IfErr result (λ (refusal : Refusal). IsTrue tells.store
     → IsLeftByEdit (status_of refusal.cause) old.store.files new.store.files file))
-    → ChangesWithin d old.store new.store → OnOk result (AreReadsTold d.uses tells → ReadsWithin (d.most_reads (outside_of old)) old.store new.store)
+    → ChangesWithin d old.store new.store
+    → OnOk result (AreReadsTold d.uses tells → ReadsWithin (d.most_reads (outside_of old)) old.store new.store)
     → OnOk result (IsTrue tells.store → d.made invocation (outside_of old) new.store.files)
     → (IsTrue tells.store → Syncs (is_ok result) old.store new.store) → IsCarriedOut d invocation tells old new result
-carried_alone d invocation tells old new result unwritten finished one same carries named edited within reads made synced = record {
-  carries = carries;
-  named = named;
-  edited = edited;
-  unwritten = unwritten;
-  within = within;
-  reads = reads;
-  made = made;
-  synced = synced;
-  unfinished = of_refusal result _ (λ refusal failed. finished);
-  untaken = λ _. of_refusal result _ (λ refusal five. same);
-  unlinked = λ told no. same;
-  unbegun = λ reads. absurd (false≢true (sym one ∙ reads));
-}
+carried_alone d invocation tells old new result unwritten finished one same carries named edited within reads made
+    synced = record {
+      carries = carries;
+      named = named;
+      edited = edited;
+      unwritten = unwritten;
+      within = within;
+      reads = reads;
+      made = made;
+      synced = synced;
+      unfinished = of_refusal result _ (λ refusal failed. finished);
+      untaken = λ _. of_refusal result _ (λ refusal five. same);
+      unlinked = λ told no. same;
+      unbegun = λ reads. absurd (false≢true (sym one ∙ reads));
+    }
 
 -- what follows from a fact of a refusal holds of the one that was answered
-pub of_refusal_weaker : (result : Result (Unit {0}) Refusal) (one other : Refusal → Type 0) → ((refusal : Refusal) → one refusal → other refusal) → IfErr result one → IfErr result other
+pub of_refusal_weaker : (result : Result (Unit {0}) Refusal) (one other : Refusal → Type 0)
+    → ((refusal : Refusal) → one refusal → other refusal) → IfErr result one → IfErr result other
 of_refusal_weaker (Ok value) one other so is = tt
 of_refusal_weaker (Err refusal) one other so is = so refusal is
 
 -- the bound of reads of lines rests on the standard input where they come from it, and nothing is said of other lines
-pub lines_within : (names from : Option (List ℕ)) (reads : ℕ) (result : Result (Unit {0}) Refusal) (tells : RunTells) (old new : StoreSeen)
+pub lines_within : (names from : Option (List ℕ)) (reads : ℕ) (result : Result (Unit {0}) Refusal) (tells : RunTells)
+    (old new : StoreSeen)
     → OnOk result (IsTrue tells.store → IsTrue tells.input → ReadsWithin (if_neither names from reads) old new)
     → OnOk result (AreReadsTold (batch_uses from) tells → ReadsWithin (if_neither names from reads) old new)
-lines_within names None reads result tells old new few = on_ok_weaker result (λ within told. within told.store (told.input refl)) few
+lines_within names None reads result tells old new few =
+    on_ok_weaker result (λ within told. within told.store (told.input refl)) few
 lines_within None (Some from) reads result tells old new few = of_done result _ (λ told. tt)
 lines_within (Some names) (Some from) reads result tells old new few = of_done result _ (λ told. tt)

@@ -5,7 +5,9 @@ use Rattle.refusals.specs.declared.cause.Cause.TheVariants.{SourceFault, Usage}
 use Rattle.refusals.specs.declared.cause.UsageKind.TheVariants.{UnknownCommand}
 use Rattle.refusals.specs.declared.reason.Refusal.{Refusal}
 use Rattle.command_words.specs.declared.command.Command.{Command}
-use Rattle.command_words.specs.declared.command.Command.TheVariants.{Report, SetLimits, CopyLimits, SetGrace, SetTimes, Batch, PrintForm, ApplyForm, Check, Convert, Serve, Script, Generate}
+use Rattle.command_words.specs.declared.command.Command.TheVariants.{Report, SetLimits, CopyLimits, SetGrace, SetTimes}
+use Rattle.command_words.specs.declared.command.Command.TheVariants.{Batch, PrintForm, ApplyForm, Check, Convert, Serve}
+use Rattle.command_words.specs.declared.command.Command.TheVariants.{Script, Generate}
 use Rattle.descriptions.specs.Sound.{IsSound}
 use Rattle.descriptions.proofs.SoundLemmas.{never, spares_both}
 use Rattle.edit_commands.specs.declared.edit.EditWords.TheVariants.{Limits, Copy, Grace, Times}
@@ -26,7 +28,8 @@ not_here_sound = record {
   full = λ invocation old acts new refusal blocks limit ends is. tt;
   sure = λ invocation old can. absurd can;
   spares = spares_both not_here.uses not_here.may
-      (λ name none same. let cause : SourceFault ≡ Usage UnknownCommand 0 = ap (λ (r : Refusal). r.cause) same in absurd (cc (cause)))
+      (λ name none same. let cause : SourceFault ≡ Usage UnknownCommand 0 = ap (λ (r : Refusal). r.cause) same in
+      absurd (cc (cause)))
       (λ kind word name reads. absurd (cc));
 }
 

@@ -7,7 +7,9 @@ use Rattle.refusals.specs.declared.cause.UsageKind.TheVariants.{UnknownCommand}
 use Rattle.refusals.specs.declared.reason.Refusal.{Refusal}
 use Rattle.refusals.specs.Refusals.{refusal_of}
 use Rattle.command_words.specs.declared.command.Command.{Command}
-use Rattle.command_words.specs.declared.command.Command.TheVariants.{Report, SetLimits, CopyLimits, SetGrace, SetTimes, Batch, PrintForm, ApplyForm, Check, Convert, Serve, Script, Generate}
+use Rattle.command_words.specs.declared.command.Command.TheVariants.{Report, SetLimits, CopyLimits, SetGrace, SetTimes}
+use Rattle.command_words.specs.declared.command.Command.TheVariants.{Batch, PrintForm, ApplyForm, Check, Convert, Serve}
+use Rattle.command_words.specs.declared.command.Command.TheVariants.{Script, Generate}
 use Rattle.run_steps.specs.Run.{Uses}
 use Rattle.run_steps.specs.Steps.{Stop}
 use Rattle.run_steps.specs.declared.invocation.Invocation.{Invocation}
@@ -25,13 +27,24 @@ use Rattle.serve_command.specs.Serve.{serving}
 
 -- words that are refused use nothing
 abbrev pub use_nothing : Uses
-use_nothing = record { input = false; out = false; link = false; changes = false; all_or_nothing = true; warns = false; reads_commands = false; reads_edits = false }
+use_nothing = record {
+  input = false;
+  out = false;
+  link = false;
+  changes = false;
+  all_or_nothing = true;
+  warns = false;
+  reads_commands = false;
+  reads_edits = false;
+}
 
 -- words that are refused are refused in every line and at every moment
 abbrev pub refused : Refusal → Description
-refused refusal = record (row (λ (invocation : Invocation). Stop refusal) use_nothing (λ (cause : Cause) (name : List ℕ). refusal_of cause name ≡ refusal)) {
-  faulty = Some refusal;
-}
+refused refusal =
+    record (row (λ (invocation : Invocation). Stop refusal) use_nothing
+    (λ (cause : Cause) (name : List ℕ). refusal_of cause name ≡ refusal)) {
+      faulty = Some refusal;
+    }
 
 -- what is said of a command that is unknown
 abbrev pub unknown_command : Refusal
@@ -57,8 +70,11 @@ described (Serve format calls port exports) = serving (asked_of format) calls po
 described Script = not_here
 described (Generate seed count file) = generating seed count file
 
--- What is asked for by words that were read, by a table of commands, or their refusal. There may not be enough memory for the words of a
--- command.
+-- What is asked for by words that were read, by a table of commands, or their refusal. There may not be enough memory
+-- for the words of a command.
 abbrev pub asked_by : (Command → Description) → Result Command Refusal → Description
-asked_by table (Ok command) = record (table command) { may = λ (cause : Cause) (name : List ℕ). (cause ≡ Memory) ⊎ (table command).may cause name }
+asked_by table (Ok command) =
+    record (table command) {
+      may = λ (cause : Cause) (name : List ℕ). (cause ≡ Memory) ⊎ (table command).may cause name;
+    }
 asked_by table (Err refusal) = refused refusal

@@ -15,11 +15,13 @@ looks_of command = (described command).looks
 
 -- Worlds that are alike.
 
--- What is outside is alike for a command, from the one and from the other: each quota file that it comes to open is seen as the same
--- value, or is refused for the same cause, which is no damage; the file of names and that of an input have the same bytes, or are not
--- there in both; there is a file of the target's name in both or in none; and the standard input and the datagrams are the same.
+-- What is outside is alike for a command, from the one and from the other: each quota file that it comes to open is
+-- seen as the same value, or is refused for the same cause, which is no damage; the file of names and that of an input
+-- have the same bytes, or are not there in both; there is a file of the target's name in both or in none; and the
+-- standard input and the datagrams are the same.
 pub record AreAlike (command : Command) (invocation : Invocation) (one other : Outside) : Type 0 where
-  pub opened : (file : FileAsked) → Opens ((described command).steps invocation) one file → IsFileAlike one.files other.files file
+  pub opened : (file : FileAsked) → Opens ((described command).steps invocation) one file
+      → IsFileAlike one.files other.files file
   pub names : IsSameFile one.files other.files (looks_of command).names
   pub input_file : IsSameFile one.files other.files (looks_of command).input
   pub target : IsThereAlike one.files other.files (looks_of command).target
@@ -32,7 +34,7 @@ pub record AreAlike (command : Command) (invocation : Invocation) (one other : O
 abbrev pub edits_records : Command → Bool
 edits_records command = (described command).needs_room
 
--- Two effects of a command are the same, unless it edits records and one of the two is a refusal for lack of room in blocks, which may
--- rest on more of a file than its value.
+-- Two effects of a command are the same, unless it edits records and one of the two is a refusal for lack of room in
+-- blocks, which may rest on more of a file than its value.
 abbrev pub SameUnlessFull : Command → (refusal stop : Option Refusal) → (same : Type 0) → Type 0
 SameUnlessFull command = UnlessOneFull (edits_records command)

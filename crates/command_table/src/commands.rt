@@ -45,8 +45,8 @@ pub fn carry_out<S: Store, I: Source, O: Sink, E: Sink, L: Link>(
     ensures err { (described command).uses.warns ≡ false → err.new ≡ err.old }
     ensures link { (described command).uses.link ≡ false → link.new ≡ link.old }
     ensures source { I.keeps false input.old input.new }
-    // All that is committed are files that its steps come to, in which no other file has changed than the command changes; and where it
-    // changes files at one moment, those of one moment alone: of the end, where it was done.
+    // All that is committed are files that its steps come to, in which no other file has changed than the command
+    // changes; and where it changes files at one moment, those of one moment alone: of the end, where it was done.
     ensures commits { IsToldAsUsed (described command).uses (tells_of S.tells I.tells O.tells E.tells L.tells)
         → CommandCommits (described command) invocation (is_ok result)
         (outside_of (seen_of (S.seen store.old) (I.seen input.old) (O.seen out.old) (E.seen err.old) (L.seen link.old)))

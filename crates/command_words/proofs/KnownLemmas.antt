@@ -5,7 +5,9 @@ use Rattle.command_words.specs.declared.command.Command.{Command}
 use Rattle.command_words.specs.declared.command.Command.TheVariants.{Convert, Generate}
 use Rattle.command_words.specs.Modes.{mode_of}
 use Rattle.command_words.specs.declared.mode.Mode.{Mode}
-use Rattle.command_words.specs.declared.mode.Mode.TheVariants.{Reporting, Limiting, Copying, Batching, SettingGrace, SettingTimes, Printing, Applying, Checking, Converting, Serving, Scripting, Generating}
+use Rattle.command_words.specs.declared.mode.Mode.TheVariants.{Reporting, Limiting, Copying, Batching, SettingGrace}
+use Rattle.command_words.specs.declared.mode.Mode.TheVariants.{SettingTimes, Printing, Applying, Checking, Converting}
+use Rattle.command_words.specs.declared.mode.Mode.TheVariants.{Serving, Scripting, Generating}
 use Rattle.option_words.specs.FileName.{is_file_name}
 use Rattle.option_words.specs.Given.{GivenOptions}
 use Rattle.command_words.proofs.FormedLemmas.{HoldsOfFormed, holds_of_asked}
@@ -31,5 +33,7 @@ known_by Serving told = λ calls port given. tt
 known_by Scripting told = tt
 known_by Generating told = λ seed count file few. few
 
-pub is_known : (in_script : Bool) (words : List (List ℕ)) (command : Command) → command_of in_script words ≡ Ok command → IsKnown command
-is_known in_script words command = holds_of_asked in_script IsKnown words command (λ tool items told given whole. known_by (mode_of tool told) told)
+pub is_known : (in_script : Bool) (words : List (List ℕ)) (command : Command) → command_of in_script words ≡ Ok command
+    → IsKnown command
+is_known in_script words command =
+    holds_of_asked in_script IsKnown words command (λ tool items told given whole. known_by (mode_of tool told) told)

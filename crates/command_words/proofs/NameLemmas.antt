@@ -1,5 +1,7 @@
--- The names of the files of a conversion: the one that is converted has no name under which a new file is written first.
-use Rattle.std.proofs.Common.{◌≡◌, ◌≢◌, ◌∙◌, ℕ, ◌-◌, Bool, true, false, not, ◌&&◌, List, ◌++◌, length, drop, refl, ap, arith, length-append}
+-- The names of the files of a conversion: the one that is converted has no name under which a new file is written
+-- first.
+use Rattle.std.proofs.Common.{◌≡◌, ◌≢◌, ◌∙◌, ℕ, ◌-◌, Bool, true, false, not, ◌&&◌, List, ◌++◌, length, drop, refl, ap}
+use Rattle.std.proofs.Common.{arith, length-append}
 use Rattle.std.specs.Prelude.{codes, nat_le}
 use Rattle.std.specs.List.{list_all}
 use Rattle.std.specs.Str.{bytes_eq}
@@ -25,8 +27,10 @@ ends_added name ending =
 pub never_new : (source target : List ℕ) → is_file_name source ≡ true → source ≢ replacement_name target
 unfolding replacement_name
 never_new source target named same =
-    let ends : ends_so source (codes ".new") ≡ true = ap (λ (name : List ℕ). ends_so name (codes ".new")) same ∙ ends_added target (codes ".new") in
+    let ends : ends_so source (codes ".new") ≡ true =
+    ap (λ (name : List ℕ). ends_so name (codes ".new")) same ∙ ends_added target (codes ".new") in
     let not_so : ends_so source (codes ".new") ≡ false =
-    fourth (nat_le 1 (length source)) (nat_le (length source) 250) (list_all is_graphic source) (ends_so source (codes ".new")) (not (ends_so source (codes ".undo")))
+    fourth (nat_le 1 (length source)) (nat_le (length source) 250) (list_all is_graphic source)
+    (ends_so source (codes ".new")) (not (ends_so source (codes ".undo")))
     (not (ends_so source (codes ".und"))) named in
     absurd (cc)

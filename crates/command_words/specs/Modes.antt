@@ -1,6 +1,7 @@
 -- The modes of the commands: which options go together, which operands they have, and what they ask for. Source: the
 -- manual pages of the commands.
-use Rattle.std.specs.Prelude.{ℕ, Bool, false, not, ◌&&◌, ◌||◌, nat_lt, if◌then◌else◌, List, [], ◌∷◌, length, Option, Some, None, is_some, is_none, Result, Ok, Err}
+use Rattle.std.specs.Prelude.{ℕ, Bool, false, not, ◌&&◌, ◌||◌, nat_lt, if◌then◌else◌, List, [], ◌∷◌, length, Option}
+use Rattle.std.specs.Prelude.{Some, None, is_some, is_none, Result, Ok, Err}
 use Rattle.std.specs.List.{list_any}
 use Rattle.std.specs.Str.{bytes_eq}
 use Rattle.quota_types.specs.Format.{is_flat}
@@ -12,16 +13,23 @@ use Rattle.report_options.specs.declared.options.Options.{Options}
 use Rattle.input_text.specs.Numeral.{number_of}
 use Rattle.refusals.specs.declared.cause.UsageKind.TheVariants.{MissingOption, WrongOperands, BadValue, BadFileName}
 use Rattle.command_words.specs.declared.command.Command.{Command}
-use Rattle.command_words.specs.declared.command.Command.TheVariants.{Report, SetLimits, CopyLimits, Batch, SetGrace, SetTimes, PrintForm, ApplyForm, Check, Convert, Serve, Script, Generate}
+use Rattle.command_words.specs.declared.command.Command.TheVariants.{Report, SetLimits, CopyLimits, Batch, SetGrace}
+use Rattle.command_words.specs.declared.command.Command.TheVariants.{SetTimes, PrintForm, ApplyForm, Check, Convert}
+use Rattle.command_words.specs.declared.command.Command.TheVariants.{Serve, Script, Generate}
 use Rattle.command_words.specs.declared.command.Common.{Common}
 use Rattle.option_words.specs.declared.export_option.ExportOption.{ExportOption}
 use Rattle.option_words.specs.declared.given.Conversion.{Conversion}
 use Rattle.option_words.specs.declared.word_fault.Fault.{Fault}
 use Rattle.command_words.specs.declared.mode.Mode.{Mode}
-use Rattle.command_words.specs.declared.mode.Mode.TheVariants.{Reporting, Limiting, Copying, Batching, SettingGrace, SettingTimes, Printing, Applying, Checking, Converting, Serving, Scripting, Generating}
+use Rattle.command_words.specs.declared.mode.Mode.TheVariants.{Reporting, Limiting, Copying, Batching, SettingGrace}
+use Rattle.command_words.specs.declared.mode.Mode.TheVariants.{SettingTimes, Printing, Applying, Checking, Converting}
+use Rattle.command_words.specs.declared.mode.Mode.TheVariants.{Serving, Scripting, Generating}
 use Rattle.option_words.specs.declared.switch.Flags.{Flags}
 use Rattle.option_words.specs.declared.tool.Tool.{Tool}
-use Rattle.option_words.specs.declared.tool.Tool.TheVariants.{Repquota as RepquotaTool, Setquota as SetquotaTool, Edquota as EdquotaTool, Quotacheck as QuotacheckTool, Convertquota as ConvertquotaTool, Rquotad as RquotadTool, Script as ScriptTool, Generate as GenerateTool}
+use Rattle.option_words.specs.declared.tool.Tool.TheVariants.{Repquota as RepquotaTool, Setquota as SetquotaTool}
+use Rattle.option_words.specs.declared.tool.Tool.TheVariants.{Edquota as EdquotaTool, Quotacheck as QuotacheckTool}
+use Rattle.option_words.specs.declared.tool.Tool.TheVariants.{Convertquota as ConvertquotaTool, Rquotad as RquotadTool}
+use Rattle.option_words.specs.declared.tool.Tool.TheVariants.{Script as ScriptTool, Generate as GenerateTool}
 use Rattle.option_words.specs.Fault.{fault, unless, with_value}
 use Rattle.option_words.specs.FileName.{is_file_name}
 use Rattle.option_words.specs.Given.{GivenOptions}
@@ -54,8 +62,8 @@ abbrev pub is_flat_conversion : Option Conversion → Bool
 is_flat_conversion None = false
 is_flat_conversion (Some formats) = is_flat formats.old || is_flat formats.new
 
--- Flat files of projects are asked for. Both flat formats, vfsold and vfsold32, are of quotas of users and groups alone, and nothing in a
--- file of either tells its kind.
+-- Flat files of projects are asked for. Both flat formats, vfsold and vfsold32, are of quotas of users and groups
+-- alone, and nothing in a file of either tells its kind.
 abbrev pub are_flat_projects : GivenOptions → Bool
 are_flat_projects told = are_projects told && (is_flat_format told.format || is_flat_conversion told.conversion)
 
@@ -69,12 +77,13 @@ are_two_modes EdquotaTool told =
     || (is_some told.input && told.flags.print)
 are_two_modes _ told = false
 
--- Options that exclude each other: two kinds; projects and the format of a flat file; two modes of one command, and an input where the
--- mode reads none.
+-- Options that exclude each other: two kinds; projects and the format of a flat file; two modes of one command, and an
+-- input where the mode reads none.
 abbrev pub excludes : Tool → GivenOptions → Bool
 excludes tool told = are_two_kinds told.flags || are_flat_projects told || are_two_modes tool told
 
--- A required option is not there. In a script the standard input is the script's, so what reads an input has to name it.
+-- A required option is not there. In a script the standard input is the script's, so what reads an input has to name
+-- it.
 abbrev pub lacks : (in_script : Bool) → Tool → GivenOptions → Bool
 lacks in_script SetquotaTool told = in_script && told.flags.batch && is_none told.input
 lacks in_script EdquotaTool told =
@@ -121,14 +130,15 @@ abbrev pub is_value : Operand → Option (List ℕ) → Bool
 is_value operand (Some value) = bytes_eq operand.text value
 is_value operand None = false
 
--- The command that a mode asks for by its operands, which are as many as stand here. A file is the name of one; the seed
--- of a listing is below 2^64, and it has 1 to 1,000,000 lines. What is wrong with their number is said at the number of
--- all words.
+-- The command that a mode asks for by its operands, which are as many as stand here. A file is the name of one; the
+-- seed of a listing is below 2^64, and it has 1 to 1,000,000 lines. What is wrong with their number is said at the
+-- number of all words.
 abbrev pub formed : Mode → GivenOptions → (words : ℕ) → List Operand → Result Command Fault
 formed Reporting told words (file ∷ []) =
     named file (Ok (Report (common_of told) (options_of told.flags) file.text))
 formed Limiting told words (name ∷ bsoft ∷ bhard ∷ isoft ∷ ihard ∷ file ∷ []) =
-    named file (Ok (SetLimits (common_of told) name.text (bsoft.text ∷ bhard.text ∷ isoft.text ∷ ihard.text ∷ []) file.text))
+    named file
+    (Ok (SetLimits (common_of told) name.text (bsoft.text ∷ bhard.text ∷ isoft.text ∷ ihard.text ∷ []) file.text))
 formed Copying told words (name ∷ file ∷ []) =
     named file (with_value told.proto (fault MissingOption words) (λ proto.
     Ok (CopyLimits (common_of told) proto name.text file.text)))

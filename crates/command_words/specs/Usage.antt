@@ -14,7 +14,8 @@ abbrev pub IsUsageFault : Result Command Refusal → UsageFault → Type 0
 IsUsageFault asked (Usage kind word) = asked ≡ Err (refusal_of (UsageCause kind word) [])
 IsUsageFault asked Memory = IsOk asked
 
--- The words ask for nothing, and this fault of theirs is what is wrong, whose refusal is not made yet; or there was not enough memory.
+-- The words ask for nothing, and this fault of theirs is what is wrong, whose refusal is not made yet; or there was not
+-- enough memory.
 abbrev pub IsFaultOf : Result Command Fault → UsageFault → Type 0
 IsFaultOf asked (Usage kind word) = asked ≡ Err (record { kind = kind; word = word })
 IsFaultOf asked Memory = IsOk asked

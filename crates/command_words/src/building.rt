@@ -22,7 +22,8 @@ pub fn mode_command(
     operands: &[OperandWord<'_>],
     words: usize,
 ) -> Result<Command, UsageFault>
-    ensures { MatchResult result (λ command. formed mode (given_options given.now) words (operands_seen operands.now) ≡ Ok command)
+    ensures { MatchResult result
+        (λ command. formed mode (given_options given.now) words (operands_seen operands.now) ≡ Ok command)
         (IsFaultOf (formed mode (given_options given.now) words (operands_seen operands.now))) }
 {
     match mode {
@@ -44,7 +45,8 @@ pub fn mode_command(
 
 /// A list of commands.
 fn script(operands: &[OperandWord<'_>], words: usize) -> Result<Command, UsageFault>
-    ensures { (given : GivenOptions) → MatchResult result (λ command. formed Mode.Scripting given words (operands_seen operands.now) ≡ Ok command)
+    ensures { (given : GivenOptions)
+        → MatchResult result (λ command. formed Mode.Scripting given words (operands_seen operands.now) ≡ Ok command)
         (IsFaultOf (formed Mode.Scripting given words (operands_seen operands.now))) }
 {
     if operands.is_empty() {
@@ -61,7 +63,8 @@ fn report(
     operands: &[OperandWord<'_>],
     words: usize,
 ) -> Result<Command, UsageFault>
-    ensures { MatchResult result (λ command. formed Mode.Reporting (given_options given.now) words (operands_seen operands.now) ≡ Ok command)
+    ensures { MatchResult result
+        (λ command. formed Mode.Reporting (given_options given.now) words (operands_seen operands.now) ≡ Ok command)
         (IsFaultOf (formed Mode.Reporting (given_options given.now) words (operands_seen operands.now))) }
 {
     let [file] = operands else {
@@ -82,7 +85,8 @@ fn limits(
     operands: &[OperandWord<'_>],
     words: usize,
 ) -> Result<Command, UsageFault>
-    ensures { MatchResult result (λ command. formed Mode.Limiting (given_options given.now) words (operands_seen operands.now) ≡ Ok command)
+    ensures { MatchResult result
+        (λ command. formed Mode.Limiting (given_options given.now) words (operands_seen operands.now) ≡ Ok command)
         (IsFaultOf (formed Mode.Limiting (given_options given.now) words (operands_seen operands.now))) }
 {
     let [name, bsoft, bhard, isoft, ihard, file] = operands else {
@@ -109,7 +113,8 @@ fn copy(
     operands: &[OperandWord<'_>],
     words: usize,
 ) -> Result<Command, UsageFault>
-    ensures { MatchResult result (λ command. formed Mode.Copying (given_options given.now) words (operands_seen operands.now) ≡ Ok command)
+    ensures { MatchResult result
+        (λ command. formed Mode.Copying (given_options given.now) words (operands_seen operands.now) ≡ Ok command)
         (IsFaultOf (formed Mode.Copying (given_options given.now) words (operands_seen operands.now))) }
 {
     let [name, file] = operands else {
@@ -134,7 +139,8 @@ fn batch(
     operands: &[OperandWord<'_>],
     words: usize,
 ) -> Result<Command, UsageFault>
-    ensures { MatchResult result (λ command. formed Mode.Batching (given_options given.now) words (operands_seen operands.now) ≡ Ok command)
+    ensures { MatchResult result
+        (λ command. formed Mode.Batching (given_options given.now) words (operands_seen operands.now) ≡ Ok command)
         (IsFaultOf (formed Mode.Batching (given_options given.now) words (operands_seen operands.now))) }
 {
     let [file] = operands else {
@@ -158,7 +164,8 @@ fn grace(
     operands: &[OperandWord<'_>],
     words: usize,
 ) -> Result<Command, UsageFault>
-    ensures { MatchResult result (λ command. formed Mode.SettingGrace (given_options given.now) words (operands_seen operands.now) ≡ Ok command)
+    ensures { MatchResult result
+        (λ command. formed Mode.SettingGrace (given_options given.now) words (operands_seen operands.now) ≡ Ok command)
         (IsFaultOf (formed Mode.SettingGrace (given_options given.now) words (operands_seen operands.now))) }
 {
     let [block, inode, file] = operands else {
@@ -180,7 +187,8 @@ fn times(
     operands: &[OperandWord<'_>],
     words: usize,
 ) -> Result<Command, UsageFault>
-    ensures { MatchResult result (λ command. formed Mode.SettingTimes (given_options given.now) words (operands_seen operands.now) ≡ Ok command)
+    ensures { MatchResult result
+        (λ command. formed Mode.SettingTimes (given_options given.now) words (operands_seen operands.now) ≡ Ok command)
         (IsFaultOf (formed Mode.SettingTimes (given_options given.now) words (operands_seen operands.now))) }
 {
     let [name, block, inode, file] = operands else {
@@ -203,7 +211,8 @@ fn print(
     operands: &[OperandWord<'_>],
     words: usize,
 ) -> Result<Command, UsageFault>
-    ensures { MatchResult result (λ command. formed Mode.Printing (given_options given.now) words (operands_seen operands.now) ≡ Ok command)
+    ensures { MatchResult result
+        (λ command. formed Mode.Printing (given_options given.now) words (operands_seen operands.now) ≡ Ok command)
         (IsFaultOf (formed Mode.Printing (given_options given.now) words (operands_seen operands.now))) }
 {
     let [name, file] = operands else {
@@ -224,7 +233,8 @@ fn apply(
     operands: &[OperandWord<'_>],
     words: usize,
 ) -> Result<Command, UsageFault>
-    ensures { MatchResult result (λ command. formed Mode.Applying (given_options given.now) words (operands_seen operands.now) ≡ Ok command)
+    ensures { MatchResult result
+        (λ command. formed Mode.Applying (given_options given.now) words (operands_seen operands.now) ≡ Ok command)
         (IsFaultOf (formed Mode.Applying (given_options given.now) words (operands_seen operands.now))) }
 {
     let [name, file] = operands else {
@@ -246,7 +256,8 @@ fn check(
     operands: &[OperandWord<'_>],
     words: usize,
 ) -> Result<Command, UsageFault>
-    ensures { MatchResult result (λ command. formed Mode.Checking (given_options given.now) words (operands_seen operands.now) ≡ Ok command)
+    ensures { MatchResult result
+        (λ command. formed Mode.Checking (given_options given.now) words (operands_seen operands.now) ≡ Ok command)
         (IsFaultOf (formed Mode.Checking (given_options given.now) words (operands_seen operands.now))) }
 {
     let [file] = operands else {
@@ -269,7 +280,8 @@ fn convert(
     operands: &[OperandWord<'_>],
     words: usize,
 ) -> Result<Command, UsageFault>
-    ensures { MatchResult result (λ command. formed Mode.Converting (given_options given.now) words (operands_seen operands.now) ≡ Ok command)
+    ensures { MatchResult result
+        (λ command. formed Mode.Converting (given_options given.now) words (operands_seen operands.now) ≡ Ok command)
         (IsFaultOf (formed Mode.Converting (given_options given.now) words (operands_seen operands.now))) }
 {
     let [source, target] = operands else {
@@ -296,7 +308,8 @@ fn serve(
     operands: &[OperandWord<'_>],
     words: usize,
 ) -> Result<Command, UsageFault>
-    ensures { MatchResult result (λ command. formed Mode.Serving (given_options given.now) words (operands_seen operands.now) ≡ Ok command)
+    ensures { MatchResult result
+        (λ command. formed Mode.Serving (given_options given.now) words (operands_seen operands.now) ≡ Ok command)
         (IsFaultOf (formed Mode.Serving (given_options given.now) words (operands_seen operands.now))) }
 {
     if !operands.is_empty() {
@@ -319,7 +332,8 @@ fn generate(
     operands: &[OperandWord<'_>],
     words: usize,
 ) -> Result<Command, UsageFault>
-    ensures { (given : GivenOptions) → MatchResult result (λ command. formed Mode.Generating given words (operands_seen operands.now) ≡ Ok command)
+    ensures { (given : GivenOptions)
+        → MatchResult result (λ command. formed Mode.Generating given words (operands_seen operands.now) ≡ Ok command)
         (IsFaultOf (formed Mode.Generating given words (operands_seen operands.now))) }
 {
     let [seed, count, file] = operands else {
@@ -349,7 +363,8 @@ fn wrong_operands(words: usize) -> UsageFault
 /// Whether an operand is the name of a file.
 fn named(operand: &OperandWord<'_>) -> Result<(), UsageFault>
     ensures { MatchResult result (λ _. is_file_name operand.now.text.now ≡ true)
-        (λ met. (is_file_name operand.now.text.now ≡ false) × (met ≡ UsageFault.Usage UsageKind.BadFileName operand.now.word)) }
+        (λ met.
+        (is_file_name operand.now.text.now ≡ false) × (met ≡ UsageFault.Usage UsageKind.BadFileName operand.now.word)) }
 {
     if is_file_name(operand.text) {
         Ok(())

@@ -1,6 +1,8 @@
 ghost use Rattle.std.specs.Prelude.{◌≡◌};
 ghost use Rattle.std.specs.List.{list_any};
-ghost use Rattle.command_words.specs.Modes.{are_flat_projects, are_projects, are_two_kinds, are_two_modes, excludes, is_flat_conversion, is_flat_format, is_of_projects, kind_asked, lacks, mode_of, options_of, two_of};
+ghost use Rattle.command_words.specs.Modes.{are_flat_projects, are_projects, are_two_kinds, are_two_modes, excludes};
+ghost use Rattle.command_words.specs.Modes.{is_flat_conversion, is_flat_format, is_of_projects, kind_asked, lacks};
+ghost use Rattle.command_words.specs.Modes.{mode_of, options_of, two_of};
 ghost use Rattle.option_words.specs.Given.{exports_given, given_options};
 
 use option_words::{Conversion, ExportWords, Flags, Given, Tool};

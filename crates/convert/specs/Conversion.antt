@@ -1,6 +1,6 @@
--- What a change of format makes of the value of a quota file. Source: convertquota(8), which carries limits, usage, timers and
--- grace periods over; that nothing is cut, that records without limits and usage are left out, and that a new file has no flags
--- is this project's own.
+-- What a change of format makes of the value of a quota file. Source: convertquota(8), which carries limits, usage,
+-- timers and grace periods over; that nothing is cut, that records without limits and usage are left out, and that a
+-- new file has no flags is this project's own.
 use Rattle.std.specs.Prelude.{ℕ, not, map, filter, List, ◌++◌, Option, Some, None, Result, Ok, Err, slice_get}
 use Rattle.std.specs.FinMap.{entries, from_entries}
 use Rattle.std.specs.List.{filter_map}
@@ -36,8 +36,8 @@ record_no_room format entry = option_map (no_room_at entry.0) (unfit format entr
 unfoldable pub lasting : Records → List (ℕ × Rec)
 lasting records = filter (λ entry. not (is_null_of entry.1)) (entries records)
 
--- The values for which a format has no room, in the order in which they are told: the first grace period, then the first value
--- of each record that limits or counts something, by ascending identifiers.
+-- The values for which a format has no room, in the order in which they are told: the first grace period, then the
+-- first value of each record that limits or counts something, by ascending identifiers.
 unfoldable pub all_without_room : Format → QuotaValue → List NoRoom
 all_without_room format value =
     option_to_list (grace_no_room format value.grace) ++ filter_map (record_no_room format) (lasting value.records)
@@ -46,11 +46,17 @@ all_without_room format value =
 unfoldable pub lasting_kept : Format → Records → Records
 lasting_kept format records = from_entries (map (λ entry. (entry.0, kept_of format entry.0 entry.1)) (lasting records))
 
--- The value of the new file: of the same kind, with the same grace periods, without flags, and with what its format keeps of
--- the records that limit or count something.
+-- The value of the new file: of the same kind, with the same grace periods, without flags, and with what its format
+-- keeps of the records that limit or count something.
 abbrev pub converted_value : Format → QuotaValue → QuotaValue
 converted_value format value =
-    record { kind = value.kind; format = format; grace = value.grace; flags = 0; records = lasting_kept format value.records }
+    record {
+      kind = value.kind;
+      format = format;
+      grace = value.grace;
+      flags = 0;
+      records = lasting_kept format value.records;
+    }
 
 -- a value in another format, or the first value for which that has no room
 abbrev pub converted : Format → QuotaValue → Result QuotaValue NoRoom

@@ -1,4 +1,5 @@
--- Values and their conversion with the records in a list, as the code has them. No contract of a public call speaks of it.
+-- Values and their conversion with the records in a list, as the code has them. No contract of a public call speaks of
+-- it.
 use Rattle.std.specs.Prelude.{not, map, filter, List, Option}
 use Rattle.std.specs.List.{filter_map}
 use Rattle.quota_types.specs.declared.field.NoRoom.{NoRoom}

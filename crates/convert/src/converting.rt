@@ -15,17 +15,17 @@ use quota_map::replace_file;
 use quota_types::{Format, Kind};
 use std::alloc::Global;
 
-/// Makes a file of name `to` and format `new` from the file of name `from` and format `old`, in which a tree file may have at
-/// most `limit` blocks. It has the same grace periods and what its format keeps of each record that limits or counts
-/// something, and no flags. Nothing is written before all of it is known to fit, and no file is written over.
+/// Makes a file of name `to` and format `new` from the file of name `from` and format `old`, in which a tree file may
+/// have at most `limit` blocks. It has the same grace periods and what its format keeps of each record that limits or
+/// counts something, and no flags. Nothing is written before all of it is known to fit, and no file is written over.
 ///
 /// # Errors
 ///
-/// The first cause that holds, in the order of `ConvertFault`: the names are the same, there is a target, the source is not
-/// opened, the new format has no room for a value, or the target would need more blocks than `limit`. `NoRoom` names the
-/// grace period for blocks, then the one for inodes, then the least identifier with such a value and its first such field;
-/// records without limits and usage are not looked at. Or the store failed, or there is not enough memory. The source is as
-/// before in every case, and there is no target that was not there.
+/// The first cause that holds, in the order of `ConvertFault`: the names are the same, there is a target, the source is
+/// not opened, the new format has no room for a value, or the target would need more blocks than `limit`. `NoRoom`
+/// names the grace period for blocks, then the one for inodes, then the least identifier with such a value and its
+/// first such field; records without limits and usage are not looked at. Or the store failed, or there is not enough
+/// memory. The source is as before in every case, and there is no target that was not there.
 pub fn convert<S: Store>(
     alloc: Global,
     store: &mut S,
@@ -37,13 +37,15 @@ pub fn convert<S: Store>(
     limit: u32,
 ) -> Result<(), ConvertFault>
     requires { from.now ≢ replacement_name to.now }
-    ensures made { OnOk result (IsMade S.tells (asked_for from.now to.now old new kind limit) (S.seen store.old) (S.seen store.new)) }
+    ensures made { OnOk result
+        (IsMade S.tells (asked_for from.now to.now old new kind limit) (S.seen store.old) (S.seen store.new)) }
     ensures refused { IfErr result (IsConvertFault S.tells (asked_for from.now to.now old new kind limit)
         (S.seen store.old) (S.seen store.new)) }
     ensures unwritten { IfErr result (λ fault. UnlessMaking fault
         (OnlyLooks from.now to.now (S.seen store.old) (S.seen store.new))) }
     // Where it was refused there is no target that was not there, after a fault of the store too.
-    ensures unchanged { OnErr result (KeepsOthers (replacement_name to.now) (S.seen store.old).files (S.seen store.new).files) }
+    ensures unchanged { OnErr result
+        (KeepsOthers (replacement_name to.now) (S.seen store.old).files (S.seen store.new).files) }
     ensures source { (S.seen store.new).files from.now ≡ (S.seen store.old).files from.now }
     ensures leaves { LeavesOthers from.now to.now (S.seen store.old) (S.seen store.new) }
     ensures synced { OnOk result (IsTrue S.tells → IsKeptSafe to.now (S.seen store.old) (S.seen store.new)) }

@@ -8,23 +8,26 @@ ghost use Rattle.convert.specs.Listing.{entry_no_room, kept_entry, kept_list, la
 
 use quota_types::{Entry, Format, Grace, NoRoom, check_grace, check_record, kept};
 
-/// Makes of a list of records what the format keeps of it, without those that limit and count nothing. It takes no memory.
+/// Makes of a list of records what the format keeps of it, without those that limit and count nothing. It takes no
+/// memory.
 ///
 /// # Errors
 ///
-/// The first value for which the format has no room: of the grace periods, then of the first record that limits or counts
-/// something and has one. The list may then be kept in part.
+/// The first value for which the format has no room: of the grace periods, then of the first record that limits or
+/// counts something and has one. The list may then be kept in part.
 pub(crate) fn keep_entries(
     format: Format,
     grace: &Grace,
     entries: &mut Vec<Entry>,
 ) -> Result<(), NoRoom>
     ensures kept { OnOk result (entries.new.items ≡ kept_list format entries.old.items) }
-    ensures fits { OnOk result (option_to_list (grace_no_room format grace.now) ++ list_without_room format entries.old.items ≡ []) }
+    ensures fits { OnOk result
+        (option_to_list (grace_no_room format grace.now) ++ list_without_room format entries.old.items ≡ []) }
     ensures again { OnOk result (All (λ entry. IsKept format entry.id entry.rec) entries.new.items) }
     ensures lasting { OnOk result (All (λ entry. is_null_of entry.rec ≡ false) entries.new.items) }
     ensures refused { IfErr result (λ out.
-        slice_get (option_to_list (grace_no_room format grace.now) ++ list_without_room format entries.old.items) 0 ≡ Some out) }
+        slice_get (option_to_list (grace_no_room format grace.now) ++ list_without_room format entries.old.items) 0
+        ≡ Some out) }
 {
     check_grace(format, grace)?;
     drop_null(entries);

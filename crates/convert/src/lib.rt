@@ -1,7 +1,7 @@
 //! A quota file in another format: vfsold, vfsold32, vfsv0 or vfsv1.
 //!
-//! The one promise: `convert` makes a new file with the same grace periods and with what the new format keeps of each record
-//! that limits or counts something, or names the first cause for which it cannot, and then has written nothing.
+//! The one promise: `convert` makes a new file with the same grace periods and with what the new format keeps of each
+//! record that limits or counts something, or names the first cause for which it cannot, and then has written nothing.
 #![tactic(auto)]
 
 mod convert_fault;

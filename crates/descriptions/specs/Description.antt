@@ -15,8 +15,8 @@ use Rattle.run_steps.specs.SameViews.{FileAsked}
 use Rattle.run_steps.specs.Steps.{Steps}
 use Rattle.run_steps.specs.declared.invocation.Invocation.{Invocation}
 
--- What a command may look at among the files: the quota files that it opens, in order; the file of names and the file of an input,
--- where it reads one; and the name of which it asks only whether there is a file.
+-- What a command may look at among the files: the quota files that it opens, in order; the file of names and the file
+-- of an input, where it reads one; and the name of which it asks only whether there is a file.
 pub record Looks : Type 0 where
   pub opens : List FileAsked
   pub names : Option (List ℕ)
@@ -39,14 +39,16 @@ pub record Description : Type 1 where
   pub uses : Uses
   -- the causes for which it may be refused, whatever is told, with the name that is said
   pub may : Cause → List ℕ → Type 0
-  -- the refusal of its first faulty word, among those that stand for an identifier, a number or a time, where that rests on
-  -- nothing but the words
+  -- the refusal of its first faulty word, among those that stand for an identifier, a number or a time, where that
+  -- rests on nothing but the words
   pub faulty : Option Refusal
   -- the file that it replaces as a whole, which stays as it was where the command was refused
   pub replaces : Option (List ℕ)
-  -- the file that it edits, which stays as it was where the command was refused, but for what an edit that failed may leave of it
+  -- the file that it edits, which stays as it was where the command was refused, but for what an edit that failed may
+  -- leave of it
   pub edits : Option (List ℕ)
-  -- whether nothing was written where there was not enough memory; of one that is all or nothing, or that only reads, its uses say so
+  -- whether nothing was written where there was not enough memory; of one that is all or nothing, or that only reads,
+  -- its uses say so
   pub unwritten : Bool
   -- the only file that it changes, and the only one that it writes, however it ends
   pub alone : Option (List ℕ)
@@ -66,8 +68,8 @@ pub record Description : Type 1 where
   pub known : Type 0
   -- what holds where it is said that the link failed: not all that was to be done with the link was done
   pub unfinished : Invocation → RunTells → RunSeen → RunSeen → Type 0
-  -- what holds of the files at the end where an edit was refused, since the file that the refusal names is full: it would have this many
-  -- blocks, and may have no more than the limit
+  -- what holds of the files at the end where an edit was refused, since the file that the refusal names is full: it
+  -- would have this many blocks, and may have no more than the limit
   pub full : Invocation → Outside → World → Refusal → (blocks limit : ℕ) → Type 0
   -- whether it came to use the link, by the bytes of the input and the refusal with which it ended, if it did with one
   pub links : List ℕ → Option Refusal → Bool
@@ -76,10 +78,11 @@ pub record Description : Type 1 where
   -- conditions with which it changes files at one moment alone, so that a stop leaves the old ones or the new ones
   pub at_once : Invocation → Outside → Type 0
 
--- A plain row of the table, which says of a command its steps, the objects that it uses and the causes for which it may be refused, and of
--- all else the least: it changes no file that is named, no word of it is faulty by itself, nothing bounds its calls, it looks at no file,
--- and edits none, nothing more is known or said, no conditions are known that suffice, and files change at one moment alone. It comes to
--- use the link where it uses it, whatever the input says and whichever its refusal is. A command says beside it what is more, or else.
+-- A plain row of the table, which says of a command its steps, the objects that it uses and the causes for which it may
+-- be refused, and of all else the least: it changes no file that is named, no word of it is faulty by itself, nothing
+-- bounds its calls, it looks at no file, and edits none, nothing more is known or said, no conditions are known that
+-- suffice, and files change at one moment alone. It comes to use the link where it uses it, whatever the input says and
+-- whichever its refusal is. A command says beside it what is more, or else.
 abbrev pub row : (Invocation → Steps) → Uses → (Cause → List ℕ → Type 0) → Description
 row steps uses may = record {
   steps = steps;
@@ -111,14 +114,15 @@ pub record IsOnlyRead (old new : RunSeen) : Type 0 where
   pub err : new.err ≡ old.err
   pub link : new.link ≡ old.link
 
--- What holds of a file that is edited, by the status at the end. With status 0 this says nothing. With any other one the file is as it
--- was, or, where that is 4 and something outside failed, what an edit of it to some value that failed may leave.
+-- What holds of a file that is edited, by the status at the end. With status 0 this says nothing. With any other one
+-- the file is as it was, or, where that is 4 and something outside failed, what an edit of it to some value that failed
+-- may leave.
 abbrev pub IsLeftByEdit : (status : ℕ) (old new : World) → List ℕ → Type 0
 IsLeftByEdit status old new file =
     status ≢ 0 → (new file ≡ old file) ⊎ ((status ≡ 4) × ((value : QuotaValue) × MayBeLeft value (old file) (new file)))
 
--- No other file has changed than the only one that a command changes, or than the only one that it makes anew and the one with `.new`
--- added to that name.
+-- No other file has changed than the only one that a command changes, or than the only one that it makes anew and the
+-- one with `.new` added to that name.
 pub record ChangesOnly (command : Description) (old new : World) : Type 0 where
   pub alone : IfSome command.alone (λ (file : List ℕ). KeepsOthers file old new)
   pub anew : IfSome command.anew (λ (file : List ℕ). ReplacesOnly file old new)
@@ -128,8 +132,8 @@ pub record MayCommit (command : Description) (old world : World) : Type 0 where
   pub only : ChangesOnly command old world
   pub none : command.uses.changes ≡ false → world ≡ old
 
--- However a command ended, and whatever is told, no other file has changed than it changes, and there were no more calls of `write` to the
--- store than it makes.
+-- However a command ended, and whatever is told, no other file has changed than it changes, and there were no more
+-- calls of `write` to the store than it makes.
 pub record ChangesWithin (command : Description) (old new : StoreSeen) : Type 0 where
   pub files : ChangesOnly command old.files new.files
   pub few : IfSome command.most_writes (λ (most : ℕ). new.writes ≤ old.writes + most)

@@ -8,15 +8,18 @@ use Rattle.disk.specs.DiskCalls.{ChangesFile, CutShort, Shortened, Torn}
 pub torn-same : (stays : ℕ → Type 0) (file : Option (List ℕ)) → Torn stays file file
 torn-same stays file = record { there = λ is. is; no_shorter = omega arith; same = λ place stay below. refl }
 
-pub torn-then : (stays : ℕ → Type 0) (old between new : Option (List ℕ)) → Torn stays old between → Torn stays between new → Torn stays old new
+pub torn-then : (stays : ℕ → Type 0) (old between new : Option (List ℕ)) → Torn stays old between
+    → Torn stays between new → Torn stays old new
 torn-then stays old between new first second = record {
   there = λ is. second.there (first.there is);
   no_shorter = omega (arith, first.no_shorter, second.no_shorter);
-  same = λ place stay below. second.same place stay (omega (arith, first.no_shorter, below)) ∙ first.same place stay below;
+  same =
+      λ place stay below. second.same place stay (omega (arith, first.no_shorter, below)) ∙ first.same place stay below;
 }
 
 -- fewer places stay
-pub torn-less : (more fewer : ℕ → Type 0) (old new : Option (List ℕ)) → ((place : ℕ) → fewer place → more place) → Torn more old new → Torn fewer old new
+pub torn-less : (more fewer : ℕ → Type 0) (old new : Option (List ℕ)) → ((place : ℕ) → fewer place → more place)
+    → Torn more old new → Torn fewer old new
 torn-less more fewer old new sub torn = record {
   there = torn.there;
   no_shorter = torn.no_shorter;
@@ -32,7 +35,8 @@ pub shortened-same : (len : ℕ) (file : Option (List ℕ)) → Shortened len fi
 shortened-same len file = record { cut = cut_short-same len file; absent = λ none. none }
 
 -- no name's file changes
-pub changes_file-same : (Changes : Option (List ℕ) → Option (List ℕ) → Type 0) (name : List ℕ) (files : World) → Changes (files name) (files name) → ChangesFile Changes name files files
+pub changes_file-same : (Changes : Option (List ℕ) → Option (List ℕ) → Type 0) (name : List ℕ) (files : World)
+    → Changes (files name) (files name) → ChangesFile Changes name files files
 changes_file-same Changes name files same = (same, λ other differ. refl)
 
 pub changes_file-then : (Changes : Option (List ℕ) → Option (List ℕ) → Type 0) (name : List ℕ) (old between new : World)

@@ -1,20 +1,23 @@
 -- What a call may make of the files of a disk, as far as a stop of the machine before the next sync may show it.
-use Rattle.std.specs.Prelude.{◌≡◌, ◌<◌, ◌≤◌, ◌+◌, ◌⊎◌, ℕ, min, List, [], length, take, Option, None, IsSome, slice_index, unwrap_or, option_map}
+use Rattle.std.specs.Prelude.{◌≡◌, ◌<◌, ◌≤◌, ◌+◌, ◌⊎◌, ℕ, min, List, [], length, take, Option, None, IsSome}
+use Rattle.std.specs.Prelude.{slice_index, unwrap_or, option_map}
 use Rattle.outside.specs.World.{KeepsOthers, World, with_file, with_new_name}
 
--- A file is torn but for the places that stay: it is there if it was, it is no shorter, and at each place within its old
--- end that stays it has the byte that it had. Source: pwrite(2), fsync(2).
+-- A file is torn but for the places that stay: it is there if it was, it is no shorter, and at each place within its
+-- old end that stays it has the byte that it had. Source: pwrite(2), fsync(2).
 pub record Torn (stays : ℕ → Type 0) (old new : Option (List ℕ)) : Type 0 where
   pub there : IsSome old → IsSome new
   pub no_shorter : length (unwrap_or old []) ≤ length (unwrap_or new [])
-  pub same : (place : ℕ) → stays place → place < length (unwrap_or old []) → slice_index (unwrap_or new []) place ≡ slice_index (unwrap_or old []) place
+  pub same : (place : ℕ) → stays place → place < length (unwrap_or old [])
+      → slice_index (unwrap_or new []) place ≡ slice_index (unwrap_or old []) place
 
 -- A file is cut short to a length: it is there if it was, it has at least the lesser of both lengths, and below that it
 -- is the same. Source: open(2) with O_TRUNC.
 pub record CutShort (len : ℕ) (old new : Option (List ℕ)) : Type 0 where
   pub there : IsSome old → IsSome new
   pub no_shorter : min len (length (unwrap_or old [])) ≤ length (unwrap_or new [])
-  pub same : (place : ℕ) → place < len → place < length (unwrap_or old []) → slice_index (unwrap_or new []) place ≡ slice_index (unwrap_or old []) place
+  pub same : (place : ℕ) → place < len → place < length (unwrap_or old [])
+      → slice_index (unwrap_or new []) place ≡ slice_index (unwrap_or old []) place
 
 -- A file is shortened to a length: it is cut short to it, and where there was none there is none. Source: ftruncate(2).
 pub record Shortened (len : ℕ) (old new : Option (List ℕ)) : Type 0 where

@@ -32,7 +32,8 @@ pub record DiskFollows (step : World → World → Type 0) (old new : DiskSeen) 
 -- might have left, or an image now.
 pub record Elapses (old new : DiskSeen) : Type 0 where
   pub later : old.moment ≤ new.moment
-  pub known : (moment : ℕ) (image : World) → moment ≤ old.moment → new.since moment image ↔ (old.since moment image ⊎ new.images image)
+  pub known : (moment : ℕ) (image : World) → moment ≤ old.moment → new.since moment image
+      ↔ (old.since moment image ⊎ new.images image)
 
 -- A change passes by a step: the new disk follows the old one by it, and a stop since an earlier moment left what one
 -- before might have left, or something with the step from an old image to it.

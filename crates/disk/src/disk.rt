@@ -1,10 +1,12 @@
-ghost use Rattle.std.specs.Prelude.{◌≡◌, ◌≢◌, ◌≤◌, ◌^◌, ◌⊎◌, ◌↔◌, ℕ, Bool, List, [], length, take, true, false, None, Some, IsSome, IsTrue, IfOk, OnOk, OnErr};
+ghost use Rattle.std.specs.Prelude.{◌≡◌, ◌≢◌, ◌≤◌, ◌^◌, ◌⊎◌, ◌↔◌, ℕ, Bool, List, [], length, take, true, false, None};
+ghost use Rattle.std.specs.Prelude.{Some, IsSome, IsTrue, IfOk, OnOk, OnErr};
 ghost use Rattle.std.specs.Option.{option_map};
 ghost use Rattle.disk.specs.DiskSeen.{ChangesNothing, DiskSeen, DiskFollows, IsDurable, TakesStep};
 ghost use Rattle.disk.specs.DiskCalls.{CutsShort, IsRenamed, MayBeRenamed, Shortens, TearsRange, with_cut};
 ghost use Rattle.outside.specs.Count.{Rose};
 ghost use Rattle.outside.specs.Unsynced.{AddsNone, with_handed, with_name};
-ghost use Rattle.outside.specs.World.{KeepsOtherTwo, KeepsOthers, World, bytes_from, with_bytes, with_file, with_new_name};
+ghost use Rattle.outside.specs.World.{KeepsOtherTwo, KeepsOthers, World, bytes_from, with_bytes, with_file};
+ghost use Rattle.outside.specs.World.{with_new_name};
 
 /// A call on the disk failed.
 #[derive(Clone, Copy, Debug, PartialEq, Eq)]
@@ -51,8 +53,8 @@ pub trait Disk {
         ensures leaves { ChangesNothing (seen self.old) (seen self.new) };
 
     /// Writes bytes into a file at place `at`. A file that is not there is made, and a gap past the old end is filled
-    /// with zeros. All other files stay. The name is unsynced then, and until it is synced a stop may leave any bytes in
-    /// the written range and past the old end.
+    /// with zeros. All other files stay. The name is unsynced then, and until it is synced a stop may leave any bytes
+    /// in the written range and past the old end.
     ///
     /// # Errors
     ///
@@ -90,8 +92,8 @@ pub trait Disk {
         ensures leaves { TakesStep (CutsShort name.now 0) (seen self.old) (seen self.new) };
 
     /// Shortens a file to `len` bytes. One that is not longer stays, and one that is not there is not made. All other
-    /// files stay. The name is unsynced then, and until it is synced a stop may leave any bytes from `len` on, or none, but no
-    /// file where there was none.
+    /// files stay. The name is unsynced then, and until it is synced a stop may leave any bytes from `len` on, or none,
+    /// but no file where there was none.
     ///
     /// # Errors
     ///
@@ -148,7 +150,8 @@ pub trait Disk {
     ghost read_is_image: { (disk : Self) → (seen disk).images (seen disk).files };
 
     /// A stop since the present moment leaves an image, and each image may be left so.
-    ghost present_is_now: { (disk : Self) (image : World) → (seen disk).since (seen disk).moment image ↔ (seen disk).images image };
+    ghost present_is_now: { (disk : Self) (image : World) → (seen disk).since (seen disk).moment image
+        ↔ (seen disk).images image };
 
     /// A stop leaves the file of each name that is not unsynced as it is read, and none where there is none.
     ghost synced_is_kept: { (disk : Self) (name : List ℕ) → IsTrue tells → (seen disk).unsynced name ≡ false

@@ -33,7 +33,8 @@ pub fn changes_pass_on<D: Disk>()
         → ((place : ℕ) → IsTrue (stays place) → IsOutside at len place)
         → TakesStep (TearsRange name at len) (D.seen old) (D.seen new)
         → Passes (ChangesFile (Torn (λ place. IsTrue (stays place))) name) (D.seen old) (D.seen new) }
-    ensures torn_by_nothing { (stays : ℕ → Bool) (name : List ℕ) (old new : D) → ChangesNothing (D.seen old) (D.seen new)
+    ensures torn_by_nothing { (stays : ℕ → Bool) (name : List ℕ) (old new : D)
+        → ChangesNothing (D.seen old) (D.seen new)
         → Passes (ChangesFile (Torn (λ place. IsTrue (stays place))) name) (D.seen old) (D.seen new) }
     ensures cut { (name : List ℕ) (len : ℕ) (old between new : D)
         → Passes (CutsShort name len) (D.seen old) (D.seen between)

@@ -1,5 +1,6 @@
 -- What is told of a disk in memory, call by call.
-use Rattle.std.proofs.Common.{Result, Ok, Err, OnOk, OnErr, is_ok, ◌≡◌, ◌≤◌, inl, inr, ⊎_elim, ℕ, List, ◌∷◌, refl, sym, ap, ◌∙◌, subst, arith}
+use Rattle.std.proofs.Common.{Result, Ok, Err, OnOk, OnErr, is_ok, ◌≡◌, ◌≤◌, inl, inr, ⊎_elim, ℕ, List, ◌∷◌, refl, sym}
+use Rattle.std.proofs.Common.{ap, ◌∙◌, subst, arith}
 use Rattle.std.proofs.lemmas.Bool.{false≢true, true≢false}
 use Rattle.outside.specs.Unsynced.{UnsyncedNames}
 use Rattle.outside.specs.World.{World}
@@ -19,13 +20,15 @@ on_ok_any (Ok value) p = p
 on_ok_any (Err fault) p = tt
 
 -- what holds at a fault holds at the fault of another call that failed with it
-pub on_err_same : {A B E F P Q : Type 0} (result : Result A E) (other : Result B F) → is_ok other ≡ is_ok result → (P → Q) → OnErr result P → OnErr other Q
+pub on_err_same : {A B E F P Q : Type 0} (result : Result A E) (other : Result B F) → is_ok other ≡ is_ok result
+    → (P → Q) → OnErr result P → OnErr other Q
 on_err_same (Ok value) (Ok other) same on err = tt
 on_err_same (Ok value) (Err fault) same on err = absurd (false≢true same)
 on_err_same (Err fault) (Ok other) same on err = tt
 on_err_same (Err fault) (Err other) same on err = on err
 
-pub on_ok_same : {A B E F P Q : Type 0} (result : Result A E) (other : Result B F) → is_ok other ≡ is_ok result → (P → Q) → OnOk result P → OnOk other Q
+pub on_ok_same : {A B E F P Q : Type 0} (result : Result A E) (other : Result B F) → is_ok other ≡ is_ok result
+    → (P → Q) → OnOk result P → OnOk other Q
 on_ok_same (Ok value) (Ok other) same on ok = on ok
 on_ok_same (Ok value) (Err fault) same on ok = tt
 on_ok_same (Err fault) (Ok other) same on ok = absurd (true≢false same)
@@ -43,7 +46,8 @@ module _ (first : World) (calls : List DiskCall) (present : World) (names now : 
   }
 
   -- one more call
-  more_time : (call : DiskCall) (other : World) → Elapses (told first calls present names failed) (told first (call ∷ calls) other now later)
+  more_time : (call : DiskCall) (other : World)
+      → Elapses (told first calls present names failed) (told first (call ∷ calls) other now later)
   more_time call other = record {
     later = omega arith;
     known = λ moment image early. (
@@ -56,7 +60,8 @@ module _ (first : World) (calls : List DiskCall) (present : World) (names now : 
   stays less = record { files = refl; fewer = λ image is. is; elapses = same_time present; counted = less }
 
   goes_on : (call : DiskCall) → present ≡ read_after first calls → failed ≤ later
-      → TakesStep (MayMake call present) (told first calls present names failed) (told first (call ∷ calls) (after_call call present) now later)
+      → TakesStep (MayMake call present) (told first calls present names failed)
+      (told first (call ∷ calls) (after_call call present) now later)
   goes_on call is less = record {
     follows = record {
       left = λ image left. (left.0, left.1, subst (λ (read : World). MayMake call read left.0 image) (sym is) left.2);
@@ -67,40 +72,53 @@ module _ (first : World) (calls : List DiskCall) (present : World) (names now : 
   }
 
 -- a record to which no call was added
-pub told_nothing : (first first' : World) (calls calls' : List DiskCall) (present present' : World) (names now : UnsyncedNames) (failed later : ℕ)
+pub told_nothing : (first first' : World) (calls calls' : List DiskCall) (present present' : World)
+    (names now : UnsyncedNames) (failed later : ℕ)
     → first' ≡ first → calls' ≡ calls → present' ≡ present → failed ≤ later
     → ChangesNothing (told first calls present names failed) (told first' calls' present' now later)
 told_nothing first first' calls calls' present present' names now failed later one two three less =
-    subst (λ (f : World). ChangesNothing (told first calls present names failed) (told f calls' present' now later)) (sym one)
-    (subst (λ (l : List DiskCall). ChangesNothing (told first calls present names failed) (told first l present' now later)) (sym two)
-    (subst (λ (p : World). ChangesNothing (told first calls present names failed) (told first calls p now later)) (sym three)
+    subst
+    (λ (f : World). ChangesNothing (told first calls present names failed) (told f calls' present' now later)) (sym one)
+    (subst (λ (l : List DiskCall).
+    ChangesNothing (told first calls present names failed) (told first l present' now later)) (sym two)
+    (subst
+    (λ (p : World). ChangesNothing (told first calls present names failed) (told first calls p now later)) (sym three)
     (stays first calls present names now failed later less)))
 
 -- a record to which a call was added
-pub told_step : (first first' : World) (calls calls' : List DiskCall) (call : DiskCall) (present present' : World) (names now : UnsyncedNames) (failed later : ℕ)
-    → first' ≡ first → calls' ≡ call ∷ calls → present' ≡ after_call call present → present ≡ read_after first calls → failed ≤ later
+pub told_step : (first first' : World) (calls calls' : List DiskCall) (call : DiskCall) (present present' : World)
+    (names now : UnsyncedNames) (failed later : ℕ)
+    → first' ≡ first → calls' ≡ call ∷ calls → present' ≡ after_call call present → present ≡ read_after first calls
+    → failed ≤ later
     → TakesStep (MayMake call present) (told first calls present names failed) (told first' calls' present' now later)
 told_step first first' calls calls' call present present' names now failed later one two three is less =
-    subst (λ (f : World). TakesStep (MayMake call present) (told first calls present names failed) (told f calls' present' now later)) (sym one)
-    (subst (λ (l : List DiskCall). TakesStep (MayMake call present) (told first calls present names failed) (told first l present' now later)) (sym two)
-    (subst (λ (p : World). TakesStep (MayMake call present) (told first calls present names failed) (told first (call ∷ calls) p now later)) (sym three)
+    subst (λ (f : World). TakesStep (MayMake call present) (told first calls present names failed)
+    (told f calls' present' now later)) (sym one)
+    (subst (λ (l : List DiskCall). TakesStep (MayMake call present) (told first calls present names failed)
+    (told first l present' now later)) (sym two)
+    (subst (λ (p : World). TakesStep (MayMake call present) (told first calls present names failed)
+    (told first (call ∷ calls) p now later)) (sym three)
     (goes_on first calls present names now failed later call is less)))
 
 -- what is read after the same calls, and after one more
-pub read_same : (first first' : World) (calls calls' : List DiskCall) (present present' : World) → first' ≡ first → calls' ≡ calls
+pub read_same : (first first' : World) (calls calls' : List DiskCall) (present present' : World) → first' ≡ first
+    → calls' ≡ calls
     → present ≡ read_after first calls → present' ≡ read_after first' calls' → present' ≡ present
 read_same first first' calls calls' present present' one two is is' =
     is' ∙ ap (λ (f : World). read_after f calls') one ∙ ap (λ (l : List DiskCall). read_after first l) two ∙ sym is
 
-pub read_more : (first first' : World) (calls calls' : List DiskCall) (call : DiskCall) (present present' : World) → first' ≡ first → calls' ≡ call ∷ calls
+pub read_more : (first first' : World) (calls calls' : List DiskCall) (call : DiskCall) (present present' : World)
+    → first' ≡ first → calls' ≡ call ∷ calls
     → present ≡ read_after first calls → present' ≡ read_after first' calls' → present' ≡ after_call call present
 read_more first first' calls calls' call present present' one two is is' =
-    is' ∙ ap (λ (f : World). read_after f calls') one ∙ ap (λ (l : List DiskCall). read_after first l) two ∙ ap (λ (p : World). after_call call p) (sym is)
+    is' ∙ ap (λ (f : World). read_after f calls') one ∙ ap (λ (l : List DiskCall). read_after first l) two
+    ∙ ap (λ (p : World). after_call call p) (sym is)
 
 -- a record to which a call was added leaves whatever a stop may make of the call
 pub told_any : (first first' : World) (calls calls' : List DiskCall) (call : DiskCall) (present : World)
     → first' ≡ first → calls' ≡ call ∷ calls → present ≡ read_after first calls
-    → (before after : World) → LeftAfter first calls before → MayMake call present before after → LeftAfter first' calls' after
+    → (before after : World) → LeftAfter first calls before → MayMake call present before after
+    → LeftAfter first' calls' after
 told_any first first' calls calls' call present one two is before after left makes =
     subst (λ (f : World). LeftAfter f calls' after) (sym one)
     (subst (λ (l : List DiskCall). LeftAfter first l after) (sym two)

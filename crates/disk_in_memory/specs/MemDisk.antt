@@ -41,11 +41,14 @@ IsToFail plan = Contains plan.failing (counted plan.calls) ⊎ HasStopped plan.s
 -- what is read of a disk in memory is an image
 pub read_is_left : (disk : MemDisk) → (mem_disk_seen disk).images (mem_disk_seen disk).files
 read_is_left disk =
-    subst (λ (files : World). LeftAfter (first_of disk.recorded) (calls_of disk.recorded) files) (sym disk.recorded.replayed)
+    subst (λ (files : World). LeftAfter (first_of disk.recorded) (calls_of disk.recorded) files)
+    (sym disk.recorded.replayed)
     (read-left (first_of disk.recorded) (calls_of disk.recorded))
 
 -- a stop leaves the file of each name that is not unsynced as it is read
-pub synced_is_left : (disk : MemDisk) (name : List ℕ) → (mem_disk_seen disk).unsynced name ≡ false → IsDurable name (mem_disk_seen disk)
+pub synced_is_left : (disk : MemDisk) (name : List ℕ) → (mem_disk_seen disk).unsynced name ≡ false
+    → IsDurable name (mem_disk_seen disk)
 synced_is_left disk name synced image left =
-    named-left (first_of disk.recorded) (calls_of disk.recorded) (names_of disk.recorded) image name disk.recorded.named left synced
+    named-left (first_of disk.recorded) (calls_of disk.recorded) (names_of disk.recorded) image name
+    disk.recorded.named left synced
     ∙ sym (ap (λ (files : World). files name) disk.recorded.replayed)

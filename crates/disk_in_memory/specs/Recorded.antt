@@ -7,4 +7,5 @@ use Rattle.outside.specs.World.{World}
 
 -- the first files: those that were kept, or else the present ones, which no call has changed yet
 abbrev pub first_named : Option NamedFiles → List NamedFile → World
-first_named first entries = option_map_or (λ (files : NamedFiles). file_named files.entries.items) first (file_named entries)
+first_named first entries =
+    option_map_or (λ (files : NamedFiles). file_named files.entries.items) first (file_named entries)

@@ -18,7 +18,8 @@ unsynced_by (Create name) read names = with_name names (string_bytes name) true
 unsynced_by (Cut name len) read names = with_name names (string_bytes name) true
 unsynced_by (Sync name) read names = with_name names (string_bytes name) false
 unsynced_by (Rename renaming) read names =
-    handed_where (is_some (read (string_bytes renaming.from))) names (string_bytes renaming.from) (string_bytes renaming.to)
+    handed_where (is_some (read (string_bytes renaming.from))) names (string_bytes renaming.from)
+    (string_bytes renaming.to)
 
 -- the names that are unsynced after calls, of which the newest stands first, on the first files
 abbrev pub unsynced_after : World → List DiskCall → UnsyncedNames

@@ -1,4 +1,5 @@
-ghost use Rattle.std.specs.Prelude.{◌≡◌, ◌≢◌, ◌+◌, ◌<◌, ◌^◌, ◌↔◌, [], Some, length, true, false, is_some, IfOk, OnOk, OnErr};
+ghost use Rattle.std.specs.Prelude.{◌≡◌, ◌≢◌, ◌+◌, ◌<◌, ◌^◌, ◌↔◌, [], Some, length, true, false, is_some, IfOk, OnOk};
+ghost use Rattle.std.specs.Prelude.{OnErr};
 ghost use Rattle.std.specs.String.{string_bytes};
 ghost use Rattle.disk.specs.DiskCalls.{CutsShort, IsRenamed, Shortens, TearsRange, with_cut};
 ghost use Rattle.outside.specs.Unsynced.{UnsyncedNames, with_name};
@@ -47,10 +48,13 @@ impl DiskCall {
         bytes: &[u8],
     ) -> Result<DiskCall, AllocError>
         requires { at + length bytes.now < 2 ^ 63 }
-        ensures done { IfOk result (λ call. (files : World) → after_call call files ≡ with_bytes files name.now at bytes.now) }
+        ensures done { IfOk result
+            (λ call. (files : World) → after_call call files ≡ with_bytes files name.now at bytes.now) }
         ensures left { IfOk result (λ call. (read old new : World) → MayMake call read old new
             ↔ TearsRange name.now at (length bytes.now) old new) }
-        ensures names { IfOk result (λ call. (read : World) (names : UnsyncedNames) → unsynced_by call read names ≡ with_name names name.now true) }
+        ensures names { IfOk result
+            (λ call.
+            (read : World) (names : UnsyncedNames) → unsynced_by call read names ≡ with_name names name.now true) }
     {
         Ok(DiskCall::Write(Writing {
             name: String::from_str(alloc, name)?,
@@ -61,9 +65,13 @@ impl DiskCall {
 
     /// A new empty file.
     pub(crate) fn create(alloc: Global, name: &str) -> Result<DiskCall, AllocError>
-        ensures done { IfOk result (λ call. (files : World) → after_call call files ≡ with_file files name.now (Some [])) }
-        ensures left { IfOk result (λ call. (read old new : World) → MayMake call read old new ↔ CutsShort name.now 0 old new) }
-        ensures names { IfOk result (λ call. (read : World) (names : UnsyncedNames) → unsynced_by call read names ≡ with_name names name.now true) }
+        ensures done { IfOk result
+            (λ call. (files : World) → after_call call files ≡ with_file files name.now (Some [])) }
+        ensures left { IfOk result
+            (λ call. (read old new : World) → MayMake call read old new ↔ CutsShort name.now 0 old new) }
+        ensures names { IfOk result
+            (λ call.
+            (read : World) (names : UnsyncedNames) → unsynced_by call read names ≡ with_name names name.now true) }
     {
         Ok(DiskCall::Create(String::from_str(alloc, name)?))
     }
@@ -71,8 +79,11 @@ impl DiskCall {
     /// A file that is cut to a length.
     pub(crate) fn cut(alloc: Global, name: &str, len: usize) -> Result<DiskCall, AllocError>
         ensures done { IfOk result (λ call. (files : World) → after_call call files ≡ with_cut files name.now len) }
-        ensures left { IfOk result (λ call. (read old new : World) → MayMake call read old new ↔ Shortens name.now len old new) }
-        ensures names { IfOk result (λ call. (read : World) (names : UnsyncedNames) → unsynced_by call read names ≡ with_name names name.now true) }
+        ensures left { IfOk result
+            (λ call. (read old new : World) → MayMake call read old new ↔ Shortens name.now len old new) }
+        ensures names { IfOk result
+            (λ call.
+            (read : World) (names : UnsyncedNames) → unsynced_by call read names ≡ with_name names name.now true) }
     {
         Ok(DiskCall::Cut(String::from_str(alloc, name)?, len))
     }
@@ -82,7 +93,9 @@ impl DiskCall {
         ensures done { IfOk result (λ call. (files : World) → after_call call files ≡ files) }
         ensures left { IfOk result (λ call. (read old new : World) → MayMake call read old new
             ↔ ((new ≡ old) × (new name.now ≡ read name.now))) }
-        ensures names { IfOk result (λ call. (read : World) (names : UnsyncedNames) → unsynced_by call read names ≡ with_name names name.now false) }
+        ensures names { IfOk result
+            (λ call.
+            (read : World) (names : UnsyncedNames) → unsynced_by call read names ≡ with_name names name.now false) }
     {
         Ok(DiskCall::Sync(String::from_str(alloc, name)?))
     }
@@ -90,8 +103,10 @@ impl DiskCall {
     /// Another name for a file.
     pub(crate) fn rename(alloc: Global, from: &str, to: &str) -> Result<DiskCall, AllocError>
         requires { from.now ≢ to.now }
-        ensures done { IfOk result (λ call. (files : World) → after_call call files ≡ with_new_name files from.now to.now) }
-        ensures left { IfOk result (λ call. (read old new : World) → MayMake call read old new ↔ IsRenamed from.now to.now old new) }
+        ensures done { IfOk result
+            (λ call. (files : World) → after_call call files ≡ with_new_name files from.now to.now) }
+        ensures left { IfOk result
+            (λ call. (read old new : World) → MayMake call read old new ↔ IsRenamed from.now to.now old new) }
         ensures names { IfOk result (λ call. (read : World) (names : UnsyncedNames) → unsynced_by call read names
             ≡ handed_where (is_some (read from.now)) names from.now to.now) }
     {
@@ -103,7 +118,8 @@ impl DiskCall {
 
     /// Does to these files what the call does.
     pub(crate) fn make(&self, files: &mut NamedFiles) -> Result<(), AllocError>
-        ensures ok { OnOk result (file_named files.new.entries.items ≡ after_call self.now (file_named files.old.entries.items)) }
+        ensures ok { OnOk result
+            (file_named files.new.entries.items ≡ after_call self.now (file_named files.old.entries.items)) }
         ensures err { OnErr result (file_named files.new.entries.items ≡ file_named files.old.entries.items) }
     {
         match self {

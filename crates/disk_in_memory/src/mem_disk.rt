@@ -1,4 +1,5 @@
-ghost use Rattle.std.specs.Prelude.{◌≡◌, ◌≢◌, ◌≤◌, ◌^◌, ◌↔◌, [], None, Some, length, take, drop, true, false, IsErr, IsSome, IsTrue, IfOk, OnOk, OnErr, is_ok};
+ghost use Rattle.std.specs.Prelude.{◌≡◌, ◌≢◌, ◌≤◌, ◌^◌, ◌↔◌, [], None, Some, length, take, drop, true, false, IsErr};
+ghost use Rattle.std.specs.Prelude.{IsSome, IsTrue, IfOk, OnOk, OnErr, is_ok};
 ghost use Rattle.std.specs.Option.{option_map};
 ghost use Rattle.disk.specs.DiskSeen.{ChangesNothing, DiskFollows, IsDurable, TakesStep};
 ghost use Rattle.disk.specs.DiskLaws.{AllowsStep, IsFresh};
@@ -25,8 +26,8 @@ pub struct MemDisk {
 }
 
 impl MemDisk {
-    /// A disk with these files, all of them synced. The calls whose numbers, from 1 on, stand in `failing` fail, and all
-    /// calls from the one of number `stop` on.
+    /// A disk with these files, all of them synced. The calls whose numbers, from 1 on, stand in `failing` fail, and
+    /// all calls from the one of number `stop` on.
     pub fn new(files: Vec<(String, Vec<u8>)>, failing: Vec<u64>, stop: Option<u64>) -> Self
         requires { HaveDistinctNames files.items }
         ensures fresh { IsFresh (file_named files.items) (⟦<MemDisk as Disk>⟧.seen result) }
@@ -37,16 +38,19 @@ impl MemDisk {
     }
 
     /// The disk as a stop of the machine may leave it, started anew. A file that was synced is as it was read then; of
-    /// each write since, the greater half of the bytes is there, from the front; of a `create` or a `cut` since, nothing
-    /// is; and each rename is done. No call is to fail but those from the one of number `stop` on, counted anew from 1.
+    /// each write since, the greater half of the bytes is there, from the front; of a `create` or a `cut` since,
+    /// nothing is; and each rename is done. No call is to fail but those from the one of number `stop` on, counted anew
+    /// from 1.
     ///
     /// # Errors
     ///
     /// There was not enough memory.
     pub fn after_stop(self, stop: Option<u64>) -> Result<MemDisk, AllocError>
-        ensures image { IfOk result (λ disk. (⟦<MemDisk as Disk>⟧.seen self).images (⟦<MemDisk as Disk>⟧.seen disk).files) }
+        ensures image { IfOk result
+            (λ disk. (⟦<MemDisk as Disk>⟧.seen self).images (⟦<MemDisk as Disk>⟧.seen disk).files) }
         ensures half { IfOk result (λ disk. (⟦<MemDisk as Disk>⟧.seen disk).files ≡ half_left_of self) }
-        ensures fresh { IfOk result (λ disk. IsFresh (⟦<MemDisk as Disk>⟧.seen disk).files (⟦<MemDisk as Disk>⟧.seen disk)) }
+        ensures fresh { IfOk result
+            (λ disk. IsFresh (⟦<MemDisk as Disk>⟧.seen disk).files (⟦<MemDisk as Disk>⟧.seen disk)) }
         ensures plan { IfOk result (λ disk. mem_disk_plan disk ≡ record { failing = []; stop = stop; calls = 0 }) }
     {
         let alloc = self.recorded.allocator();
@@ -191,10 +195,12 @@ impl Disk for MemDisk {
         ensures unsynced { OnOk result ((mem_disk_seen self.new).unsynced
             ≡ with_name (mem_disk_seen self.old).unsynced name.now true) }
         ensures fault { OnErr result (ChangesNothing (mem_disk_seen self.old) (mem_disk_seen self.new)) }
-        ensures any { OnOk result (AllowsStep (TearsRange name.now at (length bytes.now)) (mem_disk_seen self.old) (mem_disk_seen self.new)) }
+        ensures any { OnOk result
+            (AllowsStep (TearsRange name.now at (length bytes.now)) (mem_disk_seen self.old) (mem_disk_seen self.new)) }
         ensures cause { OnErr result (Rose (mem_disk_seen self.old).faults (mem_disk_seen self.new).faults) }
         ensures others { KeepsOthers name.now (mem_disk_seen self.old).unsynced (mem_disk_seen self.new).unsynced }
-        ensures leaves { TakesStep (TearsRange name.now at (length bytes.now)) (mem_disk_seen self.old) (mem_disk_seen self.new) }
+        ensures leaves { TakesStep (TearsRange name.now at (length bytes.now)) (mem_disk_seen self.old)
+            (mem_disk_seen self.new) }
     {
         if next_fails(&mut self.failures, self.stop) {
             return Err(DiskFault);
@@ -212,7 +218,8 @@ impl Disk for MemDisk {
         ensures unsynced { OnOk result ((mem_disk_seen self.new).unsynced
             ≡ with_name (mem_disk_seen self.old).unsynced name.now true) }
         ensures fault { OnErr result (ChangesNothing (mem_disk_seen self.old) (mem_disk_seen self.new)) }
-        ensures any { OnOk result (AllowsStep (CutsShort name.now 0) (mem_disk_seen self.old) (mem_disk_seen self.new)) }
+        ensures any { OnOk result
+            (AllowsStep (CutsShort name.now 0) (mem_disk_seen self.old) (mem_disk_seen self.new)) }
         ensures cause { OnErr result (Rose (mem_disk_seen self.old).faults (mem_disk_seen self.new).faults) }
         ensures others { KeepsOthers name.now (mem_disk_seen self.old).unsynced (mem_disk_seen self.new).unsynced }
         ensures leaves { TakesStep (CutsShort name.now 0) (mem_disk_seen self.old) (mem_disk_seen self.new) }
@@ -233,7 +240,8 @@ impl Disk for MemDisk {
         ensures unsynced { OnOk result ((mem_disk_seen self.new).unsynced
             ≡ with_name (mem_disk_seen self.old).unsynced name.now true) }
         ensures fault { OnErr result (ChangesNothing (mem_disk_seen self.old) (mem_disk_seen self.new)) }
-        ensures any { OnOk result (AllowsStep (Shortens name.now len) (mem_disk_seen self.old) (mem_disk_seen self.new)) }
+        ensures any { OnOk result
+            (AllowsStep (Shortens name.now len) (mem_disk_seen self.old) (mem_disk_seen self.new)) }
         ensures cause { OnErr result (Rose (mem_disk_seen self.old).faults (mem_disk_seen self.new).faults) }
         ensures others { KeepsOthers name.now (mem_disk_seen self.old).unsynced (mem_disk_seen self.new).unsynced }
         ensures leaves { TakesStep (Shortens name.now len) (mem_disk_seen self.old) (mem_disk_seen self.new) }
@@ -253,7 +261,9 @@ impl Disk for MemDisk {
         ensures unsynced { OnOk result ((mem_disk_seen self.new).unsynced
             ≡ with_name (mem_disk_seen self.old).unsynced name.now false) }
         ensures none { OnOk result (AddsNone (mem_disk_seen self.old).unsynced (mem_disk_seen self.new).unsynced) }
-        ensures any { OnOk result (AllowsStep (λ old new. (new ≡ old) × (new name.now ≡ (mem_disk_seen self.old).files name.now)) (mem_disk_seen self.old) (mem_disk_seen self.new)) }
+        ensures any { OnOk result
+            (AllowsStep (λ old new. (new ≡ old) × (new name.now ≡ (mem_disk_seen self.old).files name.now))
+            (mem_disk_seen self.old) (mem_disk_seen self.new)) }
         ensures cause { OnErr result (Rose (mem_disk_seen self.old).faults (mem_disk_seen self.new).faults) }
         ensures others { KeepsOthers name.now (mem_disk_seen self.old).unsynced (mem_disk_seen self.new).unsynced }
         ensures leaves { ChangesNothing (mem_disk_seen self.old) (mem_disk_seen self.new) }
@@ -272,15 +282,18 @@ impl Disk for MemDisk {
             ≡ record (mem_disk_plan self.old) { calls = counted (mem_disk_plan self.old).calls } }
         ensures ok { OnOk result ((mem_disk_seen self.new).files
             ≡ with_new_name (mem_disk_seen self.old).files from.now to.now) }
-        ensures done { OnOk result (DiskFollows (IsRenamed from.now to.now) (mem_disk_seen self.old) (mem_disk_seen self.new)) }
+        ensures done { OnOk result
+            (DiskFollows (IsRenamed from.now to.now) (mem_disk_seen self.old) (mem_disk_seen self.new)) }
         ensures unsynced { OnOk result (IsSome ((mem_disk_seen self.old).files from.now)
             → (mem_disk_seen self.new).unsynced ≡ with_handed (mem_disk_seen self.old).unsynced from.now to.now) }
         ensures absent { OnOk result ((mem_disk_seen self.old).files from.now ≡ None
             → AddsNone (mem_disk_seen self.old).unsynced (mem_disk_seen self.new).unsynced) }
         ensures fault { OnErr result (ChangesNothing (mem_disk_seen self.old) (mem_disk_seen self.new)) }
-        ensures any { OnOk result (AllowsStep (IsRenamed from.now to.now) (mem_disk_seen self.old) (mem_disk_seen self.new)) }
+        ensures any { OnOk result
+            (AllowsStep (IsRenamed from.now to.now) (mem_disk_seen self.old) (mem_disk_seen self.new)) }
         ensures cause { OnErr result (Rose (mem_disk_seen self.old).faults (mem_disk_seen self.new).faults) }
-        ensures others { KeepsOtherTwo from.now to.now (mem_disk_seen self.old).unsynced (mem_disk_seen self.new).unsynced }
+        ensures others { KeepsOtherTwo from.now to.now (mem_disk_seen self.old).unsynced
+            (mem_disk_seen self.new).unsynced }
         ensures leaves { TakesStep (MayBeRenamed from.now to.now) (mem_disk_seen self.old) (mem_disk_seen self.new) }
     {
         if next_fails(&mut self.failures, self.stop) {

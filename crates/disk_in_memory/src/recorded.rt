@@ -1,4 +1,5 @@
-ghost use Rattle.std.specs.Prelude.{◌≡◌, ◌≢◌, ◌+◌, ◌<◌, ◌≤◌, ◌^◌, ◌∷◌, ℕ, List, [], None, Some, length, reverse, true, false, is_some, IfOk, IsSome, OnOk, OnErr};
+ghost use Rattle.std.specs.Prelude.{◌≡◌, ◌≢◌, ◌+◌, ◌<◌, ◌≤◌, ◌^◌, ◌∷◌, ℕ, List, [], None, Some, length, reverse, true};
+ghost use Rattle.std.specs.Prelude.{false, is_some, IfOk, IsSome, OnOk, OnErr};
 ghost use Rattle.std.specs.Option.{option_copied};
 ghost use Rattle.disk_in_memory.specs.Calls.{MayMake, after_call, half_left, read_after};
 ghost use Rattle.disk.specs.DiskSeen.{ChangesNothing, DiskFollows, IsDurable, TakesStep};
@@ -24,12 +25,15 @@ pub(crate) struct RecordedFiles {
     calls: Vec<DiskCall>,
     /// The names that are unsynced, and, while a call is made that may fail, further ones.
     unsynced: NameSet,
-    ghost replayed: { file_named files.entries.items ≡ read_after (first_named first files.entries.items) (reverse calls.items) },
-    ghost named: { AddsNone (names_in unsynced.names.items) (unsynced_after (first_named first files.entries.items) (reverse calls.items)) },
+    ghost replayed: { file_named files.entries.items
+        ≡ read_after (first_named first files.entries.items) (reverse calls.items) },
+    ghost named: { AddsNone (names_in unsynced.names.items)
+        (unsynced_after (first_named first files.entries.items) (reverse calls.items)) },
 }
 
 impl RecordedFiles {
-    ghost use Rattle.disk_in_memory.specs.Told.{calls_of, first_of, left_unsynced, names_of, present_of, told_of, told_with};
+    ghost use Rattle.disk_in_memory.specs.Told.{calls_of, first_of, left_unsynced, names_of, present_of, told_of};
+    ghost use Rattle.disk_in_memory.specs.Told.{told_with};
 
     /// These files, and no call yet.
     pub(crate) fn new(files: NamedFiles, alloc: Global) -> Self
@@ -66,7 +70,8 @@ impl RecordedFiles {
         ensures fault { OnErr result ((failed later : ℕ) → failed ≤ later
             → ChangesNothing (told_of self.old failed) (told_of self.new later)) }
         ensures any { OnOk result ((failed later : ℕ)
-            → AllowsStep (TearsRange name.now at (length bytes.now)) (told_of self.old failed) (told_of self.new later)) }
+            → AllowsStep (TearsRange name.now at (length bytes.now)) (told_of self.old failed)
+            (told_of self.new later)) }
         ensures others { KeepsOthers name.now (names_of self.old) (names_of self.new) }
         ensures leaves { (failed later : ℕ) → failed ≤ later
             → TakesStep (TearsRange name.now at (length bytes.now)) (told_of self.old failed) (told_of self.new later) }
@@ -116,7 +121,8 @@ impl RecordedFiles {
         ensures unsynced { OnOk result (names_of self.new ≡ with_name (names_of self.old) name.now false) }
         ensures none { OnOk result (AddsNone (names_of self.old) (names_of self.new)) }
         ensures any { OnOk result ((failed later : ℕ)
-            → AllowsStep (λ old new. (new ≡ old) × (new name.now ≡ present_of self.old name.now)) (told_of self.old failed) (told_of self.new later)) }
+            → AllowsStep (λ old new. (new ≡ old) × (new name.now ≡ present_of self.old name.now))
+            (told_of self.old failed) (told_of self.new later)) }
         ensures others { KeepsOthers name.now (names_of self.old) (names_of self.new) }
         ensures leaves { (failed later : ℕ) → failed ≤ later
             → ChangesNothing (told_of self.old failed) (told_of self.new later) }
@@ -150,8 +156,8 @@ impl RecordedFiles {
         Ok(())
     }
 
-    /// Makes a call that gives a file another name, which is unsynced then where the old one was. Until the call is made the
-    /// old name stays among the unsynced ones, and the new one stands there too where it may be one of them.
+    /// Makes a call that gives a file another name, which is unsynced then where the old one was. Until the call is
+    /// made the old name stays among the unsynced ones, and the new one stands there too where it may be one of them.
     fn hand_over(&mut self, call: DiskCall, from: &str, to: &str) -> Result<(), AllocError>
         requires differ { from.now ≢ to.now }
         requires hands { (read : World) (names : UnsyncedNames) → unsynced_by call read names
@@ -244,7 +250,8 @@ impl RecordedFiles {
 
     /// Makes a call that changes one file, whose name is unsynced then.
     fn change(&mut self, name: &str, call: DiskCall) -> Result<(), AllocError>
-        requires { (read : World) (names : UnsyncedNames) → unsynced_by call read names ≡ with_name names name.now true }
+        requires { (read : World) (names : UnsyncedNames)
+            → unsynced_by call read names ≡ with_name names name.now true }
         ensures ok { OnOk result ((failed later : ℕ) → failed ≤ later
             → TakesStep (MayMake call (present_of self.old)) (told_of self.old failed) (told_of self.new later)) }
         ensures files { OnOk result (present_of self.new ≡ after_call call (present_of self.old)) }
@@ -260,13 +267,16 @@ impl RecordedFiles {
         Ok(())
     }
 
-    /// Makes a call, and keeps it in the record. The names that it leaves unsynced stand among the unsynced ones already.
+    /// Makes a call, and keeps it in the record. The names that it leaves unsynced stand among the unsynced ones
+    /// already.
     fn make(&mut self, call: DiskCall) -> Result<(), AllocError>
         requires { AddsNone (names_of self.old) (unsynced_by call (present_of self.old) (left_unsynced self.old)) }
-        ensures left { OnOk result (left_unsynced self.new ≡ unsynced_by call (present_of self.old) (left_unsynced self.old)) }
+        ensures left { OnOk result
+            (left_unsynced self.new ≡ unsynced_by call (present_of self.old) (left_unsynced self.old)) }
         ensures stays { OnErr result (left_unsynced self.new ≡ left_unsynced self.old) }
         ensures ok { OnOk result ((names now : UnsyncedNames) (failed later : ℕ) → failed ≤ later
-            → TakesStep (MayMake call (present_of self.old)) (told_with self.old names failed) (told_with self.new now later)) }
+            → TakesStep (MayMake call (present_of self.old)) (told_with self.old names failed)
+            (told_with self.new now later)) }
         ensures files { OnOk result (present_of self.new ≡ after_call call (present_of self.old)) }
         ensures any { OnOk result ((failed later : ℕ)
             → AllowsStep (MayMake call (present_of self.old)) (told_of self.old failed) (told_of self.new later)) }
@@ -325,7 +335,8 @@ fn make_halves(
     calls: &[DiskCall],
 ) -> Result<(), AllocError>
     requires { file_named left.old.entries.items ≡ file_named read.old.entries.items }
-    ensures { OnOk result (file_named left.new.entries.items ≡ half_left (file_named read.old.entries.items) (reverse calls.now)) }
+    ensures { OnOk result
+        (file_named left.new.entries.items ≡ half_left (file_named read.old.entries.items) (reverse calls.now)) }
 {
     for call in calls {
         call.make_half(read, left)?;

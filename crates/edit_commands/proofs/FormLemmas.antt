@@ -13,13 +13,18 @@ use Rattle.edit_commands.specs.Apply.{form_cause, form_outcome}
 use Rattle.refusals.specs.Refusals.{refusal_of}
 
 -- a form in a file that gave no limits
-pub form_unread_of : (name : List ℕ) (read : Result FourLimits FormFault) (before now : ℕ) (tells : Bool) (fault : FormFault) → IsFormFault before now tells read fault
-    → IsInputFault (Rose before now) ⊥ (IsTrue tells) (form_outcome name read) (refusal_of (form_cause StoreFault fault) name) (form_cause StoreFault fault)
+pub form_unread_of : (name : List ℕ) (read : Result FourLimits FormFault) (before now : ℕ) (tells : Bool)
+    (fault : FormFault) → IsFormFault before now tells read fault
+    → IsInputFault (Rose before now) ⊥ (IsTrue tells) (form_outcome name read)
+    (refusal_of (form_cause StoreFault fault) name) (form_cause StoreFault fault)
 form_unread_of name read before now tells (Lines Source) is = is
 form_unread_of name read before now tells _ is = λ told. ap (form_outcome name) (is told)
 
 -- why a form was not read, by the refusal that says so
-pub form_unread_at : (name : List ℕ) (read : Result FourLimits FormFault) (before now : ℕ) (tells : Bool) (fault : FormFault) (refusal : Refusal) → IsFormFault before now tells read fault
-    → refusal ≡ refusal_of (form_cause StoreFault fault) name → IsInputFault (Rose before now) ⊥ (IsTrue tells) (form_outcome name read) refusal refusal.cause
+pub form_unread_at : (name : List ℕ) (read : Result FourLimits FormFault) (before now : ℕ) (tells : Bool)
+    (fault : FormFault) (refusal : Refusal) → IsFormFault before now tells read fault
+    → refusal ≡ refusal_of (form_cause StoreFault fault) name
+    → IsInputFault (Rose before now) ⊥ (IsTrue tells) (form_outcome name read) refusal refusal.cause
 form_unread_at name read before now tells fault refusal is same =
-    subst (λ (r : Refusal). IsInputFault (Rose before now) ⊥ (IsTrue tells) (form_outcome name read) r r.cause) (sym same) (form_unread_of name read before now tells fault is)
+    subst (λ (r : Refusal). IsInputFault (Rose before now) ⊥ (IsTrue tells) (form_outcome name read) r r.cause)
+    (sym same) (form_unread_of name read before now tells fault is)

@@ -57,7 +57,8 @@ FormSteps kind asked names from id file invocation =
     Taking from (λ limits. true) (form_step kind names file id from) (λ (limits : FourLimits).
     FileEditSteps kind asked (Limits id limits) file invocation)
 
--- the names are read, then the word for the identifier, and then the form, which has to be the one that is printed for it
+-- the names are read, then the word for the identifier, and then the form, which has to be the one that is printed for
+-- it
 abbrev pub ApplySteps : Common → Option (List ℕ) → List ℕ → List ℕ → Invocation → Steps
 ApplySteps common from word file invocation =
     Naming common.kind common.names (λ (names : List NameLine).
@@ -88,10 +89,13 @@ NamedApplyMayRefuse asked from word file names cause name =
 abbrev pub ApplyMayRefuse : Common → Option (List ℕ) → List ℕ → List ℕ → Cause → List ℕ → Type 0
 ApplyMayRefuse common from word file cause name =
     NamesMayRefuse common.names cause name
-    ⊎ ((names : List NameLine) × MayBeNames common.names names × NamedApplyMayRefuse (asked_of common.format) from word file names cause name)
+    ⊎ ((names : List NameLine) × MayBeNames common.names names
+    × NamedApplyMayRefuse (asked_of common.format) from word file names cause name)
 
--- The files have no room for the limits of a form: its word and its input were read with the names that the files had at the start.
-pub record IsFullForForm (common : Common) (from : Option (List ℕ)) (word file : List ℕ) (now : ℕ) (old : Outside) (files : World) (blocks limit : ℕ) : Type 0 where
+-- The files have no room for the limits of a form: its word and its input were read with the names that the files had
+-- at the start.
+pub record IsFullForForm (common : Common) (from : Option (List ℕ)) (word file : List ℕ) (now : ℕ) (old : Outside)
+    (files : World) (blocks limit : ℕ) : Type 0 where
   pub names : List NameLine
   pub id : ℕ
   pub limits : FourLimits
@@ -102,24 +106,27 @@ pub record IsFullForForm (common : Common) (from : Option (List ℕ)) (word file
 
 -- The description.
 
--- a form that is applied: the word is known, the form is that of the identifier, the file is accepted, and its limits fit
+-- a form that is applied: the word is known, the form is that of the identifier, the file is accepted, and its limits
+-- fit
 abbrev pub CanApply : Common → Option (List ℕ) → (word file : List ℕ) → Invocation → Outside → Type 0
 CanApply common from word file invocation old =
     (names : List NameLine) × (id : ℕ) × (limits : FourLimits) × (value : QuotaValue) × (new : QuotaValue)
     × (names_seen common.kind common.names old.files ≡ Passed names) × (identifier_of names word ≡ Passed id)
     × (input_said from (form_step common.kind names file id from) old.files old.input ≡ Passed limits)
-    × IsView (old.files file) common.kind (asked_of common.format) (Ok value) × Fits (limits_edit id limits invocation.now) (old.files file) value new
+    × IsView (old.files file) common.kind (asked_of common.format) (Ok value)
+    × Fits (limits_edit id limits invocation.now) (old.files file) value new
 
 -- a form becomes the limits of an identifier
 abbrev pub applying : Common → Option (List ℕ) → (name file : List ℕ) → Description
-applying common input name file = record (row (ApplySteps common input name file) (apply_uses input) (ApplyMayRefuse common input name file)) {
-  faulty = faulty_print common name;
-  edits = Some file;
-  alone = Some file;
-  most_writes = Some 12;
-  looks = looks_at (file_given common file) common.names input;
-  needs_room = true;
-  full = λ (invocation : Invocation) (old : Outside) (files : World) (refusal : Refusal) (blocks limit : ℕ).
-      (refusal.name ≡ file) × IsFullForForm common input name file invocation.now old files blocks limit;
-  suffices = CanApply common input name file;
-}
+applying common input name file =
+    record (row (ApplySteps common input name file) (apply_uses input) (ApplyMayRefuse common input name file)) {
+      faulty = faulty_print common name;
+      edits = Some file;
+      alone = Some file;
+      most_writes = Some 12;
+      looks = looks_at (file_given common file) common.names input;
+      needs_room = true;
+      full = λ (invocation : Invocation) (old : Outside) (files : World) (refusal : Refusal) (blocks limit : ℕ).
+          (refusal.name ≡ file) × IsFullForForm common input name file invocation.now old files blocks limit;
+      suffices = CanApply common input name file;
+    }

@@ -10,7 +10,8 @@ use Rattle.set_edit.specs.declared.limits.Limits.{Limits as FourLimits}
 use Rattle.set_edit.specs.declared.skipped.Skipped.{Skipped}
 use Rattle.set_edit.specs.declared.time_word.TimeWord.{TimeWord}
 use Rattle.edit_commands.specs.declared.edit.EditWords.{EditWords}
-use Rattle.edit_commands.specs.declared.edit.EditWords.TheVariants.{Limits as LimitWords, Copy as CopyWords, Grace as GraceWords, Times as TimeWords}
+use Rattle.edit_commands.specs.declared.edit.EditWords.TheVariants.{Limits as LimitWords, Copy as CopyWords}
+use Rattle.edit_commands.specs.declared.edit.EditWords.TheVariants.{Grace as GraceWords, Times as TimeWords}
 use Rattle.edit_commands.specs.declared.edit.FileEdit.{FileEdit}
 use Rattle.edit_commands.specs.declared.edit.FileEdit.TheVariants.{Limits, Copy, Grace as Periods, Times}
 use Rattle.refusals.specs.Outcome.{Outcome, Passed, and_then}
@@ -35,7 +36,8 @@ edit_read names (TimeWords name block inode) =
     and_then (time_read inode) (λ (i : TimeWord).
     Passed (Times id b i))))
 
--- The file of names that is read for an edit, where one is given: none for new grace periods, which are no identifier's.
+-- The file of names that is read for an edit, where one is given: none for new grace periods, which are no
+-- identifier's.
 abbrev pub names_wanted : EditWords → Option (List ℕ) → Option (List ℕ)
 names_wanted (GraceWords block inode) names = None
 names_wanted _ names = names

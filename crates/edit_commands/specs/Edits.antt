@@ -1,6 +1,8 @@
--- Commands that edit a file: new limits, those of another identifier, new grace periods, and new times. Source: the manual
--- page of setquota; that the words are read from left to right, all before the file is opened, is this project's own.
-use Rattle.std.specs.Prelude.{◌≡◌, ◌⊎◌, ℕ, IsTrue, Bool, if◌then◌else◌, List, [], ◌∷◌, ◌++◌, map, codes, Option, None, is_none, Some, Ok}
+-- Commands that edit a file: new limits, those of another identifier, new grace periods, and new times. Source: the
+-- manual page of setquota; that the words are read from left to right, all before the file is opened, is this project's
+-- own.
+use Rattle.std.specs.Prelude.{◌≡◌, ◌⊎◌, ℕ, IsTrue, Bool, if◌then◌else◌, List, [], ◌∷◌, ◌++◌, map, codes, Option, None}
+use Rattle.std.specs.Prelude.{is_none, Some, Ok}
 use Rattle.id_names.specs.NamesFile.{NameLine}
 use Rattle.quota_value.specs.QuotaValue.{QuotaValue}
 use Rattle.outside.specs.World.{World}
@@ -20,7 +22,8 @@ use Rattle.refusals.specs.Line.{front_of}
 use Rattle.refusals.specs.Refusals.{refusal_of}
 use Rattle.run_steps.specs.Steps.{DoingAll, Finish, Looking, Naming, Opening, Steps, Then}
 use Rattle.run_steps.specs.declared.invocation.Invocation.{Invocation}
-use Rattle.edit_commands.specs.EditWords.{edit_meant, edit_read, edit_warns, names_wanted, skipped_by, words_need_room, words_warn}
+use Rattle.edit_commands.specs.EditWords.{edit_meant, edit_read, edit_warns, names_wanted, skipped_by, words_need_room}
+use Rattle.edit_commands.specs.EditWords.{words_warn}
 use Rattle.edit_steps.specs.EditStep.{edit_step, ChangeMayRefuse}
 use Rattle.quota_map.specs.Asked.{Asked, asked_of}
 use Rattle.quota_map.specs.View.{IsView}
@@ -88,10 +91,13 @@ NamedEditMayRefuse asked words file names cause name =
 abbrev pub EditMayRefuse : Common → EditWords → List ℕ → Cause → List ℕ → Type 0
 EditMayRefuse common words file cause name =
     NamesMayRefuse (names_wanted words common.names) cause name
-    ⊎ ((names : List NameLine) × MayBeNames (names_wanted words common.names) names × NamedEditMayRefuse (asked_of common.format) words file names cause name)
+    ⊎ ((names : List NameLine) × MayBeNames (names_wanted words common.names) names
+    × NamedEditMayRefuse (asked_of common.format) words file names cause name)
 
--- The files have no room for the edit that words ask for: its words were read with the names that the files had at the start.
-pub record IsFullForWords (common : Common) (words : EditWords) (file : List ℕ) (now : ℕ) (old : Outside) (files : World) (blocks limit : ℕ) : Type 0 where
+-- The files have no room for the edit that words ask for: its words were read with the names that the files had at the
+-- start.
+pub record IsFullForWords (common : Common) (words : EditWords) (file : List ℕ) (now : ℕ) (old : Outside)
+    (files : World) (blocks limit : ℕ) : Type 0 where
   pub names : List NameLine
   pub edit : FileEdit
   pub known : names_seen common.kind (names_wanted words common.names) old.files ≡ Passed names
@@ -104,20 +110,24 @@ pub record IsFullForWords (common : Common) (words : EditWords) (file : List ℕ
 abbrev pub CanEdit : Common → EditWords → List ℕ → Invocation → Outside → Type 0
 CanEdit common words file invocation old =
     (names : List NameLine) × (edit : FileEdit) × (value : QuotaValue) × (new : QuotaValue)
-    × (names_seen common.kind (names_wanted words common.names) old.files ≡ Passed names) × (edit_read names words ≡ Passed edit)
-    × IsView (old.files file) common.kind (asked_of common.format) (Ok value) × Fits (edit_meant edit invocation.now) (old.files file) value new
+    × (names_seen common.kind (names_wanted words common.names) old.files ≡ Passed names)
+    × (edit_read names words ≡ Passed edit)
+    × IsView (old.files file) common.kind (asked_of common.format) (Ok value)
+    × Fits (edit_meant edit invocation.now) (old.files file) value new
 
 -- An edit of a file. New times may be refused once they were set, where the error output fails in a warning.
 abbrev pub editing : Common → EditWords → List ℕ → Description
-editing common words file = record (row (EditSteps common words file) (edit_uses (words_warn words)) (EditMayRefuse common words file)) {
-  faulty = faulty_edit common words;
-  edits = if words_warn words then None else Some file;
-  alone = Some file;
-  most_writes = Some 12;
-  made = λ (invocation : Invocation) (old : Outside) (files : World). MakesWords common words file invocation.now old.files files;
-  looks = looks_at (file_given common file) (names_wanted words common.names) None;
-  needs_room = words_need_room words;
-  full = λ (invocation : Invocation) (old : Outside) (files : World) (refusal : Refusal) (blocks limit : ℕ).
-      (refusal.name ≡ file) × IsFullForWords common words file invocation.now old files blocks limit;
-  suffices = CanEdit common words file;
-}
+editing common words file =
+    record (row (EditSteps common words file) (edit_uses (words_warn words)) (EditMayRefuse common words file)) {
+      faulty = faulty_edit common words;
+      edits = if words_warn words then None else Some file;
+      alone = Some file;
+      most_writes = Some 12;
+      made = λ (invocation : Invocation) (old : Outside) (files : World).
+          MakesWords common words file invocation.now old.files files;
+      looks = looks_at (file_given common file) (names_wanted words common.names) None;
+      needs_room = words_need_room words;
+      full = λ (invocation : Invocation) (old : Outside) (files : World) (refusal : Refusal) (blocks limit : ℕ).
+          (refusal.name ≡ file) × IsFullForWords common words file invocation.now old files blocks limit;
+      suffices = CanEdit common words file;
+    }

@@ -22,8 +22,8 @@ pub record IsSaidInPart (lines : List (List ℕ)) (old new : List ℕ) : Type 0 
   pub next : unsaid ≡ line ∷ more
   pub written : AppendsPrefix (old ++ concat said) new line
 
--- What holds of a file whose edit was refused for this cause: it is as it was, or, where something outside failed, what an edit of it
--- to some value that failed may leave.
+-- What holds of a file whose edit was refused for this cause: it is as it was, or, where something outside failed, what
+-- an edit of it to some value that failed may leave.
 abbrev pub IsLeftFor : Cause → (old left : Option (List ℕ)) → Type 0
 IsLeftFor cause old left = (left ≡ old) ⊎ ((status_of cause ≡ 4) × ((value : QuotaValue) × MayBeLeft value old left))
 

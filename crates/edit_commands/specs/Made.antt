@@ -15,8 +15,8 @@ use Rattle.edit_commands.specs.EditWords.{edit_meant, edit_read, names_wanted}
 use Rattle.edit_commands.specs.declared.edit.EditWords.{EditWords}
 use Rattle.edit_commands.specs.declared.edit.FileEdit.{FileEdit}
 
--- Of whichever value the file was seen as, unless nothing was to be done, the files are what the change by which this edit is made
--- makes of them in a file of that format.
+-- Of whichever value the file was seen as, unless nothing was to be done, the files are what the change by which this
+-- edit is made makes of them in a file of that format.
 abbrev pub MakesEdit : Kind → Asked → Edit → List ℕ → (old new : World) → Type 0
 MakesEdit kind asked edit file old new =
     (value : QuotaValue) → IsView (old file) kind asked (Ok value) → edit.is_idle value ≡ false

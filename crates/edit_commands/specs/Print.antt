@@ -47,14 +47,16 @@ NamedPrintMayRefuse asked word file names cause name =
 abbrev pub PrintMayRefuse : Common → List ℕ → List ℕ → Cause → List ℕ → Type 0
 PrintMayRefuse common word file cause name =
     NamesMayRefuse common.names cause name
-    ⊎ ((names : List NameLine) × MayBeNames common.names names × NamedPrintMayRefuse (asked_of common.format) word file names cause name)
+    ⊎ ((names : List NameLine) × MayBeNames common.names names
+    × NamedPrintMayRefuse (asked_of common.format) word file names cause name)
 
 -- The description.
 
 -- a form that is printed: the names and its word are known, and the file is accepted
 abbrev pub CanPrint : Common → (word file : List ℕ) → Outside → Type 0
 CanPrint common word file old =
-    (names : List NameLine) × (id : ℕ) × (value : QuotaValue) × (names_seen common.kind common.names old.files ≡ Passed names)
+    (names : List NameLine) × (id : ℕ) × (value : QuotaValue)
+    × (names_seen common.kind common.names old.files ≡ Passed names)
     × (identifier_of names word ≡ Passed id) × IsView (old.files file) common.kind (asked_of common.format) (Ok value)
 
 -- the limits of an identifier as a form

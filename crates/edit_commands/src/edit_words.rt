@@ -9,8 +9,8 @@ use refusals::{Refusal, Word};
 use run_steps::{read_grace, read_identifier, read_limits, read_time};
 use std::alloc::Global;
 
-/// The file of names that words ask for an edit with: the words of new grace periods name no identifier, so for them none
-/// is read.
+/// The file of names that words ask for an edit with: the words of new grace periods name no identifier, so for them
+/// none is read.
 pub fn names_wanted(words: &EditWords, names: Option<Word>) -> Option<Word>
     ensures { result ≡ names_wanted words.now names }
 {

@@ -1,4 +1,4 @@
-ghost use Rattle.std.specs.Prelude.{ℕ, List, Option, ◌≡◌, Bool, Err, IfErr, IfOk, IsTrue, OnOk, Some, false, true, is_ok, ⊤};
+ghost use Rattle.std.specs.Prelude.{ℕ, List, Option, ◌≡◌, Bool, Err, IfErr, IfOk, IsTrue, OnOk, Some, false, is_ok, ⊤};
 ghost use Rattle.outside.specs.ManyCalls.{Syncs};
 ghost use Rattle.quota_value.specs.QuotaValue.{QuotaValue};
 ghost use Rattle.outside.specs.Seen.{Datagram, LinkSeen, SinkSeen, SourceSeen};
@@ -14,7 +14,8 @@ ghost use Rattle.run_steps.specs.Done.{seen_of, tells_of};
 ghost use Rattle.refusals.specs.Outcome.{refusal_in};
 ghost use Rattle.run_steps.specs.Carrying.{CarriesOut, EditsAlone};
 ghost use Rattle.run_steps.specs.Steps.{Then};
-ghost use Rattle.edit_commands.specs.Edits.{EditMayRefuse, EditSteps, FileEditMayRefuse, FileEditSteps, NamedEditMayRefuse, faulty_edit};
+ghost use Rattle.edit_commands.specs.Edits.{EditMayRefuse, EditSteps, FileEditMayRefuse, FileEditSteps};
+ghost use Rattle.edit_commands.specs.Edits.{NamedEditMayRefuse, faulty_edit};
 ghost use Rattle.edit_commands.specs.EditsInPart.{IsLeftFor, unskipped, MaySkip};
 ghost use Rattle.run_steps.specs.Changing.{edit_uses};
 ghost use Rattle.edit_commands.specs.declared.edit.FileEdit.{FileEdit as FileEditOf};
@@ -41,8 +42,8 @@ use std::alloc::Global;
 ///
 /// # Errors
 ///
-/// The names are not read, a word is faulty, the file is not opened, or the edit is refused; or the error output fails in a
-/// warning.
+/// The names are not read, a word is faulty, the file is not opened, or the edit is refused; or the error output fails
+/// in a warning.
 pub fn edit_by_words<S: Store, E: Sink>(
     alloc: Global,
     common: Common,
@@ -53,7 +54,8 @@ pub fn edit_by_words<S: Store, E: Sink>(
     invocation: Invocation,
 ) -> Result<(), Refusal>
     ensures carries { (input : SourceSeen) (out : SinkSeen) (link : LinkSeen) (input_tells out_tells link_tells : Bool)
-        → CarriesOut (EditSteps common words file invocation) (edit_uses (words_warn words)) (EditMayRefuse common words file)
+        → CarriesOut (EditSteps common words file invocation) (edit_uses (words_warn words))
+        (EditMayRefuse common words file)
         (tells_of S.tells input_tells out_tells E.tells link_tells)
         (seen_of (S.seen store.old) input out (E.seen err.old) link)
         (seen_of (S.seen store.new) input out (E.seen err.new) link) result }
@@ -71,7 +73,8 @@ pub fn edit_by_words<S: Store, E: Sink>(
         → MakesWords common words file invocation.now (S.seen store.old).files (S.seen store.new).files) }
     // What was written has been synced where it was done, and where it was not too, unless a call on the store failed.
     ensures synced { IsTrue S.tells → Syncs (is_ok result) (S.seen store.old) (S.seen store.new) }
-    // All that is committed are the files of one moment, to which its steps come, and which are those of the end where it was done.
+    // All that is committed are the files of one moment, to which its steps come, and which are those of the end where
+    // it was done.
     ensures commits { (input : List ℕ) (datagrams : List Datagram) → IsTrue S.tells
         → CommitsSteps ⊤ (is_ok result) (EditSteps common words file invocation)
         (KeepsOthers file (S.seen store.old).files)
@@ -106,22 +109,27 @@ fn edit_named<S: Store, E: Sink>(
     invocation: Invocation,
 ) -> Result<(), Refusal>
     ensures carries { (input : SourceSeen) (out : SinkSeen) (link : LinkSeen) (input_tells out_tells link_tells : Bool)
-        → CarriesOut (Then (edit_read names.now words) (λ (edit : FileEditOf). FileEditSteps kind (asked_of format) edit file invocation))
+        → CarriesOut (Then (edit_read names.now words)
+        (λ (edit : FileEditOf). FileEditSteps kind (asked_of format) edit file invocation))
         (edit_uses (words_warn words)) (NamedEditMayRefuse (asked_of format) words file names.now)
         (tells_of S.tells input_tells out_tells E.tells link_tells)
         (seen_of (S.seen store.old) input out (E.seen err.old) link)
         (seen_of (S.seen store.new) input out (E.seen err.new) link) result }
     ensures word { (refusal : Refusal) → refusal_in (edit_read names.now words) ≡ Some refusal → result ≡ Err refusal }
-    ensures store { (refusal : Refusal) → refusal_in (edit_read names.now words) ≡ Some refusal → store.new ≡ store.old }
+    ensures store { (refusal : Refusal) → refusal_in (edit_read names.now words) ≡ Some refusal
+        → store.new ≡ store.old }
     ensures silent { (refusal : Refusal) → refusal_in (edit_read names.now words) ≡ Some refusal → err.new ≡ err.old }
     ensures named { words_warn words ≡ false → IfErr result (λ refusal. IsTrue S.tells
         → IsLeftFor refusal.cause ((S.seen store.old).files file) ((S.seen store.new).files file)) }
     ensures alone { EditsAlone file (S.seen store.old) (S.seen store.new) }
     ensures made { OnOk result (IsTrue S.tells
-        → MakesNamed names.now kind (asked_of format) words file invocation.now (S.seen store.old).files (S.seen store.new).files) }
+        → MakesNamed names.now kind (asked_of format) words file invocation.now (S.seen store.old).files
+        (S.seen store.new).files) }
     ensures synced { IsTrue S.tells → Syncs (is_ok result) (S.seen store.old) (S.seen store.new) }
     ensures commits { (input : List ℕ) (datagrams : List Datagram) → IsTrue S.tells
-        → CommitsSteps ⊤ (is_ok result) (Then (edit_read names.now words) (λ (edit : FileEditOf). FileEditSteps kind (asked_of format) edit file invocation))
+        → CommitsSteps ⊤ (is_ok result)
+        (Then (edit_read names.now words)
+        (λ (edit : FileEditOf). FileEditSteps kind (asked_of format) edit file invocation))
         (KeepsOthers file (S.seen store.old).files)
         (record { files = (S.seen store.old).files; input = input; datagrams = datagrams }) (S.seen store.new).files
         (λ worlds. S.commits worlds store.old store.new) }
@@ -149,7 +157,8 @@ pub fn edit_file<S: Store, E: Sink>(
     invocation: Invocation,
 ) -> Result<(), Refusal>
     ensures carries { (input : SourceSeen) (out : SinkSeen) (link : LinkSeen) (input_tells out_tells link_tells : Bool)
-        → CarriesOut (FileEditSteps kind (asked_of format) edit.now file invocation) (edit_uses (edit_warns edit.now)) (FileEditMayRefuse (asked_of format) edit.now file)
+        → CarriesOut (FileEditSteps kind (asked_of format) edit.now file invocation) (edit_uses (edit_warns edit.now))
+        (FileEditMayRefuse (asked_of format) edit.now file)
         (tells_of S.tells input_tells out_tells E.tells link_tells)
         (seen_of (S.seen store.old) input out (E.seen err.old) link)
         (seen_of (S.seen store.new) input out (E.seen err.new) link) result }
@@ -157,7 +166,8 @@ pub fn edit_file<S: Store, E: Sink>(
         → IsLeftFor refusal.cause ((S.seen store.old).files file) ((S.seen store.new).files file)) }
     ensures alone { EditsAlone file (S.seen store.old) (S.seen store.new) }
     ensures made { OnOk result (IsTrue S.tells
-        → MakesEdit kind (asked_of format) (edit_meant edit.now invocation.now) file (S.seen store.old).files (S.seen store.new).files) }
+        → MakesEdit kind (asked_of format) (edit_meant edit.now invocation.now) file (S.seen store.old).files
+        (S.seen store.new).files) }
     ensures synced { IsTrue S.tells → Syncs (is_ok result) (S.seen store.old) (S.seen store.new) }
     ensures commits { (input : List ℕ) (datagrams : List Datagram) → IsTrue S.tells
         → CommitsSteps ⊤ (is_ok result) (FileEditSteps kind (asked_of format) edit.now file invocation)
@@ -191,7 +201,8 @@ fn make_edit<S: Store>(
     ensures skipped { IfOk result (λ skipped. (value : QuotaValue)
         → ⟦<AnyFile as QuotaFile<S>>⟧.holds opened.old store.old value → skipped ≡ skipped_by edit.now value) }
     ensures skips { IfOk result (MaySkip edit.now) }
-    ensures commits { CommitsOnce (λ worlds. S.commits worlds store.old store.new) (StandsEdited (edit_meant edit.now now)
+    ensures commits { CommitsOnce (λ worlds. S.commits worlds store.old store.new)
+        (StandsEdited (edit_meant edit.now now)
         (HoldsAny S.tells (S.seen store.old).files opened.old) (StandsForAs (any_seen opened.old).format)
         ((S.seen store.new).files (any_seen opened.old).name)) (S.seen store.new).files }
 {

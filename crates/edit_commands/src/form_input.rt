@@ -1,4 +1,5 @@
-ghost use Rattle.std.specs.Prelude.{◌≡◌, ◌≤◌, [], false, is_ok, IfErr, IfOk, IsSome, IsTrue, None, OnOk, Some, unwrap_or};
+ghost use Rattle.std.specs.Prelude.{◌≡◌, ◌≤◌, [], false, is_ok, IfErr, IfOk, IsSome, IsTrue, None, OnOk, Some};
+ghost use Rattle.std.specs.Prelude.{unwrap_or};
 ghost use Rattle.id_names.specs.FirstMatch.{first_name};
 ghost use Rattle.outside.specs.Behind.{IsBehind};
 ghost use Rattle.outside.specs.Count.{Rose};
@@ -23,8 +24,8 @@ use refusals::{Cause, Refusal, Word};
 use set_edit::{FormFault, Limits, read_form};
 use std::alloc::Global;
 
-/// The limits that the form of an identifier asks for. It stands in the file of this name, or in the input where no file is
-/// named.
+/// The limits that the form of an identifier asks for. It stands in the file of this name, or in the input where no
+/// file is named.
 ///
 /// # Errors
 ///
@@ -40,13 +41,15 @@ pub fn take_form<S: Store, I: Source>(
     input: &mut I,
 ) -> Result<Limits, Refusal>
     ensures read { IfOk result (λ limits. IsTrue S.tells → (from ≡ None → IsTrue I.tells)
-        → input_said from (form_step kind names.now file.now id from) (S.seen store.old).files (I.seen input.old).left ≡ Passed limits) }
+        → input_said from (form_step kind names.now file.now id from) (S.seen store.old).files (I.seen input.old).left
+        ≡ Passed limits) }
     ensures ended { OnOk result (from ≡ None → IsTrue I.tells → (I.seen input.new).left ≡ []) }
     ensures behind { (from ≡ None → IsTrue I.tells) → IsBehind (I.seen input.old).left (I.seen input.new).left }
     ensures untouched { IsSome from → input.new ≡ input.old }
     ensures refused { IfErr result (λ refusal. IsInputFault (Rose (S.seen store.old).faults (S.seen store.new).faults)
         (Rose (I.seen input.old).faults (I.seen input.new).faults) (IsTrue S.tells × (from ≡ None → IsTrue I.tells))
-        (input_said from (form_step kind names.now file.now id from) (S.seen store.old).files (I.seen input.old).left) refusal refusal.cause) }
+        (input_said from (form_step kind names.now file.now id from) (S.seen store.old).files (I.seen input.old).left)
+        refusal refusal.cause) }
     ensures may { IfErr result (λ refusal. FormMayRefuse from refusal.cause refusal.name) }
     ensures placed { IfErr result (λ refusal. refusal.place ≡ nowhere) }
     ensures leaves { OnlyReads (is_ok result) (unwrap_or from []) (S.seen store.old) (S.seen store.new) }
@@ -97,10 +100,12 @@ fn read_form_file<S: Store>(
     store: &mut S,
 ) -> Result<Limits, Refusal>
     ensures read { IfOk result (λ limits. IsTrue S.tells
-        → file_said name (form_step kind names.now file.now id (Some name)) ((S.seen store.old).files name) ≡ Passed limits) }
+        → file_said name (form_step kind names.now file.now id (Some name)) ((S.seen store.old).files name)
+        ≡ Passed limits) }
     ensures refused { IfErr result (λ refusal. IsInputFault
         (Rose (S.seen store.old).faults (S.seen store.new).faults) ⊥ (IsTrue S.tells)
-        (file_said name (form_step kind names.now file.now id (Some name)) ((S.seen store.old).files name)) refusal refusal.cause) }
+        (file_said name (form_step kind names.now file.now id (Some name)) ((S.seen store.old).files name)) refusal
+        refusal.cause) }
     ensures may { IfErr result (λ refusal. FormMayRefuse (Some name) refusal.cause refusal.name) }
     ensures placed { IfErr result (λ refusal. refusal.place ≡ nowhere) }
     ensures leaves { OnlyReads (is_ok result) name (S.seen store.old) (S.seen store.new) }
@@ -123,10 +128,12 @@ fn read_form_there<S: Store>(
     store: &mut S,
 ) -> Result<Limits, Refusal>
     ensures read { IfOk result (λ limits. IsTrue S.tells
-        → form_step kind names.now file.now id (Some name) (left_from ((S.seen store.old).files name) 0) ≡ Passed limits) }
+        → form_step kind names.now file.now id (Some name) (left_from ((S.seen store.old).files name) 0)
+        ≡ Passed limits) }
     ensures refused { IfErr result (λ refusal. IsInputFault
         (Rose (S.seen store.old).faults (S.seen store.new).faults) ⊥ (IsTrue S.tells)
-        (form_step kind names.now file.now id (Some name) (left_from ((S.seen store.old).files name) 0)) refusal refusal.cause) }
+        (form_step kind names.now file.now id (Some name) (left_from ((S.seen store.old).files name) 0)) refusal
+        refusal.cause) }
     ensures may { IfErr result (λ refusal. FormMayRefuse (Some name) refusal.cause refusal.name) }
     ensures placed { IfErr result (λ refusal. refusal.place ≡ nowhere) }
     ensures leaves { OnlyReads (is_ok result) name (S.seen store.old) (S.seen store.new) }

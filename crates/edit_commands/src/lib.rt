@@ -1,5 +1,5 @@
-//! The commands that edit limits, grace periods and times of a file by words or by a form: `setquota` in all its forms but for
-//! `setquota -b`, and `edquota`.
+//! The commands that edit limits, grace periods and times of a file by words or by a form: `setquota` in all its forms
+//! but for `setquota -b`, and `edquota`.
 //!
 //! The one promise: each of them carries out its steps.
 #![tactic(auto)]

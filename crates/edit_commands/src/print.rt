@@ -34,8 +34,8 @@ use std::alloc::Global;
 ///
 /// # Errors
 ///
-/// The names are not read, the word for the identifier is faulty, the file is not opened, the look-up in it is refused, or
-/// the output fails.
+/// The names are not read, the word for the identifier is faulty, the file is not opened, the look-up in it is refused,
+/// or the output fails.
 pub fn print_by_word<S: Store, O: Sink>(
     alloc: Global,
     common: Common,
@@ -44,8 +44,10 @@ pub fn print_by_word<S: Store, O: Sink>(
     store: &mut S,
     out: &mut O,
 ) -> Result<(), Refusal>
-    ensures carries { (input : SourceSeen) (err : SinkSeen) (link : LinkSeen) (input_tells err_tells link_tells : Bool) (now : ℕ) (line : Option ℕ)
-        → CarriesOut (PrintSteps common word file (record { now = now; line = line })) showing_uses (PrintMayRefuse common word file)
+    ensures carries { (input : SourceSeen) (err : SinkSeen) (link : LinkSeen) (input_tells err_tells link_tells : Bool)
+        (now : ℕ) (line : Option ℕ)
+        → CarriesOut (PrintSteps common word file (record { now = now; line = line })) showing_uses
+        (PrintMayRefuse common word file)
         (tells_of S.tells input_tells O.tells err_tells link_tells)
         (seen_of (S.seen store.old) input (O.seen out.old) err link)
         (seen_of (S.seen store.new) input (O.seen out.new) err link) result }
@@ -79,13 +81,16 @@ fn print_named<S: Store, O: Sink>(
     out: &mut O,
 ) -> Result<(), Refusal>
     ensures carries { (input : SourceSeen) (err : SinkSeen) (link : LinkSeen) (input_tells err_tells link_tells : Bool)
-        → CarriesOut (Then (identifier_of names.now word) (λ (id : ℕ). ShowingSteps kind (asked_of format) file (form_on kind names.now file id)))
+        → CarriesOut (Then (identifier_of names.now word)
+        (λ (id : ℕ). ShowingSteps kind (asked_of format) file (form_on kind names.now file id)))
         showing_uses (NamedPrintMayRefuse (asked_of format) word file names.now)
         (tells_of S.tells input_tells O.tells err_tells link_tells)
         (seen_of (S.seen store.old) input (O.seen out.old) err link)
         (seen_of (S.seen store.new) input (O.seen out.new) err link) result }
-    ensures word { (refusal : Refusal) → refusal_in (identifier_of names.now word) ≡ Some refusal → result ≡ Err refusal }
-    ensures store { (refusal : Refusal) → refusal_in (identifier_of names.now word) ≡ Some refusal → store.new ≡ store.old }
+    ensures word { (refusal : Refusal) → refusal_in (identifier_of names.now word) ≡ Some refusal
+        → result ≡ Err refusal }
+    ensures store { (refusal : Refusal) → refusal_in (identifier_of names.now word) ≡ Some refusal
+        → store.new ≡ store.old }
     ensures synced { Syncs (is_ok result) (S.seen store.old) (S.seen store.new) }
     ensures commits { S.commits [] store.old store.new }
 {
@@ -107,7 +112,8 @@ fn print_opened<S: Store, O: Sink>(
     out: &mut O,
 ) -> Result<(), Refusal>
     ensures carries { (input : SourceSeen) (err : SinkSeen) (link : LinkSeen) (input_tells err_tells link_tells : Bool)
-        → CarriesOut (ShowingSteps kind (asked_of format) file (form_on kind names.now file id)) showing_uses (ShowingMayRefuse (asked_of format) file)
+        → CarriesOut (ShowingSteps kind (asked_of format) file (form_on kind names.now file id)) showing_uses
+        (ShowingMayRefuse (asked_of format) file)
         (tells_of S.tells input_tells O.tells err_tells link_tells)
         (seen_of (S.seen store.old) input (O.seen out.old) err link)
         (seen_of (S.seen store.new) input (O.seen out.new) err link) result }

@@ -53,7 +53,8 @@ fn warn_if<E: Sink>(
     ensures ok { OnOk result (IsTrue E.tells → (E.seen err.new).written
         ≡ (E.seen err.old).written ++ concat (warning_if skipped (warning_line line text.now))) }
     ensures fault { OnErr result (IsTrue E.tells
-        → IsSaidInPart (warning_if skipped (warning_line line text.now)) (E.seen err.old).written (E.seen err.new).written) }
+        → IsSaidInPart (warning_if skipped (warning_line line text.now)) (E.seen err.old).written
+        (E.seen err.new).written) }
     ensures cause { OnErr result (Rose (E.seen err.old).faults (E.seen err.new).faults) }
     ensures later { (E.seen err.old).faults ≤ (E.seen err.new).faults }
     ensures quiet { skipped ≡ false → err.new ≡ err.old }

@@ -20,10 +20,12 @@ und-own name same = added-differs name (codes ".und") 3 (omega arith) same
 pub und-undo : (one other : List ℕ) → und_name one ≢ undo_name other
 unfolding und_name undo_name
 und-undo one other same =
-    let long : length one ≡ length other + 1 = omega (arith, ap length same, length-append one (codes ".und"), length-append other (codes ".undo")) in
+    let long : length one ≡ length other + 1 =
+    omega (arith, ap length same, length-append one (codes ".und"), length-append other (codes ".undo")) in
     let there : length one + 3 ≡ length other + 4 = omega (arith, long) in
     let first : get_or (one ++ codes ".und") (length one + 3) 0 ≡ 100 = get_or-append-add one (codes ".und") 3 0 in
-    let last : get_or (other ++ codes ".undo") (length other + 4) 0 ≡ 111 = get_or-append-add other (codes ".undo") 4 0 in
+    let last : get_or (other ++ codes ".undo") (length other + 4) 0 ≡ 111 =
+    get_or-append-add other (codes ".undo") 4 0 in
     let both : get_or (one ++ codes ".und") (length one + 3) 0 ≡ get_or (other ++ codes ".undo") (length other + 4) 0 =
     ap (λ (l : List ℕ). get_or l (length one + 3) 0) same ∙ ap (λ (n : ℕ). get_or (other ++ codes ".undo") n 0) there in
     absurd (omega (arith, first, last, both))

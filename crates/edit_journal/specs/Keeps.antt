@@ -11,8 +11,10 @@ pub record CountsFaults {T E : Type 0} (old new : DiskSeen) (result : Result T E
   pub cause : OnErr result (Rose old.faults new.faults)
   pub counted : old.faults ≤ new.faults
 
--- Calls that change which names are unsynced in one way alone: those that the way leaves out are as unsynced as they were.
-pub record Keeps {T E : Type 0} (Names : UnsyncedNames → UnsyncedNames → Type 0) (old new : DiskSeen) (result : Result T E) : Type 0 where
+-- Calls that change which names are unsynced in one way alone: those that the way leaves out are as unsynced as they
+-- were.
+pub record Keeps {T E : Type 0} (Names : UnsyncedNames → UnsyncedNames → Type 0) (old new : DiskSeen)
+    (result : Result T E) : Type 0 where
   pub names : Names old.unsynced new.unsynced
   pub counts : CountsFaults old new result
 
@@ -22,9 +24,10 @@ pub record OnlyLooks {T E : Type 0} (old new : DiskSeen) (result : Result T E) :
   pub names : new.unsynced ≡ old.unsynced
   pub counts : CountsFaults old new result
 
--- Calls that close the gate of an undo file in place: they pass by a step, change which names are unsynced in one way alone, and where
--- they were done the undo file is as it was behind its first byte.
-pub record InPlace {T E : Type 0} (step : World → World → Type 0) (Names : UnsyncedNames → UnsyncedNames → Type 0) (undo : List ℕ) (old new : DiskSeen) (result : Result T E) : Type 0 where
+-- Calls that close the gate of an undo file in place: they pass by a step, change which names are unsynced in one way
+-- alone, and where they were done the undo file is as it was behind its first byte.
+pub record InPlace {T E : Type 0} (step : World → World → Type 0) (Names : UnsyncedNames → UnsyncedNames → Type 0)
+    (undo : List ℕ) (old new : DiskSeen) (result : Result T E) : Type 0 where
   pub passes : Passes step old new
   pub names : Names old.unsynced new.unsynced
   pub rest : OnOk result (drop 1 (unwrap_or (new.files undo) []) ≡ drop 1 (unwrap_or (old.files undo) []))

@@ -33,7 +33,8 @@ TearsRanges name ranges = ChangesFile (Torn (IsOutsideAll ranges)) name
 abbrev pub TearsFrom : List ℕ → ℕ → World → World → Type 0
 TearsFrom name place = ChangesFile (Torn (λ other. other < place)) name
 
--- A new undo file takes its name, or does not: it is 1,024 bytes 0 then, or as it was. The file under its first name may
--- be anything, and all others stay.
+-- A new undo file takes its name, or does not: it is 1,024 bytes 0 then, or as it was. The file under its first name
+-- may be anything, and all others stay.
 abbrev pub MakesUndo : (und undo : List ℕ) → World → World → Type 0
-MakesUndo und undo old new = KeepsOtherTwo und undo old new × ((new undo ≡ old undo) ⊎ (new undo ≡ Some (replicate 1024 0)))
+MakesUndo und undo old new =
+    KeepsOtherTwo und undo old new × ((new undo ≡ old undo) ⊎ (new undo ≡ Some (replicate 1024 0)))

@@ -5,7 +5,8 @@
 -- byte 8 stands the length of the old file in eight bytes, and at byte 16 the number of saved ranges in four. Range k,
 -- counted from 0, stands at byte 1,024 + 1,040 k: its place in eight bytes, the number of its saved bytes in two, six
 -- bytes 0, and the saved bytes.
-use Rattle.std.specs.Prelude.{ℕ, zero, suc, ◌+◌, ◌*◌, ◌^◌, Bool, ◌&&◌, ◌||◌, true, nat_eq, nat_le, if◌then◌else◌, List, [], ◌∷◌, length, take, Option, None, Some}
+use Rattle.std.specs.Prelude.{ℕ, zero, suc, ◌+◌, ◌*◌, ◌^◌, Bool, ◌&&◌, ◌||◌, true, nat_eq, nat_le, if◌then◌else◌, List}
+use Rattle.std.specs.Prelude.{[], ◌∷◌, length, take, Option, None, Some}
 use Rattle.quota_types.specs.Bytes.{byte_at, number_at}
 use Rattle.edit_journal.specs.ByteRanges.{ByteRange, laid}
 
@@ -20,7 +21,10 @@ range_at k = 1024 + 1040 * k
 
 -- a saved range
 abbrev pub saved_range : List ℕ → ℕ → ByteRange
-saved_range undo k = record { at = number_at 8 undo (range_at k); bytes = bytes_at undo (range_at k + 16) (number_at 2 undo (range_at k + 8)) }
+saved_range undo k = record {
+  at = number_at 8 undo (range_at k);
+  bytes = bytes_at undo (range_at k + 16) (number_at 2 undo (range_at k + 8));
+}
 
 -- this many saved ranges, from one on
 abbrev pub saved_ranges : List ℕ → ℕ → ℕ → List ByteRange

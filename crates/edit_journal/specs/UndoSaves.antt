@@ -1,15 +1,17 @@
 -- What an undo file saves of a file.
-use Rattle.std.specs.Prelude.{◌≡◌, ◌≢◌, ℕ, suc, ◌+◌, ◌^◌, ◌<◌, ◌≤◌, List, [], ◌∷◌, length, Option, unwrap_or, take, drop}
+use Rattle.std.specs.Prelude.{◌≡◌, ◌≢◌, ℕ, suc, ◌+◌, ◌^◌, ◌<◌, ◌≤◌, List, [], ◌∷◌, length, Option, unwrap_or, take}
+use Rattle.std.specs.Prelude.{drop}
 use Rattle.quota_types.specs.Bytes.{byte_at, number_at}
 use Rattle.disk.specs.DiskCalls.{IsOutside}
 use Rattle.edit_journal.specs.ByteRanges.{ByteRange}
 use Rattle.edit_journal.specs.Undo.{bytes_at, range_at}
 
--- An undo file holds its ranges: it has room for its head, and each saved range that the head names ends within it. Where
--- the head names more than 12, a recovery reads none of them.
+-- An undo file holds its ranges: it has room for its head, and each saved range that the head names ends within it.
+-- Where the head names more than 12, a recovery reads none of them.
 pub record HoldsItsRanges (undo : List ℕ) : Type 0 where
   pub room : 1024 ≤ length undo
-  pub within : number_at 4 undo 16 ≤ 12 → (k : ℕ) → k < number_at 4 undo 16 → range_at k + 16 + number_at 2 undo (range_at k + 8) ≤ length undo
+  pub within : number_at 4 undo 16 ≤ 12 → (k : ℕ) → k < number_at 4 undo 16
+      → range_at k + 16 + number_at 2 undo (range_at k + 8) ≤ length undo
 
 -- an undo file with room for its head, and a gate that is closed
 abbrev pub IsClosed : Option (List ℕ) → Type 0
@@ -32,7 +34,8 @@ pub record SavesOne (old : List ℕ) (k at len : ℕ) (undo : List ℕ) : Type 0
 -- the ranges of an undo file from range k on save what the old file has in these ranges
 abbrev pub SavesFrom : List ℕ → ℕ → List ByteRange → List ℕ → Type 0
 SavesFrom old k [] undo = Unit {0}
-SavesFrom old k (range ∷ rest) undo = SavesOne old k range.at (length range.bytes) undo × SavesFrom old (suc k) rest undo
+SavesFrom old k (range ∷ rest) undo =
+    SavesOne old k range.at (length range.bytes) undo × SavesFrom old (suc k) rest undo
 
 -- An undo file saves what the old file has in these ranges, and its length; where the ranges go past the end of the old
 -- file nothing is saved, since a recovery cuts the file.

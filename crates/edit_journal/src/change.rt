@@ -20,7 +20,8 @@ use disk::{Disk, DiskFault};
 pub fn write_range<D: Disk>(disk: &mut D, name: &str, range: &KeptRange) -> Result<(), DiskFault>
     ensures written { OnOk result (IsTrue D.tells → (D.seen disk.new).files name.now
         ≡ Some (with_laid (bytes_of (D.seen disk.old) name.now) range.now.at range.now.bytes.items)) }
-    ensures passes { Passes (TearsRange name.now range.now.at (length range.now.bytes.items)) (D.seen disk.old) (D.seen disk.new) }
+    ensures passes { Passes (TearsRange name.now range.now.at (length range.now.bytes.items)) (D.seen disk.old)
+        (D.seen disk.new) }
     ensures keeps { Keeps (KeepsOthers name.now) (D.seen disk.old) (D.seen disk.new) result }
 {
     disk.write(name, range.at, range.bytes.as_slice())

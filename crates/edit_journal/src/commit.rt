@@ -27,7 +27,8 @@ pub fn commit_ranges<D: Disk>(
     requires apart { name.now ≢ undo.now }
     requires most { length ranges.now ≤ 12 }
     ensures leaves { IsTrue D.tells → (old : List ℕ) → IsSettled name.now undo.now old (D.seen disk.old)
-        → OnlyLeaves (RecoversToEither name.now undo.now old (laid (ranges_of ranges.now) old)) (D.seen disk.old) (D.seen disk.new) }
+        → OnlyLeaves (RecoversToEither name.now undo.now old (laid (ranges_of ranges.now) old)) (D.seen disk.old)
+        (D.seen disk.new) }
     ensures settled { OnOk result (IsTrue D.tells → (old : List ℕ) → IsSettled name.now undo.now old (D.seen disk.old)
         → IsSettled name.now undo.now (laid (ranges_of ranges.now) old) (D.seen disk.new)) }
     ensures others { Passes (KeepsOtherTwo name.now undo.now) (D.seen disk.old) (D.seen disk.new) }
@@ -60,10 +61,12 @@ pub fn commit_file<D: Disk>(
     requires first { und.now ≢ undo.now }
     requires most { length ranges.now ≤ 12 }
     ensures leaves { IsTrue D.tells → (old : List ℕ) → CanCommit name.now undo.now old (D.seen disk.old)
-        → OnlyLeaves (RecoversToEither name.now undo.now old (laid (ranges_of ranges.now) old)) (D.seen disk.old) (D.seen disk.new) }
+        → OnlyLeaves (RecoversToEither name.now undo.now old (laid (ranges_of ranges.now) old)) (D.seen disk.old)
+        (D.seen disk.new) }
     ensures settled { OnOk result (IsTrue D.tells → (old : List ℕ) → CanCommit name.now undo.now old (D.seen disk.old)
         → IsSettled name.now undo.now (laid (ranges_of ranges.now) old) (D.seen disk.new)) }
-    ensures others { IsTrue D.tells → Passes (KeepsOtherThree name.now undo.now und.now) (D.seen disk.old) (D.seen disk.new) }
+    ensures others { IsTrue D.tells
+        → Passes (KeepsOtherThree name.now undo.now und.now) (D.seen disk.old) (D.seen disk.new) }
     ensures synced { OnOk result (IsTrue D.tells → (D.seen disk.new).unsynced name.now ≡ false) }
     ensures keeps { Keeps (KeepsOtherThree name.now undo.now und.now) (D.seen disk.old) (D.seen disk.new) result }
 {

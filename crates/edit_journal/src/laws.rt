@@ -9,9 +9,9 @@ ghost use Rattle.outside.specs.World.{World};
 
 use disk::Disk;
 
-/// Where whatever a stop may leave recovers to one of two files, so does what a stop at any moment of a recovery leaves;
-/// and what a stop then may leave of a disk that has those files alone, so that a stop in the recovery of them leaves
-/// such files again, and so on.
+/// Where whatever a stop may leave recovers to one of two files, so does what a stop at any moment of a recovery
+/// leaves; and what a stop then may leave of a disk that has those files alone, so that a stop in the recovery of them
+/// leaves such files again, and so on.
 pub fn a_stopped_recovery_recovers<D: Disk>()
     ensures stopped { (name undo und old new : List ℕ) (before after : D) (image : World)
         → EachImage (RecoversToEither name undo old new) (D.seen before)

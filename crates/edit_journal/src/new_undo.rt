@@ -1,6 +1,7 @@
 //! The making of a new undo file.
 
-ghost use Rattle.std.specs.Prelude.{◌≡◌, ◌≢◌, ◌↔◌, ◌≤◌, [], List, ℕ, Some, length, replicate, unwrap_or, IfOk, IsTrue, OnOk, OnErr};
+ghost use Rattle.std.specs.Prelude.{◌≡◌, ◌≢◌, ◌↔◌, ◌≤◌, [], List, ℕ, Some, length, replicate, unwrap_or, IfOk, IsTrue};
+ghost use Rattle.std.specs.Prelude.{OnOk, OnErr};
 ghost use Rattle.disk.specs.DiskSeen.{ChangesNothing, IsDurable, OnlyLeaves, Passes};
 ghost use Rattle.edit_journal.specs.Recovered.{bytes_of};
 ghost use Rattle.edit_journal.specs.Keeps.{Keeps};
@@ -10,8 +11,8 @@ ghost use Rattle.outside.specs.World.{KeepsOtherTwo};
 
 use disk::{Disk, DiskFault};
 
-/// Makes a new undo file of 1,024 bytes 0, whose gate is closed, in place of the one that was there. It is written under
-/// a first name, and takes its own once it is kept.
+/// Makes a new undo file of 1,024 bytes 0, whose gate is closed, in place of the one that was there. It is written
+/// under a first name, and takes its own once it is kept.
 ///
 /// # Errors
 ///
@@ -32,7 +33,8 @@ pub fn make_undo<D: Disk>(disk: &mut D, undo: &str, und: &str) -> Result<(), Dis
 
 /// Whether an undo file has room for its head.
 fn has_room<D: Disk>(disk: &mut D, undo: &str) -> Result<bool, DiskFault>
-    ensures room { IfOk result (λ room. IsTrue D.tells → (IsTrue room ↔ (1024 ≤ length (bytes_of (D.seen disk.old) undo.now)))) }
+    ensures room { IfOk result
+        (λ room. IsTrue D.tells → (IsTrue room ↔ (1024 ≤ length (bytes_of (D.seen disk.old) undo.now)))) }
     ensures names { (D.seen disk.new).unsynced ≡ (D.seen disk.old).unsynced }
     ensures cause { OnErr result (Rose (D.seen disk.old).faults (D.seen disk.new).faults) }
     ensures leaves { ChangesNothing (D.seen disk.old) (D.seen disk.new) }

@@ -1,13 +1,16 @@
 //! The recovery of a file.
 
-ghost use Rattle.std.specs.Prelude.{◌≡◌, ◌≢◌, ◌<◌, ◌≤◌, ◌^◌, ◌+◌, [], List, ℕ, Some, length, true, IfOk, IsTrue, OnOk, false};
+ghost use Rattle.std.specs.Prelude.{◌≡◌, ◌≢◌, ◌<◌, ◌≤◌, ◌^◌, ◌+◌, [], List, ℕ, Some, length, true, IfOk, IsTrue, OnOk};
+ghost use Rattle.std.specs.Prelude.{false};
 ghost use Rattle.disk.specs.DiskSeen.{IsDurable, OnlyLeaves, Passes};
 ghost use Rattle.disk.specs.DiskCalls.{TearsRange};
 ghost use Rattle.edit_journal.specs.Keeps.{InPlace, Keeps, OnlyLooks};
-ghost use Rattle.edit_journal.specs.Recovery.{BeginsSo, ClosesGate, IsRead, StatesSaved, IsSame, MendsFile, RecoversInPlace, Restores, is_mended};
+ghost use Rattle.edit_journal.specs.Recovery.{BeginsSo, ClosesGate, IsRead, StatesSaved, IsSame, MendsFile};
+ghost use Rattle.edit_journal.specs.Recovery.{RecoversInPlace, Restores, is_mended};
 ghost use Rattle.edit_journal.specs.Recovered.{bytes_of, RecoversAsBefore, RecoversSame, IsRecovered, KeepsOtherThree};
 ghost use Rattle.edit_journal.specs.ByteRanges.{laid, with_laid};
-ghost use Rattle.edit_journal.specs.Undo.{bytes_at, recovered, saved_range, saved_ranges, range_fits, ranges_fit, undone};
+ghost use Rattle.edit_journal.specs.Undo.{bytes_at, recovered, saved_range, saved_ranges, range_fits, ranges_fit};
+ghost use Rattle.edit_journal.specs.Undo.{undone};
 ghost use Rattle.edit_journal.specs.UndoSaves.{HoldsItsRanges};
 ghost use Rattle.quota_types.specs.Bytes.{byte_at, number_at};
 ghost use Rattle.outside.specs.World.{KeepsOtherTwo, KeepsOthers};
@@ -60,7 +63,8 @@ fn lay_span<D: Disk>(disk: &mut D, name: &str, undo: &str, k: u32) -> Result<(),
     ensures laid { OnOk result (IsTrue D.tells → (old_length : ℕ)
         → range_fits old_length (saved_range (bytes_of (D.seen disk.old) undo.now) k) ≡ true
         → bytes_of (D.seen disk.new) name.now ≡ with_laid (bytes_of (D.seen disk.old) name.now)
-        (saved_range (bytes_of (D.seen disk.old) undo.now) k).at (saved_range (bytes_of (D.seen disk.old) undo.now) k).bytes) }
+        (saved_range (bytes_of (D.seen disk.old) undo.now) k).at
+        (saved_range (bytes_of (D.seen disk.old) undo.now) k).bytes) }
     ensures passes { IsTrue D.tells → (old_length : ℕ)
         → range_fits old_length (saved_range (bytes_of (D.seen disk.old) undo.now) k) ≡ true
         → Passes (TearsRange name.now (saved_range (bytes_of (D.seen disk.old) undo.now) k).at
@@ -88,7 +92,8 @@ fn lay_spans<D: Disk>(disk: &mut D, name: &str, undo: &str, count: u32) -> Resul
     requires most { count ≤ 12 }
     ensures laid { OnOk result (IsTrue D.tells → (old_length : ℕ)
         → ranges_fit old_length (saved_ranges (bytes_of (D.seen disk.old) undo.now) 0 count) ≡ true
-        → bytes_of (D.seen disk.new) name.now ≡ laid (saved_ranges (bytes_of (D.seen disk.old) undo.now) 0 count) (bytes_of (D.seen disk.old) name.now)) }
+        → bytes_of (D.seen disk.new) name.now
+        ≡ laid (saved_ranges (bytes_of (D.seen disk.old) undo.now) 0 count) (bytes_of (D.seen disk.old) name.now)) }
     ensures passes { IsTrue D.tells → (old_length : ℕ)
         → ranges_fit old_length (saved_ranges (bytes_of (D.seen disk.old) undo.now) 0 count) ≡ true
         → number_at 4 (bytes_of (D.seen disk.old) undo.now) 16 ≡ count
@@ -172,11 +177,14 @@ fn restore<D: Disk>(disk: &mut D, name: &str, undo: &str, head: UndoHead) -> Res
     requires apart { name.now ≢ undo.now }
     ensures restored { OnOk result (IsTrue D.tells
         → BeginsSo head.gate head.old_length head.count (bytes_of (D.seen disk.old) undo.now)
-        → (D.seen disk.new).files name.now ≡ recovered ((D.seen disk.old).files name.now) ((D.seen disk.old).files undo.now)) }
-    ensures kept { OnOk result (IsTrue D.tells → IsDurable name.now (D.seen disk.old) → IsDurable name.now (D.seen disk.new)) }
+        → (D.seen disk.new).files name.now
+        ≡ recovered ((D.seen disk.old).files name.now) ((D.seen disk.old).files undo.now)) }
+    ensures kept { OnOk result
+        (IsTrue D.tells → IsDurable name.now (D.seen disk.old) → IsDurable name.now (D.seen disk.new)) }
     ensures passes { IsTrue D.tells → IsRead name.now undo.now head.gate head.old_length head.count (D.seen disk.old)
         → Passes (Restores name.now undo.now) (D.seen disk.old) (D.seen disk.new) }
-    ensures synced { OnOk result (IsTrue D.tells → (D.seen disk.old).unsynced name.now ≡ false → (D.seen disk.new).unsynced name.now ≡ false) }
+    ensures synced { OnOk result
+        (IsTrue D.tells → (D.seen disk.old).unsynced name.now ≡ false → (D.seen disk.new).unsynced name.now ≡ false) }
     ensures keeps { Keeps (KeepsOthers name.now) (D.seen disk.old) (D.seen disk.new) result }
 {
     let usable = can_mend(disk, name, undo, head)?;
@@ -187,20 +195,21 @@ fn restore<D: Disk>(disk: &mut D, name: &str, undo: &str, head: UndoHead) -> Res
     Ok(())
 }
 
-/// Closes the gate of an undo file that names this many ranges: in place where it holds them, so that this needs no room
-/// and no new file, and else by a new undo file. A write may leave any bytes past the old end of a file, which must not be
-/// taken for a saved range.
+/// Closes the gate of an undo file that names this many ranges: in place where it holds them, so that this needs no
+/// room and no new file, and else by a new undo file. A write may leave any bytes past the old end of a file, which
+/// must not be taken for a saved range.
 ///
 /// # Errors
 ///
-/// The disk failed. A stop may leave any byte as the gate where the undo file holds its ranges, and else the undo file as
-/// it was, or the new one.
+/// The disk failed. A stop may leave any byte as the gate where the undo file holds its ranges, and else the undo file
+/// as it was, or the new one.
 fn close_gate<D: Disk>(disk: &mut D, undo: &str, und: &str, count: u32) -> Result<(), DiskFault>
     requires apart { und.now ≢ undo.now }
     ensures closed { OnOk result (IsTrue D.tells → byte_at (bytes_of (D.seen disk.new) undo.now) 0 ≢ 1) }
     ensures kept { OnOk result (IsTrue D.tells → IsDurable undo.now (D.seen disk.new)) }
     ensures passes { IsTrue D.tells → count ≡ number_at 4 (bytes_of (D.seen disk.old) undo.now) 16
-        → IsDurable undo.now (D.seen disk.old) → Passes (ClosesGate und.now undo.now) (D.seen disk.old) (D.seen disk.new) }
+        → IsDurable undo.now (D.seen disk.old)
+        → Passes (ClosesGate und.now undo.now) (D.seen disk.old) (D.seen disk.new) }
     ensures in_place { IsTrue D.tells → count ≡ number_at 4 (bytes_of (D.seen disk.old) undo.now) 16
         → HoldsItsRanges (bytes_of (D.seen disk.old) undo.now)
         → InPlace (TearsRange undo.now 0 1) (KeepsOthers undo.now) undo.now (D.seen disk.old) (D.seen disk.new) result }
@@ -230,15 +239,18 @@ fn recover_kept<D: Disk>(
     requires unmade { name.now ≢ und.now }
     requires first { und.now ≢ undo.now }
     requires open { head.gate ≡ 1 }
-    ensures done { OnOk result (IsTrue D.tells → IsRead name.now undo.now head.gate head.old_length head.count (D.seen disk.old)
-        → IsRecovered name.now undo.now (recovered ((D.seen disk.old).files name.now) ((D.seen disk.old).files undo.now)) (D.seen disk.new)) }
+    ensures done { OnOk result
+        (IsTrue D.tells → IsRead name.now undo.now head.gate head.old_length head.count (D.seen disk.old)
+        → IsRecovered name.now undo.now
+        (recovered ((D.seen disk.old).files name.now) ((D.seen disk.old).files undo.now)) (D.seen disk.new)) }
     ensures passes { IsTrue D.tells → IsRead name.now undo.now head.gate head.old_length head.count (D.seen disk.old)
         → Passes (RecoversSame name.now undo.now und.now) (D.seen disk.old) (D.seen disk.new) }
     ensures in_place { IsTrue D.tells → IsRead name.now undo.now head.gate head.old_length head.count (D.seen disk.old)
         → HoldsItsRanges (bytes_of (D.seen disk.old) undo.now)
         → InPlace (RecoversInPlace name.now undo.now) (KeepsOtherTwo name.now undo.now) undo.now (D.seen disk.old)
         (D.seen disk.new) result }
-    ensures synced { OnOk result (IsTrue D.tells → (D.seen disk.old).unsynced name.now ≡ false → (D.seen disk.new).unsynced name.now ≡ false) }
+    ensures synced { OnOk result
+        (IsTrue D.tells → (D.seen disk.old).unsynced name.now ≡ false → (D.seen disk.new).unsynced name.now ≡ false) }
     ensures keeps { Keeps (KeepsOtherThree name.now undo.now und.now) (D.seen disk.old) (D.seen disk.new) result }
 {
     restore(disk, name, undo, head)?;
@@ -250,8 +262,8 @@ fn recover_kept<D: Disk>(
 /// the undo file says nothing, and the gate of its undo file is closed. A stop at any moment leaves files of which a
 /// recovery makes the same. All other files but the undo file, under both its names, stay.
 ///
-/// Where the undo file holds its ranges its first byte alone changes, so that this needs no room and makes no file. Else
-/// an open gate is closed by a new undo file.
+/// Where the undo file holds its ranges its first byte alone changes, so that this needs no room and makes no file.
+/// Else an open gate is closed by a new undo file.
 ///
 /// # Errors
 ///
@@ -269,7 +281,8 @@ pub fn recover_file<D: Disk>(
         (recovered ((D.seen disk.old).files name.now) ((D.seen disk.old).files undo.now)) (D.seen disk.new)) }
     ensures leaves { IsTrue D.tells
         → OnlyLeaves (RecoversAsBefore name.now undo.now (D.seen disk.old)) (D.seen disk.old) (D.seen disk.new) }
-    ensures passes { IsTrue D.tells → Passes (RecoversSame name.now undo.now und.now) (D.seen disk.old) (D.seen disk.new) }
+    ensures passes { IsTrue D.tells
+        → Passes (RecoversSame name.now undo.now und.now) (D.seen disk.old) (D.seen disk.new) }
     ensures in_place { IsTrue D.tells → HoldsItsRanges (bytes_of (D.seen disk.old) undo.now)
         → InPlace (RecoversInPlace name.now undo.now) (KeepsOtherTwo name.now undo.now) undo.now (D.seen disk.old)
         (D.seen disk.new) result }

@@ -1,6 +1,7 @@
 //! What is read of an undo file.
 
-ghost use Rattle.std.specs.Prelude.{◌≡◌, ◌↔◌, ◌<◌, ◌≤◌, ◌+◌, ◌^◌, ◌&&◌, ◌||◌, [], ℕ, length, nat_eq, nat_le, slice_index, unwrap_or, IfOk, IsTrue, OnOk};
+ghost use Rattle.std.specs.Prelude.{◌≡◌, ◌↔◌, ◌<◌, ◌≤◌, ◌+◌, ◌^◌, ◌&&◌, ◌||◌, [], ℕ, length, nat_eq, nat_le};
+ghost use Rattle.std.specs.Prelude.{slice_index, unwrap_or, IfOk, IsTrue, OnOk};
 ghost use Rattle.edit_journal.specs.Recovered.{bytes_of};
 ghost use Rattle.edit_journal.specs.Keeps.{OnlyLooks};
 ghost use Rattle.edit_journal.specs.Recovery.{BeginsSo};
@@ -129,8 +130,8 @@ fn end_within<D: Disk>(disk: &mut D, undo: &str, length: u64, count: u32) -> Res
     Ok(true)
 }
 
-/// Whether an undo file that names this many ranges holds them: it has room for its head, and each of them ends within it.
-/// Of more than 12 a recovery reads none.
+/// Whether an undo file that names this many ranges holds them: it has room for its head, and each of them ends within
+/// it. Of more than 12 a recovery reads none.
 pub(crate) fn holds_ranges<D: Disk>(disk: &mut D, undo: &str, count: u32) -> Result<bool, DiskFault>
     ensures holds { IfOk result (λ holds. IsTrue D.tells → count ≡ number_at 4 (bytes_of (D.seen disk.old) undo.now) 16
         → (IsTrue holds ↔ HoldsItsRanges (bytes_of (D.seen disk.old) undo.now))) }

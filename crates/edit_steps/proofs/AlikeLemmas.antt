@@ -20,18 +20,23 @@ WantsRoom (Refused refusal) = IsFullCause refusal.cause
 abbrev pub AreAlike : (one other : Outcome (List Act)) → Type 0
 AreAlike one other = (one ≡ other) ⊎ (WantsRoom one ⊎ WantsRoom other)
 
-written_alike : (way : Way) (name : List ℕ) (blocks more : ℕ) (new : QuotaValue) (idle large also : Bool) → AreAlike (written way name blocks new idle large) (written way name more new idle also)
+written_alike : (way : Way) (name : List ℕ) (blocks more : ℕ) (new : QuotaValue) (idle large also : Bool)
+    → AreAlike (written way name blocks new idle large) (written way name more new idle also)
 written_alike way name blocks more new true large also = inl refl
 written_alike way name blocks more new false true also = inr (inl tt)
 written_alike way name blocks more new false false true = inr (inr tt)
 written_alike way name blocks more new false false false = inl refl
 
-pub changed_alike : (way : Way) (name : List ℕ) (edit : Edit) (one other : Option (List ℕ)) (value : QuotaValue) (edited : Result QuotaValue (Field × ℕ)) → AreAlike (changed way name edit one value edited) (changed way name edit other value edited)
+pub changed_alike : (way : Way) (name : List ℕ) (edit : Edit) (one other : Option (List ℕ)) (value : QuotaValue)
+    (edited : Result QuotaValue (Field × ℕ))
+    → AreAlike (changed way name edit one value edited) (changed way name edit other value edited)
 changed_alike way name edit one other value (Ok new) =
-    written_alike way name (blocks_after one new) (blocks_after other new) new (edit.is_idle value) (is_too_large edit one new) (is_too_large edit other new)
+    written_alike way name (blocks_after one new) (blocks_after other new) new (edit.is_idle value)
+    (is_too_large edit one new) (is_too_large edit other new)
 changed_alike way name edit one other value (Err out) = inl refl
 
-pub then_alike : (one other : Outcome (List Act)) (next : List Act → Steps) → AreAlike one other → AreSameSteps true (Then one next) (Then other next)
+pub then_alike : (one other : Outcome (List Act)) (next : List Act → Steps) → AreAlike one other
+    → AreSameSteps true (Then one next) (Then other next)
 then_alike one other next (inl same) = inl (ap (λ (o : Outcome (List Act)). Then o next) same)
 then_alike (Refused refusal) other next (inr (inl full)) = inr (refl, inl full)
 then_alike (Passed acts) other next (inr (inl full)) = absurd full

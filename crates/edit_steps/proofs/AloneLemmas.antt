@@ -6,5 +6,6 @@ use Rattle.outside.specs.World.{KeepsOthers}
 use Rattle.outside.proofs.FrameLemmas.{keeps_others-same}
 
 -- calls that only read leave all files
-pub others-read : {done : Bool} (file name : List ℕ) (old new : StoreSeen) → OnlyReads done name old new → KeepsOthers file old.files new.files
+pub others-read : {done : Bool} (file name : List ℕ) (old new : StoreSeen) → OnlyReads done name old new
+    → KeepsOthers file old.files new.files
 others-read file name old new read = keeps_others-same file old.files new.files read.files

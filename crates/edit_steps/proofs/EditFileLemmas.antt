@@ -1,5 +1,6 @@
 -- From what an edit says of an opened file of any format to what a command says of the file.
-use Rattle.std.proofs.Common.{◌⊎◌, inl, inr, ◌≡◌, ◌≢◌, ◌+◌, ◌≤◌, ℕ, Bool, true, false, IsTrue, List, Option, Ok, Err, Result, refl, sym, ap, subst, ◌∙◌, arith}
+use Rattle.std.proofs.Common.{◌⊎◌, inl, inr, ◌≡◌, ◌≢◌, ◌+◌, ◌≤◌, ℕ, Bool, true, false, IsTrue, List, Option, Ok, Err}
+use Rattle.std.proofs.Common.{Result, refl, sym, ap, subst, ◌∙◌, arith}
 use Rattle.std.specs.Prelude.{◌&&◌, ◌<◌, nat_lt, IfOk, IsOk, IsOkAnd}
 use Rattle.std.proofs.lemmas.Bool.{false≢true}
 use Rattle.std.proofs.lemmas.Bool.Decides.{nat_tests}
@@ -69,11 +70,14 @@ not_so false never = refl
 -- What an edit of an opened file says.
 
 -- an edit was made of an opened file of any format
-abbrev pub AnyEdits : {T : Type 0} → Edit → Bool → (opened file : AnyFile) (before after : StoreSeen) → Result T EditFault → Type 0
-AnyEdits edit tells opened file before after result = Edits edit (any_laws tells) (any_at tells before opened) (any_at tells after file) result
+abbrev pub AnyEdits : {T : Type 0} → Edit → Bool → (opened file : AnyFile) (before after : StoreSeen)
+    → Result T EditFault → Type 0
+AnyEdits edit tells opened file before after result =
+    Edits edit (any_laws tells) (any_at tells before opened) (any_at tells after file) result
 
 -- an edit makes twelve calls of `write` at most, however it ended
-pub few_writes : {T : Type 0} (tells : Bool) (edit : Edit) (opened file : AnyFile) (before after : StoreSeen) (result : Result T EditFault) → AnyEdits edit tells opened file before after result
+pub few_writes : {T : Type 0} (tells : Bool) (edit : Edit) (opened file : AnyFile) (before after : StoreSeen)
+    (result : Result T EditFault) → AnyEdits edit tells opened file before after result
     → after.writes ≤ before.writes + 12
 few_writes tells edit opened file before after result edits =
     let some = edits.value.writes in
@@ -81,10 +85,13 @@ few_writes tells edit opened file before after result edits =
     omega (arith, some.1, few)
 
 -- an edited value that the opened file holds is seen of the file, which is not too large
-edited_seen : (tells : Bool) (edit : Edit) (opened file : AnyFile) (before after : StoreSeen) (name : List ℕ) (format : Format) (value : QuotaValue) (edited : Result QuotaValue (Field × ℕ))
-    → edit.edited value ≡ edited → KeepsFormat edit → any_seen opened ≡ fresh_seen name format → any_seen file ≡ fresh_seen name format → HoldsAny tells before.files opened value
+edited_seen : (tells : Bool) (edit : Edit) (opened file : AnyFile) (before after : StoreSeen) (name : List ℕ)
+    (format : Format) (value : QuotaValue) (edited : Result QuotaValue (Field × ℕ))
+    → edit.edited value ≡ edited → KeepsFormat edit → any_seen opened ≡ fresh_seen name format
+    → any_seen file ≡ fresh_seen name format → HoldsAny tells before.files opened value
     → IsOkAnd edited (λ (new : QuotaValue). HoldsAny tells after.files file new)
-    → (IsTrue edit.needs_room → (blocks limit : ℕ) → edit.is_idle value ≡ false → IfOk edited (λ (new : QuotaValue). ¬ HasNoRoom opened (before.files name) new blocks limit))
+    → (IsTrue edit.needs_room → (blocks limit : ℕ) → edit.is_idle value ≡ false
+    → IfOk edited (λ (new : QuotaValue). ¬ HasNoRoom opened (before.files name) new blocks limit))
     → EditedSeen name (before.files name) after edit value edited
 edited_seen tells edit opened file before after name format value (Ok new) set keeps was is held holds room = (
   any_held_seen tells after.files file new name format is holds,
@@ -92,20 +99,28 @@ edited_seen tells edit opened file before after name format value (Ok new) set k
       let blocks = blocks_after (before.files name) new in
       let both = both_of edit.needs_room (nat_lt most_blocks blocks) large in
       room both.0 blocks most_blocks some
-      (lacks_most tells before.files opened (before.files name) value new name format was held (keeps value new set) (less_of most_blocks blocks both.1))),
+      (lacks_most tells before.files opened (before.files name) value new name format was held (keeps value new set)
+      (less_of most_blocks blocks both.1))),
 )
-edited_seen tells edit opened file before after name format value (Err out) set keeps was is held holds room = absurd holds
+edited_seen tells edit opened file before after name format value (Err out) set keeps was is held holds room =
+    absurd holds
 
-pub any_made : {T : Type 0} (tells : Bool) (edit : Edit) (opened file : AnyFile) (before after : StoreSeen) (name : List ℕ) (format : Format) (value : QuotaValue) (told : T) → KeepsFormat edit
-    → any_seen opened ≡ fresh_seen name format → (IsTrue tells → HoldsAny tells before.files opened value) → AnyEdits edit tells opened file before after (Ok told)
+pub any_made : {T : Type 0} (tells : Bool) (edit : Edit) (opened file : AnyFile) (before after : StoreSeen)
+    (name : List ℕ) (format : Format) (value : QuotaValue) (told : T) → KeepsFormat edit
+    → any_seen opened ≡ fresh_seen name format → (IsTrue tells → HoldsAny tells before.files opened value)
+    → AnyEdits edit tells opened file before after (Ok told)
     → IsMade name edit value (IsTrue tells) before after
 any_made tells edit opened file before after name format value told keeps was held edits =
     let done = edits.value.done in
     let named : (any_seen opened).name ≡ name = ap (λ (s : FileSeen). s.name) was in
     record {
       idle = λ told is. rw named at (edits.value.idle value (held told) is);
-      set = λ told. edited_seen tells edit opened file before after name format value (edit.edited value) refl keeps was (done.same ∙ was) (held told) (done.set value (held told))
-          (λ needs blocks limit some. subst (λ (n : List ℕ). IfOk (edit.edited value) (λ (new : QuotaValue). ¬ HasNoRoom opened (before.files n) new blocks limit)) named
+      set =
+          λ told. edited_seen tells edit opened file before after name format value (edit.edited value) refl keeps was
+          (done.same ∙ was) (held told) (done.set value (held told))
+          (λ needs blocks limit some. subst
+          (λ (n : List ℕ).
+          IfOk (edit.edited value) (λ (new : QuotaValue). ¬ HasNoRoom opened (before.files n) new blocks limit)) named
           (done.room needs value blocks limit (held told) some));
       leaves = rw named at edits.value.leaves;
       few = few_writes tells edit opened file before after _ edits;
@@ -122,35 +137,47 @@ while_usable false same left kept ended = inr (ended refl)
 abbrev EditLeft : Edit → QuotaValue → Result QuotaValue (Field × ℕ) → FileSeen → (old new : World) → Type 0
 EditLeft edit value edited seen old new =
     (new seen.name ≡ old seen.name)
-    ⊎ IsLeft (AnyMakes seen (edit.change value) seen.name) (λ bytes. IsOkAnd edited (λ (one : QuotaValue). StandsForAs seen.format bytes one)) (AnyLeaves seen.format) seen.name old new
+    ⊎ IsLeft (AnyMakes seen (edit.change value) seen.name)
+    (λ bytes. IsOkAnd edited (λ (one : QuotaValue). StandsForAs seen.format bytes one)) (AnyLeaves seen.format)
+    seen.name old new
 
 -- of a file that was just opened it is what an edit to the edited value that failed may leave
-left_may_be : (edit : Edit) (value new : QuotaValue) (format : Format) (name : List ℕ) (before after : World) → new.format ≡ format
+left_may_be : (edit : Edit) (value new : QuotaValue) (format : Format) (name : List ℕ) (before after : World)
+    → new.format ≡ format
     → EditLeft edit value (Ok new) (fresh_seen name format) before after → MayBeLeft new (before name) (after name)
 left_may_be edit value new format name before after is (inl same) = inl same
-left_may_be edit value new format name before after is (inr left) = left_seen format (edit.change value) name before after new is left
+left_may_be edit value new format name before after is (inr left) =
+    left_seen format (edit.change value) name before after new is left
 
 -- where only was read any file is as it was
-pub read_named : {done : Bool} (name opened : List ℕ) (before after : StoreSeen) → OnlyReads done opened before after → after.files name ≡ before.files name
+pub read_named : {done : Bool} (name opened : List ℕ) (before after : StoreSeen) → OnlyReads done opened before after
+    → after.files name ≡ before.files name
 read_named name opened before after read = ap (λ (files : World). files name) read.files
 
--- where an edit was refused that makes a value of the one that is held, the named file is what an edit to that value that failed may leave
-pub any_left : {T : Type 0} (name : List ℕ) (edit : Edit) (tells : Bool) (opened file : AnyFile) (before after : StoreSeen) (format : Format) (value new : QuotaValue) (fault : FileFault)
-    → KeepsFormat edit → any_seen opened ≡ fresh_seen name format → HoldsAny tells before.files opened value → edit.edited value ≡ Ok new
-    → AnyEdits {T = T} edit tells opened file before after (Err (File fault)) → MayBeLeft new (before.files name) (after.files name)
+-- where an edit was refused that makes a value of the one that is held, the named file is what an edit to that value
+-- that failed may leave
+pub any_left : {T : Type 0} (name : List ℕ) (edit : Edit) (tells : Bool) (opened file : AnyFile)
+    (before after : StoreSeen) (format : Format) (value new : QuotaValue) (fault : FileFault)
+    → KeepsFormat edit → any_seen opened ≡ fresh_seen name format → HoldsAny tells before.files opened value
+    → edit.edited value ≡ Ok new
+    → AnyEdits {T = T} edit tells opened file before after (Err (File fault))
+    → MayBeLeft new (before.files name) (after.files name)
 any_left name edit tells opened file before after format value new fault keeps was held set edits =
     let refused = edits.value.refused in
-    let formats : new.format ≡ format = keeps value new set ∙ held_format tells before.files opened value held ∙ ap (λ (s : FileSeen). s.format) was in
+    let formats : new.format ≡ format =
+    keeps value new set ∙ held_format tells before.files opened value held ∙ ap (λ (s : FileSeen). s.format) was in
     elim (while_usable (any_seen file).usable _ _ refused.unwritten (λ ended. refused.left ended value held)) [
       | inl read ↦ inl (read_named name (any_seen opened).name before after read)
       | inr left ↦
           left_may_be edit value new format name before.files after.files formats
           (subst (λ (s : FileSeen). EditLeft edit value (Ok new) s before.files after.files) was
-          (subst (λ (edited : Result QuotaValue (Field × ℕ)). EditLeft edit value edited (any_seen opened) before.files after.files) set left))
+          (subst (λ (edited : Result QuotaValue (Field × ℕ)).
+          EditLeft edit value edited (any_seen opened) before.files after.files) set left))
     ]
 
 -- but for a fault of the store the file may still be used
-whole_unless_fault : (fault : FileFault) (same : Type 0) → (is_store_fault fault ≡ false → same) → status_of (edit_cause (File fault)) ≢ 4 → same
+whole_unless_fault : (fault : FileFault) (same : Type 0) → (is_store_fault fault ≡ false → same)
+    → status_of (edit_cause (File fault)) ≢ 4 → same
 whole_unless_fault Store same kept other = absurd (other refl)
 whole_unless_fault (Damage damage) same kept other = kept refl
 whole_unless_fault (Full blocks limit) same kept other = kept refl
@@ -164,55 +191,75 @@ same_where_unfit false same (Ok new) out kept ended is = absurd (cc)
 same_where_unfit false same (Err other) out kept ended is = absurd (false≢true (ended refl))
 
 -- where there is no room for the value nothing was written
-same_where_full : (same : Type 0) (edited : Result QuotaValue (Field × ℕ)) (lacks : QuotaValue → Type 0) (new : QuotaValue)
+same_where_full : (same : Type 0) (edited : Result QuotaValue (Field × ℕ)) (lacks : QuotaValue → Type 0)
+    (new : QuotaValue)
     → IfOk edited (λ (value : QuotaValue). lacks value → same) → edited ≡ Ok new → lacks new → same
 same_where_full same (Ok value) lacks new full is lacks_it = full (subst (λ (v : QuotaValue). lacks v) (cc) lacks_it)
 same_where_full same (Err out) lacks new full is lacks_it = absurd (cc)
 
-pub any_refused : {T : Type 0} (name : List ℕ) (edit : Edit) (tells : Bool) (opened file : AnyFile) (before after : StoreSeen) (format : Format) (value : QuotaValue) (fault : EditFault)
-    → KeepsFormat edit → any_seen opened ≡ fresh_seen name format → (IsTrue tells → HoldsAny tells before.files opened value) → AnyEdits {T = T} edit tells opened file before after (Err fault)
+pub any_refused : {T : Type 0} (name : List ℕ) (edit : Edit) (tells : Bool) (opened file : AnyFile)
+    (before after : StoreSeen) (format : Format) (value : QuotaValue) (fault : EditFault)
+    → KeepsFormat edit → any_seen opened ≡ fresh_seen name format
+    → (IsTrue tells → HoldsAny tells before.files opened value)
+    → AnyEdits {T = T} edit tells opened file before after (Err fault)
     → IsRefusedAt name edit value (IsTrue tells) before after (edit_cause fault)
 any_refused {T} name edit tells opened file before after format value (File fault) keeps was held edits =
     let named : (any_seen opened).name ≡ name = ap (λ (s : FileSeen). s.name) was in
     let refused = edits.value.refused in
     record {
-      whole = λ other. rw named at (whole_unless_fault fault _ (λ not_store. refused.unwritten (refused.usable not_store)) other);
+      whole = λ other.
+          rw named at (whole_unless_fault fault _ (λ not_store. refused.unwritten (refused.usable not_store)) other);
       idle = λ told is. rw named at (edits.value.idle value (held told) is);
-      named = λ told new set. any_left {T = T} name edit tells opened file before after format value new fault keeps was (held told) set edits;
-      unfit = λ told out is. rw named at (same_where_unfit _ _ _ out refused.unwritten (λ ended. refused.fits ended value (held told)) is);
+      named = λ told new set. any_left {T = T} name edit tells opened file before after format value new fault keeps was
+          (held told) set edits;
+      unfit = λ told out is.
+          rw named at (same_where_unfit _ _ _ out refused.unwritten (λ ended. refused.fits ended value (held told)) is);
       full = λ told new is large.
           let bytes = before.files (any_seen opened).name in
           let blocks = blocks_after bytes new in
           let both = both_of edit.needs_room (nat_lt most_blocks blocks)
           (subst (λ (n : List ℕ). IsTrue (is_too_large edit (before.files n) new)) (sym named) large) in
-          rw named at (same_where_full _ (edit.edited value) (λ (v : QuotaValue). HasNoRoom opened bytes v blocks most_blocks) new
+          rw named at
+          (same_where_full _ (edit.edited value) (λ (v : QuotaValue). HasNoRoom opened bytes v blocks most_blocks) new
           (edits.value.full both.0 value blocks most_blocks (held told)) is
-          (lacks_most tells before.files opened bytes value new name format was (held told) (keeps value new is) (less_of most_blocks blocks both.1)));
+          (lacks_most tells before.files opened bytes value new name format was (held told) (keeps value new is)
+          (less_of most_blocks blocks both.1)));
       leaves = rw named at edits.value.leaves;
       few = few_writes tells edit opened file before after _ edits;
     }
 any_refused name edit tells opened file before after format value (Unfit out) keeps was held edits =
     let named : (any_seen opened).name ≡ name = ap (λ (s : FileSeen). s.name) was in
-    refused_read name edit value (IsTrue tells) before after (edit_cause (Unfit out)) (rw named at edits.no_room.unwritten)
+    refused_read name edit value (IsTrue tells) before after (edit_cause (Unfit out))
+    (rw named at edits.no_room.unwritten)
 
 -- an edited value for which there is no room
-set_lacking : (tells : Bool) (files : World) (opened : AnyFile) (bytes : Option (List ℕ)) (name : List ℕ) (format : Format) (value : QuotaValue) (edit : Edit) (edited : Result QuotaValue (Field × ℕ)) (blocks limit : ℕ)
-    → edit.edited value ≡ edited → KeepsFormat edit → any_seen opened ≡ fresh_seen name format → HoldsAny tells files opened value
-    → IsOkAnd edited (λ (new : QuotaValue). HasNoRoom opened bytes new blocks limit) → IsOkAnd edited (λ (new : QuotaValue). IsLacking bytes new blocks limit)
-set_lacking tells files opened bytes name format value edit (Ok new) blocks limit set keeps was held lacks = lacking tells files opened bytes value new name format blocks limit was held (keeps value new set) lacks
+set_lacking : (tells : Bool) (files : World) (opened : AnyFile) (bytes : Option (List ℕ)) (name : List ℕ)
+    (format : Format) (value : QuotaValue) (edit : Edit) (edited : Result QuotaValue (Field × ℕ)) (blocks limit : ℕ)
+    → edit.edited value ≡ edited → KeepsFormat edit → any_seen opened ≡ fresh_seen name format
+    → HoldsAny tells files opened value
+    → IsOkAnd edited (λ (new : QuotaValue). HasNoRoom opened bytes new blocks limit)
+    → IsOkAnd edited (λ (new : QuotaValue). IsLacking bytes new blocks limit)
+set_lacking tells files opened bytes name format value edit (Ok new) blocks limit set keeps was held lacks =
+    lacking tells files opened bytes value new name format blocks limit was held (keeps value new set) lacks
 set_lacking tells files opened bytes name format value edit (Err out) blocks limit set keeps was held lacks = lacks
 
-pub any_cause : {T : Type 0} (tells : Bool) (edit : Edit) (opened file : AnyFile) (before after : StoreSeen) (name : List ℕ) (format : Format) (fault : EditFault) → KeepsFormat edit
+pub any_cause : {T : Type 0} (tells : Bool) (edit : Edit) (opened file : AnyFile) (before after : StoreSeen)
+    (name : List ℕ) (format : Format) (fault : EditFault) → KeepsFormat edit
     → any_seen opened ≡ fresh_seen name format → AnyEdits {T = T} edit tells opened file before after (Err fault)
     → HasEditCause edit (before.files name) before.faults after.faults (HoldsAny tells before.files opened) fault
 any_cause tells edit opened file before after name format (File fault) keeps was edits = record {
   no_room = tt;
   id = tt;
-  refused = change_fault-after before.faults before.faults after.faults (HoldsAny tells before.files opened) (HoldsAny tells before.files opened) _ _ fault (omega arith) (λ value holds. holds)
+  refused =
+      change_fault-after before.faults before.faults after.faults (HoldsAny tells before.files opened)
+      (HoldsAny tells before.files opened) _ _ fault (omega arith) (λ value holds. holds)
       (λ blocks limit lacks. (
         lacks.0,
-        λ value holds. subst (λ (n : List ℕ). IsOkAnd (edit.edited value) (λ (new : QuotaValue). IsLacking (before.files n) new blocks limit)) (ap (λ (s : FileSeen). s.name) was)
-            (set_lacking tells before.files opened (before.files (any_seen opened).name) name format value edit (edit.edited value) blocks limit refl keeps was holds (lacks.1 value holds)),
+        λ value holds. subst
+            (λ (n : List ℕ). IsOkAnd (edit.edited value)
+            (λ (new : QuotaValue). IsLacking (before.files n) new blocks limit)) (ap (λ (s : FileSeen). s.name) was)
+            (set_lacking tells before.files opened (before.files (any_seen opened).name) name format value edit
+            (edit.edited value) blocks limit refl keeps was holds (lacks.1 value holds)),
       )) edits.value.refused.cause;
   wanted = edits.value.refused.busy;
 }
@@ -220,7 +267,8 @@ any_cause tells edit opened file before after name format (Unfit out) keeps was 
     record { no_room = edits.no_room.refused; id = edits.no_room.id; refused = tt; wanted = tt }
 
 -- a file that is full is a tree file, which may have the most blocks
-full_asked : (asked : Asked) (format : Format) (blocks limit : ℕ) → IsOpenedAs asked format → MayRefuse format (Full blocks limit)
+full_asked : (asked : Asked) (format : Format) (blocks limit : ℕ) → IsOpenedAs asked format
+    → MayRefuse format (Full blocks limit)
     → IsTrue (asks_tree asked) × (blocks_allowed format ≡ most_blocks)
 full_asked asked V1 blocks limit asks may = absurd (may.flat refl)
 full_asked asked V1R32 blocks limit asks may = absurd (may.flat refl)
@@ -229,8 +277,10 @@ full_asked (InFormat V1R32) format blocks limit asks may = absurd (may.flat (ap 
 full_asked asked format blocks limit asks may = (refl, refl)
 
 -- for what an edit may be refused, whatever is told
-pub edit_may : {T : Type 0} (asked : Asked) (name : List ℕ) (edit : Edit) (tells : Bool) (opened file : AnyFile) (before after : StoreSeen) (format : Format) (fault : EditFault)
-    → any_seen opened ≡ fresh_seen name format → IsOpenedAs asked format → AnyEdits {T = T} edit tells opened file before after (Err fault)
+pub edit_may : {T : Type 0} (asked : Asked) (name : List ℕ) (edit : Edit) (tells : Bool) (opened file : AnyFile)
+    (before after : StoreSeen) (format : Format) (fault : EditFault)
+    → any_seen opened ≡ fresh_seen name format → IsOpenedAs asked format
+    → AnyEdits {T = T} edit tells opened file before after (Err fault)
     → ChangeMayRefuse asked edit name (edit_cause fault) name ⊎ MayRefuseOpening asked name (edit_cause fault) name
 edit_may asked name edit tells opened file before after format (File Store) was asks edits = inr tt
 edit_may asked name edit tells opened file before after format (File (Damage damage)) was asks edits =
@@ -240,7 +290,8 @@ edit_may asked name edit tells opened file before after format (File (Full block
     let formats : (any_seen opened).format ≡ format = ap (λ (s : FileSeen). s.format) was in
     let refused = edits.value.refused in
     let full = full_asked asked format blocks limit asks (rw formats at refused.may) in
-    inl (refused.cause.0, full.0, refused.passes.0 ∙ ap (λ (s : FileSeen). s.limit) was ∙ full.1, refused.passes.1, refl)
+    inl
+    (refused.cause.0, full.0, refused.passes.0 ∙ ap (λ (s : FileSeen). s.limit) was ∙ full.1, refused.passes.1, refl)
 edit_may asked name edit tells opened file before after format (File Memory) was asks edits = inr tt
 edit_may asked name edit tells opened file before after format (Unfit out) was asks edits =
     let formats : (any_seen opened).format ≡ format = ap (λ (s : FileSeen). s.format) was in

@@ -1,5 +1,6 @@
 -- Entries in use, by their stored identifier and record.
-use Rattle.std.proofs.Common.{◌≡◌, ◌≢◌, ℕ, ◌==◌, ◌⊎◌, inl, inr, Bool, true, false, List, length, get_or, refl, sym, ap, subst, ◌∙◌, arith}
+use Rattle.std.proofs.Common.{◌≡◌, ◌≢◌, ℕ, ◌==◌, ◌⊎◌, inl, inr, Bool, true, false, List, length, get_or, refl, sym, ap}
+use Rattle.std.proofs.Common.{subst, ◌∙◌, arith}
 use Rattle.std.proofs.lemmas.Bool.{cases_lt}
 use Rattle.std.proofs.lemmas.List.{get_or_past}
 use Rattle.std.proofs.lemmas.List.Folds.{list_all_at}
@@ -40,20 +41,29 @@ unused_v2r1 : (bytes : List ℕ) → is_unused bytes ≡ true → stored_v2r1 by
 unused_v2r1 bytes unused = simp (unused_number bytes unused)
 
 -- what was stored is an entry
-used_by : (bytes : List ℕ) (id : ℕ) (found stored rec : Rec) → (is_unused bytes ≡ true → found ≡ zeros) → stored_id bytes ≡ id → found ≡ stored → (id ≡ 0 → stored ≢ zeros) → without_marker id stored ≡ rec → IsUsedBy bytes found id rec
+used_by : (bytes : List ℕ) (id : ℕ) (found stored rec : Rec) → (is_unused bytes ≡ true → found ≡ zeros)
+    → stored_id bytes ≡ id → found ≡ stored → (id ≡ 0 → stored ≢ zeros) → without_marker id stored ≡ rec
+    → IsUsedBy bytes found id rec
 used_by bytes id found stored rec unused is_id is_stored not_zeros read = record {
   used = elim (test_cases (is_unused bytes)) [
     | inl none ↦ absurd (not_zeros (sym is_id ∙ unused_number bytes none 4 0) (sym is_stored ∙ unused none))
     | inr some ↦ some
   ];
   id_is = sym is_id;
-  rec_is = sym read ∙ ap (λ (found_id : ℕ). without_marker found_id stored) (sym is_id) ∙ ap (without_marker (stored_id bytes)) (sym is_stored);
+  rec_is = sym read ∙ ap (λ (found_id : ℕ). without_marker found_id stored) (sym is_id)
+      ∙ ap (without_marker (stored_id bytes)) (sym is_stored);
 }
 
-pub entry_v2r0 : (format : Format) (bytes : List ℕ) (id : ℕ) (stored rec : Rec) → format ≡ V2R0 → stored_id bytes ≡ id → stored_v2r0 bytes ≡ stored → (id ≡ 0 → stored ≢ zeros) → without_marker id stored ≡ rec → IsEntry format bytes id rec
+pub entry_v2r0 : (format : Format) (bytes : List ℕ) (id : ℕ) (stored rec : Rec) → format ≡ V2R0 → stored_id bytes ≡ id
+    → stored_v2r0 bytes ≡ stored → (id ≡ 0 → stored ≢ zeros) → without_marker id stored ≡ rec
+    → IsEntry format bytes id rec
 entry_v2r0 format bytes id stored rec is is_id is_stored not_zeros read =
-    subst (λ (f : Format). IsEntry f bytes id rec) (sym is) (used_by bytes id (stored_v2r0 bytes) stored rec (unused_v2r0 bytes) is_id is_stored not_zeros read)
+    subst (λ (f : Format). IsEntry f bytes id rec) (sym is)
+    (used_by bytes id (stored_v2r0 bytes) stored rec (unused_v2r0 bytes) is_id is_stored not_zeros read)
 
-pub entry_v2r1 : (format : Format) (bytes : List ℕ) (id : ℕ) (stored rec : Rec) → format ≡ V2R1 → stored_id bytes ≡ id → stored_v2r1 bytes ≡ stored → (id ≡ 0 → stored ≢ zeros) → without_marker id stored ≡ rec → IsEntry format bytes id rec
+pub entry_v2r1 : (format : Format) (bytes : List ℕ) (id : ℕ) (stored rec : Rec) → format ≡ V2R1 → stored_id bytes ≡ id
+    → stored_v2r1 bytes ≡ stored → (id ≡ 0 → stored ≢ zeros) → without_marker id stored ≡ rec
+    → IsEntry format bytes id rec
 entry_v2r1 format bytes id stored rec is is_id is_stored not_zeros read =
-    subst (λ (f : Format). IsEntry f bytes id rec) (sym is) (used_by bytes id (stored_v2r1 bytes) stored rec (unused_v2r1 bytes) is_id is_stored not_zeros read)
+    subst (λ (f : Format). IsEntry f bytes id rec) (sym is)
+    (used_by bytes id (stored_v2r1 bytes) stored rec (unused_v2r1 bytes) is_id is_stored not_zeros read)

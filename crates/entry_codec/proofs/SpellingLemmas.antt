@@ -1,5 +1,6 @@
 -- Bytes are the same where the numbers that they spell are.
-use Rattle.std.proofs.Common.{◌≡◌, ◌≢◌, ℕ, zero, suc, ◌+◌, ◌-◌, ◌*◌, ◌<◌, ◌⊎◌, inl, inr, true, List, [], ◌∷◌, length, refl, sym, ap, subst, ◌∙◌, arith}
+use Rattle.std.proofs.Common.{◌≡◌, ◌≢◌, ℕ, zero, suc, ◌+◌, ◌-◌, ◌*◌, ◌<◌, ◌⊎◌, inl, inr, true, List, [], ◌∷◌, length}
+use Rattle.std.proofs.Common.{refl, sym, ap, subst, ◌∙◌, arith}
 use Rattle.std.proofs.lemmas.Bool.{cases_lt}
 use Rattle.std.proofs.lemmas.Grind.{same_number_lists}
 use Rattle.quota_types.specs.Bytes.{byte_at, number_at}
@@ -19,7 +20,8 @@ same_byte : (x y rest rest' : ℕ) → x < 256 → y < 256 → x + 256 * rest �
 same_byte x y rest rest' hx hy same = (omega arith, omega arith)
 
 -- the bytes of one number
-same_bytes : (width : ℕ) (xs ys : List ℕ) (at : ℕ) → AreBytes xs → AreBytes ys → number_at width xs at ≡ number_at width ys at → (k : ℕ) → k < width → byte_at xs (at + k) ≡ byte_at ys (at + k)
+same_bytes : (width : ℕ) (xs ys : List ℕ) (at : ℕ) → AreBytes xs → AreBytes ys
+    → number_at width xs at ≡ number_at width ys at → (k : ℕ) → k < width → byte_at xs (at + k) ≡ byte_at ys (at + k)
 unfolding number_at
 same_bytes zero xs ys at hx hy same k lt = absurd (omega arith)
 same_bytes (suc width) xs ys at hx hy same zero lt =
@@ -37,7 +39,8 @@ same_none : (xs ys : List ℕ) → SameBelow xs ys 0
 same_none xs ys k lt = absurd (omega arith)
 
 -- the same below the end of one number more, which starts at this place
-same_more : (width at next : ℕ) (xs ys : List ℕ) → at + width ≡ next → AreBytes xs → AreBytes ys → SameBelow xs ys at → number_at width xs at ≡ number_at width ys at → SameBelow xs ys next
+same_more : (width at next : ℕ) (xs ys : List ℕ) → at + width ≡ next → AreBytes xs → AreBytes ys → SameBelow xs ys at
+    → number_at width xs at ≡ number_at width ys at → SameBelow xs ys next
 same_more width at next xs ys sum hx hy below same k lt = elim (cases_lt k at) [
   | inl low ↦ below k low
   | inr high ↦
@@ -60,7 +63,8 @@ same_header xs ys hx hy same =
     (ap (λ (n : HeaderNumbers). n.first) same)
 
 -- the bytes of an entry of vfsv0
-same_v2r0 : (xs ys : List ℕ) → AreBytes xs → AreBytes ys → stored_id xs ≡ stored_id ys → stored_v2r0 xs ≡ stored_v2r0 ys → SameBelow xs ys 48
+same_v2r0 : (xs ys : List ℕ) → AreBytes xs → AreBytes ys → stored_id xs ≡ stored_id ys → stored_v2r0 xs ≡ stored_v2r0 ys
+    → SameBelow xs ys 48
 same_v2r0 xs ys hx hy same_id same =
     let more4 = λ (at : ℕ). same_more 4 at (at + 4) xs ys refl hx hy in
     let more8 = λ (at : ℕ). same_more 8 at (at + 8) xs ys refl hx hy in
@@ -76,7 +80,8 @@ same_v2r0 xs ys hx hy same_id same =
     (ap (λ (r : Rec). r.itime) same)
 
 -- the bytes of an entry of vfsv1
-same_v2r1 : (xs ys : List ℕ) → AreBytes xs → AreBytes ys → stored_id xs ≡ stored_id ys → number_at 4 xs 4 ≡ number_at 4 ys 4 → stored_v2r1 xs ≡ stored_v2r1 ys → SameBelow xs ys 72
+same_v2r1 : (xs ys : List ℕ) → AreBytes xs → AreBytes ys → stored_id xs ≡ stored_id ys
+    → number_at 4 xs 4 ≡ number_at 4 ys 4 → stored_v2r1 xs ≡ stored_v2r1 ys → SameBelow xs ys 72
 same_v2r1 xs ys hx hy same_id same_padding same =
     let more4 = λ (at : ℕ). same_more 4 at (at + 4) xs ys refl hx hy in
     let more8 = λ (at : ℕ). same_more 8 at (at + 8) xs ys refl hx hy in
@@ -108,10 +113,13 @@ no_number : (width at : ℕ) → number_at width [] at ≡ 0
 no_number width at = number_at-past width at [] (omega arith)
 
 -- the marker of identifier 0 is the one record that is read as another one
-marker_cases : (id : ℕ) (stored : Rec) → (without_marker id stored ≡ stored) ⊎ ((id ≡ 0) × (stored ≡ record zeros { itime = 1 }) × (without_marker id stored ≡ zeros))
+marker_cases : (id : ℕ) (stored : Rec)
+    → (without_marker id stored ≡ stored)
+    ⊎ ((id ≡ 0) × (stored ≡ record zeros { itime = 1 }) × (without_marker id stored ≡ zeros))
 marker_cases id stored = grind arith
 
-same_stored : (id : ℕ) (stored other : Rec) → without_marker id stored ≡ without_marker id other → (id ≡ 0 → stored ≢ zeros) → (id ≡ 0 → other ≢ zeros) → stored ≡ other
+same_stored : (id : ℕ) (stored other : Rec) → without_marker id stored ≡ without_marker id other
+    → (id ≡ 0 → stored ≢ zeros) → (id ≡ 0 → other ≢ zeros) → stored ≡ other
 same_stored id stored other same used other_used = elim (marker_cases id stored) [
   | inl plain ↦ elim (marker_cases id other) [
     | inl other_plain ↦ sym plain ∙ same ∙ other_plain
@@ -124,29 +132,35 @@ same_stored id stored other same used other_used = elim (marker_cases id stored)
 ]
 
 -- an entry in use whose padding is 0 has no stored record of zeros of identifier 0
-not_zeros_v2r0 : (xs : List ℕ) → AreBytes xs → length xs ≡ 48 → is_unused xs ≢ true → stored_id xs ≡ 0 → stored_v2r0 xs ≢ zeros
+not_zeros_v2r0 : (xs : List ℕ) → AreBytes xs → length xs ≡ 48 → is_unused xs ≢ true → stored_id xs ≡ 0
+    → stored_v2r0 xs ≢ zeros
 not_zeros_v2r0 xs hx size used is_zero same =
     let none : stored_v2r0 [] ≡ zeros = simp no_number in
     let below = same_v2r0 xs [] hx no_bytes (is_zero ∙ sym (no_number 4 0)) (same ∙ sym none) in
     used (is_unused-zeros xs (λ k lt. below k (omega arith)))
 
-not_zeros_v2r1 : (xs : List ℕ) → AreBytes xs → length xs ≡ 72 → is_unused xs ≢ true → number_at 4 xs 4 ≡ 0 → stored_id xs ≡ 0 → stored_v2r1 xs ≢ zeros
+not_zeros_v2r1 : (xs : List ℕ) → AreBytes xs → length xs ≡ 72 → is_unused xs ≢ true → number_at 4 xs 4 ≡ 0
+    → stored_id xs ≡ 0 → stored_v2r1 xs ≢ zeros
 not_zeros_v2r1 xs hx size used padding is_zero same =
     let none : stored_v2r1 [] ≡ zeros = simp no_number in
-    let below = same_v2r1 xs [] hx no_bytes (is_zero ∙ sym (no_number 4 0)) (padding ∙ sym (no_number 4 4)) (same ∙ sym none) in
+    let below =
+    same_v2r1 xs [] hx no_bytes (is_zero ∙ sym (no_number 4 0)) (padding ∙ sym (no_number 4 4)) (same ∙ sym none) in
     used (is_unused-zeros xs (λ k lt. below k (omega arith)))
 
 -- the stored records of two entries of one identifier and record
-same_used : (xs ys : List ℕ) (id : ℕ) (rec stored other : Rec) → IsUsedBy xs stored id rec → IsUsedBy ys other id rec → (stored_id xs ≡ 0 → stored ≢ zeros) → (stored_id ys ≡ 0 → other ≢ zeros) → stored ≡ other
+same_used : (xs ys : List ℕ) (id : ℕ) (rec stored other : Rec) → IsUsedBy xs stored id rec → IsUsedBy ys other id rec
+    → (stored_id xs ≡ 0 → stored ≢ zeros) → (stored_id ys ≡ 0 → other ≢ zeros) → stored ≡ other
 same_used xs ys id rec stored other x y not_x not_y =
     same_stored id stored other
-    (ap (λ (i : ℕ). without_marker i stored) x.id_is ∙ sym x.rec_is ∙ y.rec_is ∙ ap (λ (i : ℕ). without_marker i other) (sym y.id_is))
+    (ap (λ (i : ℕ). without_marker i stored) x.id_is ∙ sym x.rec_is ∙ y.rec_is
+    ∙ ap (λ (i : ℕ). without_marker i other) (sym y.id_is))
     (λ z. not_x (sym x.id_is ∙ z)) (λ z. not_y (sym y.id_is ∙ z))
 
 used_not_true : (xs : List ℕ) (stored : Rec) (id : ℕ) (rec : Rec) → IsUsedBy xs stored id rec → is_unused xs ≢ true
 used_not_true xs stored id rec x unused = let used = x.used in cc
 
-one_spelling_v2r0 : (xs ys : List ℕ) (id : ℕ) (rec : Rec) → IsSpelling V2R0 xs id rec → IsSpelling V2R0 ys id rec → xs ≡ ys
+one_spelling_v2r0 : (xs ys : List ℕ) (id : ℕ) (rec : Rec) → IsSpelling V2R0 xs id rec
+    → IsSpelling V2R0 ys id rec → xs ≡ ys
 one_spelling_v2r0 xs ys id rec x y =
     let same = same_used xs ys id rec (stored_v2r0 xs) (stored_v2r0 ys) x.entry y.entry
     (not_zeros_v2r0 xs x.are_bytes x.size (used_not_true xs _ id rec x.entry))
@@ -155,17 +169,20 @@ one_spelling_v2r0 xs ys id rec x y =
     let size = x.size in
     same_number_lists xs ys (x.size ∙ sym y.size) (λ k lt. below k (omega arith))
 
-one_spelling_v2r1 : (xs ys : List ℕ) (id : ℕ) (rec : Rec) → IsSpelling V2R1 xs id rec → IsSpelling V2R1 ys id rec → xs ≡ ys
+one_spelling_v2r1 : (xs ys : List ℕ) (id : ℕ) (rec : Rec) → IsSpelling V2R1 xs id rec
+    → IsSpelling V2R1 ys id rec → xs ≡ ys
 one_spelling_v2r1 xs ys id rec x y =
     let same = same_used xs ys id rec (stored_v2r1 xs) (stored_v2r1 ys) x.entry y.entry
     (not_zeros_v2r1 xs x.are_bytes x.size (used_not_true xs _ id rec x.entry) x.padding)
     (not_zeros_v2r1 ys y.are_bytes y.size (used_not_true ys _ id rec y.entry) y.padding) in
-    let below = same_v2r1 xs ys x.are_bytes y.are_bytes (sym x.entry.id_is ∙ y.entry.id_is) (x.padding ∙ sym y.padding) same in
+    let below =
+    same_v2r1 xs ys x.are_bytes y.are_bytes (sym x.entry.id_is ∙ y.entry.id_is) (x.padding ∙ sym y.padding) same in
     let size = x.size in
     same_number_lists xs ys (x.size ∙ sym y.size) (λ k lt. below k (omega arith))
 
 -- an entry is spelled in one way
-pub one_spelling : (format : Format) (xs ys : List ℕ) (id : ℕ) (rec : Rec) → IsSpelling format xs id rec → IsSpelling format ys id rec → xs ≡ ys
+pub one_spelling : (format : Format) (xs ys : List ℕ) (id : ℕ) (rec : Rec) → IsSpelling format xs id rec
+    → IsSpelling format ys id rec → xs ≡ ys
 one_spelling format xs ys id rec x y =
     by_tree (λ (format : Format). IsSpelling format xs id rec → IsSpelling format ys id rec → xs ≡ ys)
     (one_spelling_v2r0 xs ys id rec) (one_spelling_v2r1 xs ys id rec) format (entry_tree format xs id rec x.entry) x y

@@ -1,5 +1,6 @@
 -- A format is one of trees where it has entries, or a version.
-use Rattle.std.proofs.Common.{◌≡◌, ℕ, ◌<◌, Bool, ◌==◌, if◌then◌else◌, List, Some, None, inl, inr, refl, sym, ap, subst, ◌∙◌, arith, ne_eqb}
+use Rattle.std.proofs.Common.{◌≡◌, ℕ, ◌<◌, Bool, ◌==◌, if◌then◌else◌, List, Some, None, inl, inr, refl, sym, ap, subst}
+use Rattle.std.proofs.Common.{◌∙◌, arith, ne_eqb}
 use Rattle.std.proofs.lemmas.Bool.{cases_eq}
 use Rattle.std.proofs.lemmas.Option.{same_Some}
 use Rattle.quota_types.specs.Format.{IsTreeFormat}
@@ -11,7 +12,8 @@ use Rattle.entry_codec.specs.Header.{format_of}
 use Rattle.entry_codec.specs.Spelling.{IsEntry}
 
 -- bytes spell an entry of it
-pub entry_tree : (format : Format) (bytes : List ℕ) (id : ℕ) (rec : Rec) → IsEntry format bytes id rec → IsTreeFormat format
+pub entry_tree : (format : Format) (bytes : List ℕ) (id : ℕ) (rec : Rec) → IsEntry format bytes id rec
+    → IsTreeFormat format
 entry_tree V1 bytes id rec entry = absurd entry
 entry_tree V1R32 bytes id rec entry = absurd entry
 entry_tree V2R0 bytes id rec entry = refl
@@ -32,7 +34,8 @@ version_tree format version is = elim (cases_eq version 0) [
     | inl one ↦ subst IsTreeFormat (same_Some V2R1 format (sym (ap format_of one) ∙ is)) refl
     | inr other ↦ absurd (
         let no : None ≡ Some format =
-        sym (ap (λ (b : Bool). if b then Some V2R0 else if version == 1 then Some V2R1 else None) (ne_eqb version 0 more)
+        sym
+        (ap (λ (b : Bool). if b then Some V2R0 else if version == 1 then Some V2R1 else None) (ne_eqb version 0 more)
         ∙ ap (λ (b : Bool). if b then Some V2R1 else None) (ne_eqb version 1 other)) ∙ is in
         cc)
   ]

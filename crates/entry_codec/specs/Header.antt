@@ -7,7 +7,8 @@ use Rattle.quota_types.specs.declared.file_kind.Format.TheVariants.{V2R0, V2R1}
 use Rattle.quota_types.specs.declared.file_kind.Kind.{Kind}
 use Rattle.quota_types.specs.declared.file_kind.Kind.TheVariants.{User, Group, Project}
 use Rattle.entry_codec.specs.declared.header.HeaderFault.{HeaderFault}
-use Rattle.entry_codec.specs.declared.header.HeaderFault.TheVariants.{NotQuota, WrongKind, UnknownVersion, BadBlockCount}
+use Rattle.entry_codec.specs.declared.header.HeaderFault.TheVariants.{NotQuota, WrongKind, UnknownVersion}
+use Rattle.entry_codec.specs.declared.header.HeaderFault.TheVariants.{BadBlockCount}
 
 -- the eight numbers of a header
 pub record HeaderNumbers : Type 0 where

@@ -102,7 +102,16 @@ pub fn read_entry(format: Format, bytes: &[u8]) -> Option<(u32, Rec)>
 fn marked(id: u32, rec: &Rec) -> Rec
     requires { without_marker id rec.now ≡ rec.now }
     ensures read { without_marker id result ≡ rec.now }
-    ensures used { id ≡ 0 → result ≢ record { ihard = 0; isoft = 0; inodes = 0; bhard = 0; bsoft = 0; space = 0; btime = 0; itime = 0 } }
+    ensures used { id ≡ 0 → result ≢ record {
+      ihard = 0;
+      isoft = 0;
+      inodes = 0;
+      bhard = 0;
+      bsoft = 0;
+      space = 0;
+      btime = 0;
+      itime = 0;
+    } }
 {
     let rec = *rec;
     if id == 0 && rec == Rec::default() {

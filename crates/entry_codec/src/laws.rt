@@ -45,21 +45,26 @@ pub fn an_entry_is_read_again(
 
 /// Numbers are those of one header at most.
 pub fn numbers_are_of_one_header()
-    ensures { (numbers : HeaderNumbers) (header other : Header) → AreOf header numbers → AreOf other numbers → header ≡ other }
+    ensures { (numbers : HeaderNumbers) (header other : Header) → AreOf header numbers → AreOf other numbers
+        → header ≡ other }
 {}
 
 /// Bytes are an entry of one identifier and one record at most.
 pub fn an_entry_has_one_meaning()
-    ensures id { (format : Format) (bytes : List ℕ) (id other_id : ℕ) (rec other : Rec) → IsEntry format bytes id rec → IsEntry format bytes other_id other → id ≡ other_id }
-    ensures rec { (format : Format) (bytes : List ℕ) (id other_id : ℕ) (rec other : Rec) → IsEntry format bytes id rec → IsEntry format bytes other_id other → rec ≡ other }
+    ensures id { (format : Format) (bytes : List ℕ) (id other_id : ℕ) (rec other : Rec) → IsEntry format bytes id rec
+        → IsEntry format bytes other_id other → id ≡ other_id }
+    ensures rec { (format : Format) (bytes : List ℕ) (id other_id : ℕ) (rec other : Rec) → IsEntry format bytes id rec
+        → IsEntry format bytes other_id other → rec ≡ other }
 {}
 
 /// An identifier's record is spelled by one entry at most in which padding is 0, so `write_entry` has no choice.
 pub fn an_entry_has_one_spelling()
-    ensures { (format : Format) (bytes other : List ℕ) (id : ℕ) (rec : Rec) → IsSpelling format bytes id rec → IsSpelling format other id rec → bytes ≡ other }
+    ensures { (format : Format) (bytes other : List ℕ) (id : ℕ) (rec : Rec) → IsSpelling format bytes id rec
+        → IsSpelling format other id rec → bytes ≡ other }
 {}
 
 /// The numbers of a header are spelled by one row of 32 bytes, so `write_header` has no choice.
 pub fn numbers_have_one_spelling()
-    ensures { (file other : List ℕ) → AreBytes file → AreBytes other → header_of file ≡ header_of other → (at : ℕ) → at < 32 → byte_at file at ≡ byte_at other at }
+    ensures { (file other : List ℕ) → AreBytes file → AreBytes other → header_of file ≡ header_of other → (at : ℕ)
+        → at < 32 → byte_at file at ≡ byte_at other at }
 {}

@@ -1,6 +1,7 @@
--- The blocks of a tree file. Source: the kernel's `fs/quota/quotaio_v2.h` (`V2_DQBLKSIZE_BITS`: blocks of 1,024 bytes) and
--- `struct qt_disk_dqdbheader` of `fs/quota/quota_tree.h`.
-use Rattle.std.specs.Prelude.{ℕ, ◌*◌, List, ◌++◌, take, drop, replicate, [], Option, unwrap_or, Bool, not, ◌&&◌, ◌==◌, nat_lt}
+-- The blocks of a tree file. Source: the kernel's `fs/quota/quotaio_v2.h` (`V2_DQBLKSIZE_BITS`: blocks of 1,024 bytes)
+-- and `struct qt_disk_dqdbheader` of `fs/quota/quota_tree.h`.
+use Rattle.std.specs.Prelude.{ℕ, ◌*◌, List, ◌++◌, take, drop, replicate, [], Option, unwrap_or, Bool, not, ◌&&◌, ◌==◌}
+use Rattle.std.specs.Prelude.{nat_lt}
 use Rattle.quota_types.specs.Bytes.{number_at}
 use Rattle.outside.specs.World.{World}
 

@@ -13,8 +13,8 @@ IsCheckFault before now defect Store = Rose before now
 IsCheckFault before now defect Memory = ⊤
 IsCheckFault before now defect (Damaged damage) = NamesItsId damage.kind damage.id × defect damage
 
--- A step that calls no store was refused for lack of memory, or for a damage that is one. It names an identifier only where
--- its kind does.
+-- A step that calls no store was refused for lack of memory, or for a damage that is one. It names an identifier only
+-- where its kind does.
 abbrev pub IsStepFault : (Damage → Type 0) → CheckFault → Type 0
 IsStepFault defect Store = ⊥
 IsStepFault defect Memory = ⊤

@@ -1,5 +1,6 @@
 ghost use Rattle.std.specs.Prelude.{◌≡◌};
-ghost use Rattle.file_blocks.specs.declared.check_fault.CheckFault.TheVariants.{Store as StoreFailed, Damage as Damaged, Memory};
+ghost use Rattle.file_blocks.specs.declared.check_fault.CheckFault.TheVariants.{Store as StoreFailed};
+ghost use Rattle.file_blocks.specs.declared.check_fault.CheckFault.TheVariants.{Damage as Damaged, Memory};
 
 use outside::StoreFault;
 use quota_types::Damage;

@@ -1,7 +1,7 @@
 //! The blocks of a file, of 1,024 bytes each, and the numbers in one.
 //!
-//! `read_block` reads a block of a file, `le16` to `set_le64` read and write the numbers in one, and a `BlockSet` is a set of
-//! a file's blocks. `CheckFault` is why a file of blocks could not be checked, or what is wrong with it.
+//! `read_block` reads a block of a file, `le16` to `set_le64` read and write the numbers in one, and a `BlockSet` is a
+//! set of a file's blocks. `CheckFault` is why a file of blocks could not be checked, or what is wrong with it.
 //!
 //! The one promise: a block is the file's bytes at its place, with zeros past the end of the file, and a number that is
 //! written changes its own bytes alone.

@@ -7,7 +7,8 @@ use Rattle.quota_map.specs.View.{IsOpenedAs}
 use Rattle.inode_scan.specs.declared.scan_fault.ApplyFault.{ApplyFault}
 use Rattle.inode_scan.specs.declared.scan_fault.ApplyFault.TheVariants.{NoRoom as Unfit, Memory as ApplyWantsMemory}
 use Rattle.refusals.specs.declared.cause.Cause.{Cause}
-use Rattle.refusals.specs.declared.cause.Cause.TheVariants.{StoreFault, SourceFault, SinkFault, LinkFault, Memory, NoRoom}
+use Rattle.refusals.specs.declared.cause.Cause.TheVariants.{StoreFault, SourceFault, SinkFault, LinkFault, Memory}
+use Rattle.refusals.specs.declared.cause.Cause.TheVariants.{NoRoom}
 use Rattle.run_steps.specs.Act.{Replace, ToOut}
 use Rattle.run_steps.specs.Steps.{Doing, Finish, Steps}
 use Rattle.file_commands.specs.Generate.{summary}
@@ -22,7 +23,8 @@ abbrev pub gathered_cause : Cause → Cause
 gathered_cause SinkFault = Memory
 gathered_cause cause = cause
 
--- Why a report on a file was not gathered: the store failed, there was not enough memory, or no value is seen of the file.
+-- Why a report on a file was not gathered: the store failed, there was not enough memory, or no value is seen of the
+-- file.
 abbrev pub IsUnreported : (rose unseen : Type 0) → Cause → Type 0
 IsUnreported rose unseen StoreFault = rose
 IsUnreported rose unseen Memory = ⊤

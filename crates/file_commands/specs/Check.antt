@@ -1,6 +1,7 @@
--- `quotacheck`. Source: the manual page of quotacheck; that the usage is read from a listing of inodes, and not from a mounted
--- file system, is this project's own.
-use Rattle.std.specs.Prelude.{◌≡◌, ◌⊎◌, ℕ, Bool, true, false, nat_lt, IfSome, List, Option, Some, unwrap_or, Result, Ok, Err, ◌≤◌, if◌then◌else◌, [], None}
+-- `quotacheck`. Source: the manual page of quotacheck; that the usage is read from a listing of inodes, and not from a
+-- mounted file system, is this project's own.
+use Rattle.std.specs.Prelude.{◌≡◌, ◌⊎◌, ℕ, Bool, true, false, nat_lt, IfSome, List, Option, Some, unwrap_or, Result, Ok}
+use Rattle.std.specs.Prelude.{Err, ◌≤◌, if◌then◌else◌, [], None}
 use Rattle.std.specs.FinMap.{empty, get}
 use Rattle.quota_types.specs.Kept.{IsKept}
 use Rattle.quota_types.specs.Range.{unfit}
@@ -17,9 +18,13 @@ use Rattle.inode_scan.specs.Scan.{scanned}
 use Rattle.inode_scan.specs.Usage.{UsageMap}
 use Rattle.inode_scan.specs.declared.scan_fault.ScanFault.{ScanFault}
 use Rattle.inode_scan.specs.declared.used.Used.{Used}
-use Rattle.inode_scan.specs.declared.scan_fault.ScanFault.TheVariants.{Source, TooLarge as PastTotal, BadLine as WrongLine, LongLine as TooLong, Conflict as Conflicting, Memory as ScanWantsMemory}
+use Rattle.inode_scan.specs.declared.scan_fault.ScanFault.TheVariants.{Source, TooLarge as PastTotal}
+use Rattle.inode_scan.specs.declared.scan_fault.ScanFault.TheVariants.{BadLine as WrongLine, LongLine as TooLong}
+use Rattle.inode_scan.specs.declared.scan_fault.ScanFault.TheVariants.{Conflict as Conflicting}
+use Rattle.inode_scan.specs.declared.scan_fault.ScanFault.TheVariants.{Memory as ScanWantsMemory}
 use Rattle.refusals.specs.declared.cause.Cause.{Cause}
-use Rattle.refusals.specs.declared.cause.Cause.TheVariants.{SourceFault, Memory, TooLarge, BadLine, LongLine, Conflict, NoRoom}
+use Rattle.refusals.specs.declared.cause.Cause.TheVariants.{SourceFault, Memory, TooLarge, BadLine, LongLine, Conflict}
+use Rattle.refusals.specs.declared.cause.Cause.TheVariants.{NoRoom}
 use Rattle.command_words.specs.declared.command.Common.{Common}
 use Rattle.run_steps.specs.declared.invocation.Invocation.{Invocation}
 use Rattle.run_steps.specs.Act.{Act, Replace}
@@ -82,16 +87,24 @@ new_format asked = unwrap_or asked V2R1
 -- a new file has no records, no flags, and grace periods of 7 days each
 abbrev pub new_value : Kind → Option Format → QuotaValue
 new_value kind asked =
-    record { kind = kind; format = new_format asked; grace = record { block = 604800; inode = 604800 }; flags = 0; records = empty }
+    record {
+      kind = kind;
+      format = new_format asked;
+      grace = record { block = 604800; inode = 604800 };
+      flags = 0;
+      records = empty;
+    }
 
 -- The steps.
 
 -- the listing is read, and the file is replaced by one of this value with the usage of the listing
 abbrev pub UsageSteps : Kind → (device : Option ℕ) → Option (List ℕ) → List ℕ → (now : ℕ) → QuotaValue → Steps
 UsageSteps kind device from file now value =
-    Taking from (λ usage. true) (scan_step kind device from) (λ (usage : UsageMap). ReplaceSteps file (checked value usage now))
+    Taking from (λ usage. true) (scan_step kind device from)
+    (λ (usage : UsageMap). ReplaceSteps file (checked value usage now))
 
--- a new file is made, whether there is one of its name or not; or the file is opened, and read whole, before the listing is
+-- a new file is made, whether there is one of its name or not; or the file is opened, and read whole, before the
+-- listing is
 abbrev pub CheckSteps : Common → (fresh : Bool) → (device : Option ℕ) → Option (List ℕ) → List ℕ → Invocation → Steps
 CheckSteps common true device from file invocation =
     UsageSteps common.kind device from file invocation.now (new_value common.kind common.format)
@@ -109,18 +122,22 @@ check_uses from = reading from (edit_uses false)
 
 -- What is said.
 
--- the format of a value has no room for this value of an identifier's record, once the record has some usage and its timers
--- are set at some moment
+-- the format of a value has no room for this value of an identifier's record, once the record has some usage and its
+-- timers are set at some moment
 abbrev pub UsageMayLack : QuotaValue → NoRoomFor → Type 0
 UsageMayLack value out =
     (used : Option Used) × (now : ℕ)
-    × (unfit value.format out.id (wanted_record value.grace now (get value.records out.id) used) ≡ Some (out.field, out.value))
+    × (unfit value.format out.id (wanted_record value.grace now (get value.records out.id) used) ≡ Some (
+      out.field,
+      out.value,
+    ))
 
 -- the format of a value has room for each of its records, and keeps it as it is
 abbrev pub HasKept : QuotaValue → Type 0
 HasKept value = (id : ℕ) → IfSome (get value.records id) (IsKept value.format id)
 
--- the causes for which a file of a value may not be replaced for lack of room in the records, with the name that is said
+-- the causes for which a file of a value may not be replaced for lack of room in the records, with the name that is
+-- said
 abbrev pub UnfitMayRefuse : QuotaValue → List ℕ → Cause → List ℕ → Type 0
 UnfitMayRefuse value file (NoRoom out) name = (name ≡ file) × UsageMayLack value out
 UnfitMayRefuse value file _ name = ⊥
@@ -138,7 +155,8 @@ OpenedMayRefuse asked from file cause name =
     MayRefuseOpening asked file cause name
     ⊎ ((value : QuotaValue) × IsOpenedAs asked value.format × HasKept value × UsageMayRefuse value from file cause name)
 
--- the causes for which the usage of a listing may not become that of a new file or of one that is opened, whatever is told
+-- the causes for which the usage of a listing may not become that of a new file or of one that is opened, whatever is
+-- told
 abbrev pub CheckMayRefuse : Common → (fresh : Bool) → Option (List ℕ) → List ℕ → Cause → List ℕ → Type 0
 CheckMayRefuse common true from file = UsageMayRefuse (new_value common.kind common.format) from file
 CheckMayRefuse common false from file = OpenedMayRefuse (asked_of common.format) from file
@@ -146,7 +164,8 @@ CheckMayRefuse common false from file = OpenedMayRefuse (asked_of common.format)
 -- The description.
 
 -- a check: the file is accepted or new, the listing is of the stated form, and its usage fits and has room
-abbrev pub CanCheck : Common → (fresh : Bool) → (device : Option ℕ) → Option (List ℕ) → List ℕ → Invocation → Outside → Type 0
+abbrev pub CanCheck : Common → (fresh : Bool) → (device : Option ℕ) → Option (List ℕ) → List ℕ → Invocation
+    → Outside → Type 0
 CanCheck common fresh device from file invocation old =
     (value : QuotaValue) × (usage : UsageMap) × (new : QuotaValue) × IsToBeChecked common fresh file old.files value
     × (input_said from (scan_step common.kind device from) old.files old.input ≡ Passed usage)
@@ -154,9 +173,11 @@ CanCheck common fresh device from file invocation old =
 
 -- the usage in a listing becomes that of a file
 abbrev pub checking : Common → (fresh : Bool) → (device : Option ℕ) → Option (List ℕ) → List ℕ → Description
-checking common fresh device input file = record (row (CheckSteps common fresh device input file) (check_uses input) (CheckMayRefuse common fresh input file)) {
-  replaces = Some file;
-  anew = Some file;
-  looks = looks_at (if fresh then [] else file_given common file) None input;
-  suffices = CanCheck common fresh device input file;
-}
+checking common fresh device input file =
+    record (row (CheckSteps common fresh device input file) (check_uses input)
+    (CheckMayRefuse common fresh input file)) {
+      replaces = Some file;
+      anew = Some file;
+      looks = looks_at (if fresh then [] else file_given common file) None input;
+      suffices = CanCheck common fresh device input file;
+    }

@@ -1,6 +1,7 @@
--- `convertquota`. Source: the manual page of convertquota; that both files are named, that neither is in use, and that no file is
--- written over is this project's own.
-use Rattle.std.specs.Prelude.{◌≡◌, ◌≢◌, ℕ, false, nat_lt, if◌then◌else◌, IfSome, List, Option, Some, None, Result, Ok, Err, ⊤, ◌≤◌, [], ◌∷◌}
+-- `convertquota`. Source: the manual page of convertquota; that both files are named, that neither is in use, and that
+-- no file is written over is this project's own.
+use Rattle.std.specs.Prelude.{◌≡◌, ◌≢◌, ℕ, false, nat_lt, if◌then◌else◌, IfSome, List, Option, Some, None, Result, Ok}
+use Rattle.std.specs.Prelude.{Err, ⊤, ◌≤◌, [], ◌∷◌}
 use Rattle.std.specs.FinMap.{get}
 use Rattle.std.specs.Str.{bytes_eq}
 use Rattle.quota_types.specs.Kept.{IsKept}
@@ -48,8 +49,8 @@ targeted source target files = and_then (apart source target) (λ (_ : Unit {0})
 abbrev pub Targeting : (source target : List ℕ) → Steps → Steps
 Targeting source target next = Looking (λ (files : World). Then (targeted source target files) (λ (_ : Unit {0}). next))
 
--- A file of the new name stands for the converted value from then on, where it has room for it. A value for which the new
--- format has no room is said to be one of the file that is converted.
+-- A file of the new name stands for the converted value from then on, where it has room for it. A value for which the
+-- new format has no room is said to be one of the file that is converted.
 abbrev pub made : (source target : List ℕ) → Result QuotaValue NoRoomFor → Outcome (List Act)
 made source target (Ok new) = if_room target (blocks_of new) (nat_lt most_blocks (blocks_of new)) (Replace target new)
 made source target (Err out) = Refused (refusal_of (NoRoom out) source)
@@ -67,8 +68,8 @@ ConvertSteps kind old new source target invocation =
 
 -- What is said.
 
--- a file of this kind and format may stand for the value: it has room for the grace periods and for each record, and keeps it as
--- it is
+-- a file of this kind and format may stand for the value: it has room for the grace periods and for each record, and
+-- keeps it as it is
 pub record MayStand (kind : Kind) (format : Format) (value : QuotaValue) : Type 0 where
   pub kind_is : value.kind ≡ kind
   pub format_is : value.format ≡ format
@@ -79,16 +80,17 @@ pub record MayStand (kind : Kind) (format : Format) (value : QuotaValue) : Type 
 abbrev pub MayLack : Kind → (old new : Format) → NoRoomFor → Type 0
 MayLack kind old new out = (value : QuotaValue) × MayStand kind old value × (converted new value ≡ Err out)
 
--- The causes for which a file may not be converted, whatever is told, with the name that is said: that of the new file where
--- there is one already, which is another than that of the file that is converted, or where it would need too many blocks, and
--- otherwise that of the file that is converted.
+-- The causes for which a file may not be converted, whatever is told, with the name that is said: that of the new file
+-- where there is one already, which is another than that of the file that is converted, or where it would need too many
+-- blocks, and otherwise that of the file that is converted.
 abbrev pub ConvertMayRefuse : Kind → (old new : Format) → (source target : List ℕ) → Cause → List ℕ → Type 0
 ConvertMayRefuse kind old new source target StoreFault name = ⊤
 ConvertMayRefuse kind old new source target Memory name = ⊤
 ConvertMayRefuse kind old new source target SameName name = (source ≡ target) × (name ≡ source)
 ConvertMayRefuse kind old new source target TargetExists name = (source ≢ target) × (name ≡ target)
 ConvertMayRefuse kind old new source target (NoRoom out) name = MayLack kind old new out × (name ≡ source)
-ConvertMayRefuse kind old new source target (Full blocks limit) name = WritingMayRefuse new target (Full blocks limit) name
+ConvertMayRefuse kind old new source target (Full blocks limit) name =
+    WritingMayRefuse new target (Full blocks limit) name
 ConvertMayRefuse kind old new source target cause name = MayRefuseOpening (InFormat old) source cause name
 
 -- The description.
@@ -97,15 +99,23 @@ ConvertMayRefuse kind old new source target cause name = MayRefuseOpening (InFor
 abbrev pub CanConvert : Kind → (before after : Format) → (source target : List ℕ) → Outside → Type 0
 CanConvert kind before after source target old =
     (value : QuotaValue) × (new : QuotaValue) × (source ≢ target) × (old.files target ≡ None)
-    × IsView (old.files source) kind (InFormat before) (Ok value) × (converted after value ≡ Ok new) × (blocks_of new ≤ most_blocks)
+    × IsView (old.files source) kind (InFormat before) (Ok value) × (converted after value ≡ Ok new)
+    × (blocks_of new ≤ most_blocks)
 
--- A file in another format. The file that is read is not the one that the new one is written under first: no words ask for such a
--- command, since no name of a file ends so.
+-- A file in another format. The file that is read is not the one that the new one is written under first: no words ask
+-- for such a command, since no name of a file ends so.
 abbrev pub converting : Kind → (old new : Format) → (source target : List ℕ) → Description
-converting kind old new source target = record (row (ConvertSteps kind old new source target) (edit_uses false) (ConvertMayRefuse kind old new source target)) {
-  replaces = Some target;
-  anew = Some target;
-  looks = record { opens = record { kind = kind; asked = InFormat old; name = source } ∷ []; names = None; input = None; target = Some target };
-  known = source ≢ replacement_name target;
-  suffices = λ (invocation : Invocation). CanConvert kind old new source target;
-}
+converting kind old new source target =
+    record (row (ConvertSteps kind old new source target) (edit_uses false)
+    (ConvertMayRefuse kind old new source target)) {
+      replaces = Some target;
+      anew = Some target;
+      looks = record {
+        opens = record { kind = kind; asked = InFormat old; name = source } ∷ [];
+        names = None;
+        input = None;
+        target = Some target;
+      };
+      known = source ≢ replacement_name target;
+      suffices = λ (invocation : Invocation). CanConvert kind old new source target;
+    }

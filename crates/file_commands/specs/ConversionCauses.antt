@@ -1,7 +1,9 @@
 -- What is said where a file was not converted.
 use Rattle.std.specs.Prelude.{ℕ, List}
 use Rattle.convert.specs.declared.convert_fault.ConvertFault.{ConvertFault}
-use Rattle.convert.specs.declared.convert_fault.ConvertFault.TheVariants.{SameName as NamesAreSame, TargetExists as TargetIsThere, Open, File, NoRoom as Unfit, Replace}
+use Rattle.convert.specs.declared.convert_fault.ConvertFault.TheVariants.{SameName as NamesAreSame}
+use Rattle.convert.specs.declared.convert_fault.ConvertFault.TheVariants.{TargetExists as TargetIsThere, Open, File}
+use Rattle.convert.specs.declared.convert_fault.ConvertFault.TheVariants.{NoRoom as Unfit, Replace}
 use Rattle.refusals.specs.declared.cause.Cause.TheVariants.{NoRoom, TargetExists, SameName}
 use Rattle.refusals.specs.declared.reason.Refusal.{Refusal}
 use Rattle.refusals.specs.Refusals.{refusal_of}

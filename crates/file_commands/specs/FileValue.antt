@@ -1,5 +1,5 @@
--- Values of quota files, with their records in a list, and whole files that are made of them. Source: this project's own; it is
--- how quotacheck(8) makes a file.
+-- Values of quota files, with their records in a list, and whole files that are made of them. Source: this project's
+-- own; it is how quotacheck(8) makes a file.
 use Rattle.std.specs.Prelude.{◌≡◌, ℕ, List, All, None, false}
 use Rattle.std.specs.List.Sorted.{IsStrictlyIncreasing}
 use Rattle.quota_types.specs.Kept.{IsKept}
@@ -39,7 +39,8 @@ replace_cause Store = StoreFault
 replace_cause (NoBlocks blocks limit) = Full blocks limit
 replace_cause NoMemory = Memory
 
--- the named file was built anew for some value of this kind and of such a format, even where it stood for that value before
+-- the named file was built anew for some value of this kind and of such a format, even where it stood for that value
+-- before
 pub record IsMadeAnew (kind : Kind) (IsFormat : Format → Type 0) (name : List ℕ) (old new : World) : Type 0 where
   pub value : QuotaValue
   pub kind_is : value.kind ≡ kind

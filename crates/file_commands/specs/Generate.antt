@@ -1,5 +1,6 @@
 -- `generate`: a quota file out of a listing that is made, and a line on both. Source: this project's own.
-use Rattle.std.specs.Prelude.{ℕ, true, false, List, [], ◌++◌, codes, decimal, length, sum_by, Some, None, Result, Ok, Err, ◌<◌, ◌^◌}
+use Rattle.std.specs.Prelude.{ℕ, true, false, List, [], ◌++◌, codes, decimal, length, sum_by, Some, None, Result, Ok}
+use Rattle.std.specs.Prelude.{Err, ◌<◌, ◌^◌}
 use Rattle.std.specs.FinMap.{entries}
 use Rattle.quota_types.specs.Rec.{kib_of}
 use Rattle.quota_types.specs.declared.field.NoRoom.{NoRoom as NoRoomFor}
@@ -34,13 +35,15 @@ sum_over count records = sum_by (λ entry. count entry.1) (entries records)
 -- `lines L, inodes I, identifiers K, KiB S, report B bytes`
 unfoldable pub summary_text : (lines inodes identifiers kib bytes : ℕ) → List ℕ
 summary_text lines inodes identifiers kib bytes =
-    codes "lines " ++ decimal lines ++ codes ", inodes " ++ decimal inodes ++ codes ", identifiers " ++ decimal identifiers
+    codes "lines " ++ decimal lines ++ codes ", inodes " ++ decimal inodes ++ codes ", identifiers "
+    ++ decimal identifiers
     ++ codes ", KiB " ++ decimal kib ++ codes ", report " ++ decimal bytes ++ codes " bytes\n"
 
 -- the line on records that were made of this many lines, and on which a report has this many bytes
 abbrev pub summary_line : (lines : ℕ) → Records → (bytes : ℕ) → List ℕ
 summary_line lines records bytes =
-    summary_text lines (sum_over (λ rec. rec.inodes) records) (length (entries records)) (sum_over (λ rec. kib_of rec.space) records) bytes
+    summary_text lines (sum_over (λ rec. rec.inodes) records) (length (entries records))
+    (sum_over (λ rec. kib_of rec.space) records) bytes
 
 -- a report without options
 abbrev pub no_options : Options
@@ -59,7 +62,8 @@ summary lines file now value = summary_line lines value.records (length (plain_r
 -- a file of this value is made, and the line on it is written
 abbrev pub MadeSteps : (lines : ℕ) → List ℕ → (now : ℕ) → Result QuotaValue NoRoomFor → Steps
 MadeSteps lines file now (Ok new) =
-    Then (replaced file (Ok new)) (λ (acts : List Act). DoingAll acts (Doing (ToOut (summary lines file now new)) Finish))
+    Then (replaced file (Ok new))
+    (λ (acts : List Act). DoingAll acts (Doing (ToOut (summary lines file now new)) Finish))
 MadeSteps lines file now (Err out) = Stop (refusal_of (NoRoom out) file)
 
 -- a listing of a seed is made, and of its usage a new file for users, in vfsv1
@@ -70,12 +74,21 @@ GenerateSteps seed count file now =
 
 -- the store is changed and the output written; the file stays where the line on it is not written
 abbrev pub generate_uses : Uses
-generate_uses = record { input = false; out = true; link = false; changes = true; all_or_nothing = false; warns = false; reads_commands = false; reads_edits = false }
+generate_uses = record {
+  input = false;
+  out = true;
+  link = false;
+  changes = true;
+  all_or_nothing = false;
+  warns = false;
+  reads_commands = false;
+  reads_edits = false;
+}
 
 -- What is said.
 
--- The causes for which it may be refused, whatever is told: a listing that is made always gives a usage, and a file of it has
--- room for that. So what is left are those of a report on the file.
+-- The causes for which it may be refused, whatever is told: a listing that is made always gives a usage, and a file of
+-- it has room for that. So what is left are those of a report on the file.
 abbrev pub GenerateMayRefuse : List ℕ → Cause → List ℕ → Type 0
 GenerateMayRefuse file = ShowingMayRefuse AnyTree file
 
@@ -83,8 +96,10 @@ GenerateMayRefuse file = ShowingMayRefuse AnyTree file
 
 -- A file out of a listing that is made, and a line on it. A count is one of 32 bits: no words ask for another one.
 abbrev pub generating : (seed count : ℕ) → List ℕ → Description
-generating seed count file = record (row (λ (invocation : Invocation). GenerateSteps seed count file invocation.now) generate_uses (GenerateMayRefuse file)) {
-  anew = Some file;
-  known = count < 2 ^ 32;
-  suffices = λ (invocation : Invocation) (old : Outside). count < 2 ^ 32;
-}
+generating seed count file =
+    record (row (λ (invocation : Invocation). GenerateSteps seed count file invocation.now) generate_uses
+    (GenerateMayRefuse file)) {
+      anew = Some file;
+      known = count < 2 ^ 32;
+      suffices = λ (invocation : Invocation) (old : Outside). count < 2 ^ 32;
+    }

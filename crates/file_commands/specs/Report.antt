@@ -38,7 +38,8 @@ report_cause (File fault) = file_cause fault
 
 -- the causes for which a report may be refused, whatever is told
 abbrev pub ReportMayRefuse : Common → List ℕ → Cause → List ℕ → Type 0
-ReportMayRefuse common file cause name = NamesMayRefuse common.names cause name ⊎ ShowingMayRefuse (asked_of common.format) file cause name
+ReportMayRefuse common file cause name =
+    NamesMayRefuse common.names cause name ⊎ ShowingMayRefuse (asked_of common.format) file cause name
 
 -- The description.
 
@@ -50,7 +51,8 @@ CanReport common file old =
 
 -- the report of a file
 abbrev pub reporting : Common → Options → List ℕ → Description
-reporting common options file = record (row (ReportSteps common options file) showing_uses (ReportMayRefuse common file)) {
-  looks = looks_at (file_given common file) common.names None;
-  suffices = λ (invocation : Invocation). CanReport common file;
-}
+reporting common options file =
+    record (row (ReportSteps common options file) showing_uses (ReportMayRefuse common file)) {
+      looks = looks_at (file_given common file) common.names None;
+      suffices = λ (invocation : Invocation). CanReport common file;
+    }

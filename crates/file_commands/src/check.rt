@@ -1,4 +1,5 @@
-ghost use Rattle.std.specs.Prelude.{ℕ, List, Option, ◌≡◌, ◌⊎◌, Bool, IsSome, IsTrue, OnErr, OnOk, true, false, is_ok, None, ⊤};
+ghost use Rattle.std.specs.Prelude.{ℕ, List, Option, ◌≡◌, ◌⊎◌, Bool, IsSome, IsTrue, OnErr, OnOk, false, is_ok, None};
+ghost use Rattle.std.specs.Prelude.{⊤};
 ghost use Rattle.outside.specs.ManyCalls.{Syncs};
 ghost use Rattle.outside.specs.Replacement.{ReplacesOnly};
 ghost use Rattle.outside.specs.Seen.{Datagram, LinkSeen, SinkSeen, SourceSeen};
@@ -7,7 +8,8 @@ ghost use Rattle.quota_map.specs.View.{IsOpenedAs};
 ghost use Rattle.run_steps.specs.Done.{seen_of, tells_of};
 ghost use Rattle.run_steps.specs.Carrying.{CarriesOut};
 ghost use Rattle.run_steps.specs.Steps.{Opening};
-ghost use Rattle.file_commands.specs.Check.{CheckMayRefuse, CheckSteps, OpenedMayRefuse, ReplaceSteps, UnfitMayRefuse, UsageMayRefuse, UsageSteps, check_uses, checked};
+ghost use Rattle.file_commands.specs.Check.{CheckMayRefuse, CheckSteps, OpenedMayRefuse, ReplaceSteps, UnfitMayRefuse};
+ghost use Rattle.file_commands.specs.Check.{UsageMayRefuse, UsageSteps, check_uses, checked};
 ghost use Rattle.file_commands.specs.Causes.{IsFormatOf, apply_cause};
 ghost use Rattle.run_steps.specs.Changing.{edit_uses};
 ghost use Rattle.run_steps.specs.Committed.{CommitsSteps};
@@ -25,7 +27,8 @@ use refusals::{Cause, Refusal, Word};
 use run_steps::{file_cause, opening_cause};
 use std::alloc::Global;
 
-/// Sets the usage in a quota file, or in a new one, to what a listing of inodes tells. The moment is in seconds since 1970.
+/// Sets the usage in a quota file, or in a new one, to what a listing of inodes tells. The moment is in seconds
+/// since 1970.
 ///
 /// # Errors
 ///
@@ -162,7 +165,8 @@ fn replace_usage<S: Store>(
     now: u64,
 ) -> Result<(), Refusal>
     requires { IsInOrder value }
-    ensures carries { (input : SourceSeen) (out err : SinkSeen) (link : LinkSeen) (input_tells out_tells err_tells link_tells : Bool)
+    ensures carries { (input : SourceSeen) (out err : SinkSeen) (link : LinkSeen)
+        (input_tells out_tells err_tells link_tells : Bool)
         → CarriesOut (ReplaceSteps file (checked (value_in value) usage now)) (edit_uses false)
         (λ cause name. UnfitMayRefuse (value_in value) file cause name ⊎ WritingMayRefuse value.format file cause name)
         (tells_of S.tells input_tells out_tells err_tells link_tells)
@@ -174,7 +178,8 @@ fn replace_usage<S: Store>(
     ensures others { ReplacesOnly file (S.seen store.old).files (S.seen store.new).files }
     ensures synced { IsTrue S.tells → Syncs (is_ok result) (S.seen store.old) (S.seen store.new) }
     ensures commits { (input : List ℕ) (datagrams : List Datagram) → IsTrue S.tells
-        → CommitsSteps ⊤ (is_ok result) (ReplaceSteps file (checked (value_in value) usage now)) (ReplacesOnly file (S.seen store.old).files)
+        → CommitsSteps ⊤ (is_ok result) (ReplaceSteps file (checked (value_in value) usage now))
+        (ReplacesOnly file (S.seen store.old).files)
         (record { files = (S.seen store.old).files; input = input; datagrams = datagrams }) (S.seen store.new).files
         (λ worlds. S.commits worlds store.old store.new) }
 {

@@ -1,4 +1,4 @@
-ghost use Rattle.std.specs.Prelude.{◌≡◌, ◌≢◌, ℕ, Bool, IsTrue, List, OnErr, OnOk, true, false, is_ok, ⊤};
+ghost use Rattle.std.specs.Prelude.{◌≡◌, ◌≢◌, ℕ, Bool, IsTrue, List, OnErr, OnOk, false, is_ok, ⊤};
 ghost use Rattle.outside.specs.ManyCalls.{Syncs};
 ghost use Rattle.outside.specs.Replacement.{ReplacesOnly, replacement_name};
 ghost use Rattle.outside.specs.Seen.{Datagram, LinkSeen, SinkSeen, SourceSeen};
@@ -24,8 +24,8 @@ use std::alloc::Global;
 ///
 /// # Errors
 ///
-/// The names are the same, there is a file of the second one, the first file is not opened or not read, the new format has no
-/// room for a value, or the new file is not made.
+/// The names are the same, there is a file of the second one, the first file is not opened or not read, the new format
+/// has no room for a value, or the new file is not made.
 pub fn convert_file<S: Store>(
     alloc: Global,
     kind: Kind,
@@ -36,8 +36,10 @@ pub fn convert_file<S: Store>(
     store: &mut S,
 ) -> Result<(), Refusal>
     requires { source ≢ replacement_name target }
-    ensures carries { (input : SourceSeen) (out err : SinkSeen) (link : LinkSeen) (input_tells out_tells err_tells link_tells : Bool) (invocation : Invocation)
-        → CarriesOut (ConvertSteps kind old new source target invocation) (edit_uses false) (ConvertMayRefuse kind old new source target)
+    ensures carries { (input : SourceSeen) (out err : SinkSeen) (link : LinkSeen)
+        (input_tells out_tells err_tells link_tells : Bool) (invocation : Invocation)
+        → CarriesOut (ConvertSteps kind old new source target invocation) (edit_uses false)
+        (ConvertMayRefuse kind old new source target)
         (tells_of S.tells input_tells out_tells err_tells link_tells)
         (seen_of (S.seen store.old) input out err link)
         (seen_of (S.seen store.new) input out err link) result }

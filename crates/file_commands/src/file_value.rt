@@ -1,4 +1,5 @@
-ghost use Rattle.std.specs.Prelude.{◌≡◌, ℕ, List, [], Bool, IfErr, IfOk, IfSome, IsTrue, Ok, OnErr, OnOk, true, false, is_ok, ⊤};
+ghost use Rattle.std.specs.Prelude.{◌≡◌, ℕ, List, [], Bool, IfErr, IfOk, IfSome, IsTrue, Ok, OnErr, OnOk, false, is_ok};
+ghost use Rattle.std.specs.Prelude.{⊤};
 ghost use Rattle.outside.specs.Frame.{OnlyReads};
 ghost use Rattle.outside.specs.ManyCalls.{Syncs};
 ghost use Rattle.quota_value.specs.QuotaValue.{QuotaValue};
@@ -82,7 +83,8 @@ pub fn read_value<S: Store>(
         (S.seen store.new).faults (⟦<AnyFile as QuotaFile<S>>⟧.holds opened store.old))) }
     ensures may { IfErr result (λ fault. IfSome (file_refusal fault)
         (⟦<AnyFile as QuotaFile<S>>⟧.may_refuse (⟦<AnyFile as QuotaFile<S>>⟧.seen opened).format)) }
-    ensures leaves { OnlyReads (is_ok result) (⟦<AnyFile as QuotaFile<S>>⟧.seen opened).name (S.seen store.old) (S.seen store.new) }
+    ensures leaves { OnlyReads (is_ok result) (⟦<AnyFile as QuotaFile<S>>⟧.seen opened).name (S.seen store.old)
+        (S.seen store.new) }
     ensures commits { S.commits [] store.old store.new }
 {
     let format = QuotaFile::<S>::format(&opened);
@@ -110,8 +112,10 @@ pub fn write_value<S: Store>(
     store: &mut S,
 ) -> Result<(), Refusal>
     requires { IsWritable value.now }
-    ensures carries { (input : SourceSeen) (out err : SinkSeen) (link : LinkSeen) (input_tells out_tells err_tells link_tells : Bool)
-        → CarriesOut (ReplaceSteps file (Ok (value_in value.now))) (edit_uses false) (WritingMayRefuse value.now.format file)
+    ensures carries { (input : SourceSeen) (out err : SinkSeen) (link : LinkSeen)
+        (input_tells out_tells err_tells link_tells : Bool)
+        → CarriesOut (ReplaceSteps file (Ok (value_in value.now))) (edit_uses false)
+        (WritingMayRefuse value.now.format file)
         (tells_of S.tells input_tells out_tells err_tells link_tells)
         (seen_of (S.seen store.old) input out err link)
         (seen_of (S.seen store.new) input out err link) result }
@@ -124,7 +128,8 @@ pub fn write_value<S: Store>(
     ensures synced { IsTrue S.tells → Syncs (is_ok result) (S.seen store.old) (S.seen store.new) }
     // What is committed are the files at one moment, to which its steps come: with the new one, where it was made.
     ensures commits { (input : List ℕ) (datagrams : List Datagram) → IsTrue S.tells
-        → CommitsSteps ⊤ (is_ok result) (ReplaceSteps file (Ok (value_in value.now))) (ReplacesOnly file (S.seen store.old).files)
+        → CommitsSteps ⊤ (is_ok result) (ReplaceSteps file (Ok (value_in value.now)))
+        (ReplacesOnly file (S.seen store.old).files)
         (record { files = (S.seen store.old).files; input = input; datagrams = datagrams }) (S.seen store.new).files
         (λ worlds. S.commits worlds store.old store.new) }
 {

@@ -1,4 +1,5 @@
-ghost use Rattle.std.specs.Prelude.{◌≡◌, ◌+◌, ◌≤◌, ◌++◌, [], ℕ, List, None, Ok, Bool, true, IfErr, IfOk, IsTrue, decimal, length, sum_by, is_ok, ⊤};
+ghost use Rattle.std.specs.Prelude.{◌≡◌, ◌+◌, ◌≤◌, ◌++◌, [], ℕ, List, None, Ok, Bool, IfErr, IfOk, IsTrue, decimal};
+ghost use Rattle.std.specs.Prelude.{length, sum_by, is_ok, ⊤};
 ghost use Rattle.std.specs.List.Sorted.{IsStrictlyIncreasing};
 ghost use Rattle.quota_types.specs.Rec.{kib_of};
 ghost use Rattle.quota_types.specs.declared.file_kind.Format.TheVariants.{V2R1};
@@ -20,7 +21,8 @@ ghost use Rattle.run_steps.specs.Carrying.{CarriesOut};
 ghost use Rattle.run_steps.specs.Showing.{ShowingMayRefuse, showing_uses};
 ghost use Rattle.run_steps.specs.Steps.{Doing, Finish};
 ghost use Rattle.file_commands.specs.FileValue.{IsWritable, value_in};
-ghost use Rattle.file_commands.specs.Generate.{GenerateMayRefuse, GenerateSteps, generate_uses, no_options, plain_report, summary, summary_line, summary_text};
+ghost use Rattle.file_commands.specs.Generate.{GenerateMayRefuse, GenerateSteps, generate_uses, no_options};
+ghost use Rattle.file_commands.specs.Generate.{plain_report, summary, summary_line, summary_text};
 ghost use Rattle.file_commands.specs.Causes.{IsUnreported, WrittenSteps, gathered_cause};
 
 use crate::check::apply_cause;
@@ -42,14 +44,15 @@ use std::alloc::Global;
 /// How many bytes the line has at most.
 const LINE: usize = 256;
 
-/// Makes a quota file for users, in vfsv1, with the usage of a listing that is made of a seed and has this many lines. Then
-/// it writes a line on both to the output: how many lines there were, the sums of the inodes and of the KiB of all records,
-/// how many records there are, and how many bytes a report on the file has. The moment is in seconds since 1970.
+/// Makes a quota file for users, in vfsv1, with the usage of a listing that is made of a seed and has this many lines.
+/// Then it writes a line on both to the output: how many lines there were, the sums of the inodes and of the KiB of all
+/// records, how many records there are, and how many bytes a report on the file has. The moment is in seconds
+/// since 1970.
 ///
 /// # Errors
 ///
-/// The store failed, or there is not enough memory. Where the report on the file that was made, or the line, is not written,
-/// the file stays: the file is not read again, or the output failed.
+/// The store failed, or there is not enough memory. Where the report on the file that was made, or the line, is not
+/// written, the file stays: the file is not read again, or the output failed.
 pub fn generate_file<S: Store, O: Sink>(
     alloc: Global,
     seed: u64,
@@ -68,7 +71,8 @@ pub fn generate_file<S: Store, O: Sink>(
     ensures others { ReplacesOnly file (S.seen store.old).files (S.seen store.new).files }
     // What was written has been synced where it was done, and where it was not too, unless a call on the store failed.
     ensures synced { IsTrue S.tells → Syncs (is_ok result) (S.seen store.old) (S.seen store.new) }
-    // What is committed are the files at one moment, to which its steps come: behind the replacement, where it was made.
+    // What is committed are the files at one moment, to which its steps come: behind the replacement, where it was
+    // made.
     ensures commits { (input : List ℕ) (datagrams : List Datagram) → IsTrue S.tells
         → CommitsSteps ⊤ (is_ok result) (GenerateSteps seed count file now) (ReplacesOnly file (S.seen store.old).files)
         (record { files = (S.seen store.old).files; input = input; datagrams = datagrams }) (S.seen store.new).files
@@ -132,7 +136,8 @@ fn write_made<S: Store, O: Sink>(
     ensures others { ReplacesOnly file (S.seen store.old).files (S.seen store.new).files }
     ensures synced { IsTrue S.tells → Syncs (is_ok result) (S.seen store.old) (S.seen store.new) }
     ensures commits { (input : List ℕ) (datagrams : List Datagram) → IsTrue S.tells
-        → CommitsSteps ⊤ (is_ok result) (WrittenSteps count file now (value_in value.now)) (ReplacesOnly file (S.seen store.old).files)
+        → CommitsSteps ⊤ (is_ok result) (WrittenSteps count file now (value_in value.now))
+        (ReplacesOnly file (S.seen store.old).files)
         (record { files = (S.seen store.old).files; input = input; datagrams = datagrams }) (S.seen store.new).files
         (λ worlds. S.commits worlds store.old store.new) }
 {
@@ -197,7 +202,8 @@ fn report_length<S: Store>(
     now: u64,
 ) -> Result<usize, Refusal>
     ensures bytes { IfOk result (λ bytes. IsTrue S.tells → (value : QuotaValue)
-        → IsView ((S.seen store.old).files file) User AnyTree (Ok value) → bytes ≡ length (plain_report file now value)) }
+        → IsView ((S.seen store.old).files file) User AnyTree (Ok value)
+        → bytes ≡ length (plain_report file now value)) }
     ensures refused { IfErr result (λ refusal. IsUnreported (Rose (S.seen store.old).faults (S.seen store.new).faults)
         (IsTrue S.tells → (value : QuotaValue) → ¬ IsView ((S.seen store.old).files file) User AnyTree (Ok value))
         refusal.cause) }

@@ -1,4 +1,5 @@
-ghost use Rattle.std.specs.Prelude.{◌≡◌, ◌≤◌, [], false, IfErr, IfOk, IsSome, IsTrue, None, OnOk, Some, unwrap_or, is_ok};
+ghost use Rattle.std.specs.Prelude.{◌≡◌, ◌≤◌, [], false, IfErr, IfOk, IsSome, IsTrue, None, OnOk, Some, unwrap_or};
+ghost use Rattle.std.specs.Prelude.{is_ok};
 ghost use Rattle.outside.specs.Behind.{IsBehind};
 ghost use Rattle.outside.specs.Count.{Rose};
 ghost use Rattle.outside.specs.Frame.{OnlyReads};
@@ -17,13 +18,13 @@ use quota_types::Kind;
 use refusals::{Cause, Refusal, Word};
 use std::alloc::Global;
 
-/// The usage of users, groups or projects that a listing tells, of one device or of all. It stands in the file of this name,
-/// or in the input where no file is named.
+/// The usage of users, groups or projects that a listing tells, of one device or of all. It stands in the file of this
+/// name, or in the input where no file is named.
 ///
 /// # Errors
 ///
-/// The file is not there; a line is bad, too long, or conflicts with an earlier one; the listing is too large; the store or
-/// the input failed; or there is not enough memory.
+/// The file is not there; a line is bad, too long, or conflicts with an earlier one; the listing is too large; the
+/// store or the input failed; or there is not enough memory.
 pub fn take_usage<S: Store, I: Source>(
     alloc: Global,
     kind: Kind,
@@ -33,13 +34,15 @@ pub fn take_usage<S: Store, I: Source>(
     input: &mut I,
 ) -> Result<Usage, Refusal>
     ensures read { IfOk result (λ usage. IsTrue S.tells → (from ≡ None → IsTrue I.tells)
-        → input_said from (scan_step kind device from) (S.seen store.old).files (I.seen input.old).left ≡ Passed usage) }
+        → input_said from (scan_step kind device from) (S.seen store.old).files (I.seen input.old).left
+        ≡ Passed usage) }
     ensures ended { OnOk result (from ≡ None → IsTrue I.tells → (I.seen input.new).left ≡ []) }
     ensures behind { (from ≡ None → IsTrue I.tells) → IsBehind (I.seen input.old).left (I.seen input.new).left }
     ensures untouched { IsSome from → input.new ≡ input.old }
     ensures refused { IfErr result (λ refusal. IsInputFault (Rose (S.seen store.old).faults (S.seen store.new).faults)
         (Rose (I.seen input.old).faults (I.seen input.new).faults) (IsTrue S.tells × (from ≡ None → IsTrue I.tells))
-        (input_said from (scan_step kind device from) (S.seen store.old).files (I.seen input.old).left) refusal refusal.cause) }
+        (input_said from (scan_step kind device from) (S.seen store.old).files (I.seen input.old).left) refusal
+        refusal.cause) }
     ensures may { IfErr result (λ refusal. InputMayRefuse AListing from refusal.cause refusal.name) }
     ensures placed { IfErr result (λ refusal. refusal.place ≡ nowhere) }
     ensures leaves { OnlyReads (is_ok result) (unwrap_or from []) (S.seen store.old) (S.seen store.new) }
@@ -60,7 +63,8 @@ fn scan_input<I: Source>(
     device: Option<u64>,
     input: &mut I,
 ) -> Result<Usage, Refusal>
-    ensures read { IfOk result (λ usage. IsTrue I.tells → scan_step kind device None (I.seen input.old).left ≡ Passed usage) }
+    ensures read { IfOk result
+        (λ usage. IsTrue I.tells → scan_step kind device None (I.seen input.old).left ≡ Passed usage) }
     ensures ended { OnOk result (IsTrue I.tells → (I.seen input.new).left ≡ []) }
     ensures behind { IsTrue I.tells → IsBehind (I.seen input.old).left (I.seen input.new).left }
     ensures refused { IfErr result (λ refusal. IsInputFault ⊥

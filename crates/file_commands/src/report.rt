@@ -32,8 +32,10 @@ pub fn report_file<S: Store, O: Sink>(
     out: &mut O,
     now: u64,
 ) -> Result<(), Refusal>
-    ensures carries { (input : SourceSeen) (err : SinkSeen) (link : LinkSeen) (input_tells err_tells link_tells : Bool) (line : Option ℕ)
-        → CarriesOut (ReportSteps common options.now file (record { now = now; line = line })) showing_uses (ReportMayRefuse common file)
+    ensures carries { (input : SourceSeen) (err : SinkSeen) (link : LinkSeen) (input_tells err_tells link_tells : Bool)
+        (line : Option ℕ)
+        → CarriesOut (ReportSteps common options.now file (record { now = now; line = line })) showing_uses
+        (ReportMayRefuse common file)
         (tells_of S.tells input_tells O.tells err_tells link_tells)
         (seen_of (S.seen store.old) input (O.seen out.old) err link)
         (seen_of (S.seen store.new) input (O.seen out.new) err link) result }
@@ -65,7 +67,8 @@ pub(crate) fn report_opened<S: Store, O: Sink>(
     now: u64,
 ) -> Result<(), Refusal>
     ensures carries { (input : SourceSeen) (err : SinkSeen) (link : LinkSeen) (input_tells err_tells link_tells : Bool)
-        → CarriesOut (ShowingSteps kind (asked_of format) file (report_on names.now file now options.now)) showing_uses (ShowingMayRefuse (asked_of format) file)
+        → CarriesOut (ShowingSteps kind (asked_of format) file (report_on names.now file now options.now)) showing_uses
+        (ShowingMayRefuse (asked_of format) file)
         (tells_of S.tells input_tells O.tells err_tells link_tells)
         (seen_of (S.seen store.old) input (O.seen out.old) err link)
         (seen_of (S.seen store.new) input (O.seen out.new) err link) result }

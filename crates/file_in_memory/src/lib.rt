@@ -4,8 +4,8 @@
 //! and then the bytes that this has take the place of the file.
 //!
 //! The one promise: it does what every store does and tells its file, and a call on that file other than `rename` is
-//! refused only where a write makes it longer. That such a write is not where there is enough memory no clause says: a row
-//! shows it.
+//! refused only where a write makes it longer. That such a write is not where there is enough memory no clause says: a
+//! row shows it.
 #![tactic(auto)]
 
 mod growing;

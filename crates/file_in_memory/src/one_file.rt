@@ -1,4 +1,5 @@
-ghost use Rattle.std.specs.Prelude.{◌≡◌, ◌≢◌, ◌+◌, ◌<◌, ◌≤◌, ◌^◌, ℕ, List, [], None, Some, length, take, true, false, IsOk, IsSome, IfOk, OnOk, OnErr, is_ok, if◌then◌else◌};
+ghost use Rattle.std.specs.Prelude.{◌≡◌, ◌≢◌, ◌+◌, ◌<◌, ◌≤◌, ◌^◌, ℕ, List, [], None, Some, length, take, true, false};
+ghost use Rattle.std.specs.Prelude.{IsOk, IsSome, IfOk, OnOk, OnErr, is_ok, if◌then◌else◌};
 ghost use Rattle.std.specs.Option.{option_copied, option_map};
 ghost use Rattle.std.specs.Str.{bytes_eq};
 ghost use Rattle.std.specs.String.{string_bytes};
@@ -12,12 +13,12 @@ ghost use Rattle.outside.specs.World.{bytes_from, with_bytes, with_file, with_ne
 use crate::growing::overwrite;
 use outside::{Store, StoreFault};
 
-/// A store in memory that has one file, under one name, and tells it. A call on that name other than `rename` is refused
-/// only where a write makes the file longer. It is where there is not enough memory for that, of which no clause says when
-/// it is so.
+/// A store in memory that has one file, under one name, and tells it. A call on that name other than `rename` is
+/// refused only where a write makes the file longer. It is where there is not enough memory for that, of which no
+/// clause says when it is so.
 ///
-/// It never has another file: what would make one, or would give this one another name, is refused as a fault. Who changes
-/// a file in place asks for neither.
+/// It never has another file: what would make one, or would give this one another name, is refused as a fault. Who
+/// changes a file in place asks for neither.
 #[derive(Debug, Drop)]
 pub struct OneFile {
     name: String,
@@ -41,7 +42,13 @@ impl OneFile {
     /// A store with one file, of this name and these bytes, which is synced.
     pub fn new(name: String, bytes: Vec<u8>) -> Self
         ensures seen { ⟦<OneFile as Store>⟧.seen result
-            ≡ record { files = only_file (string_bytes name) bytes.items; unsynced = λ _. false; faults = 0; reads = 0; writes = 0 } }
+            ≡ record {
+              files = only_file (string_bytes name) bytes.items;
+              unsynced = λ _. false;
+              faults = 0;
+              reads = 0;
+              writes = 0;
+            } }
         ensures file { (⟦<OneFile as Store>⟧.seen result).files (string_bytes name) ≡ Some bytes.items }
         ensures name { one_file_name result ≡ string_bytes name }
     {

@@ -1,5 +1,5 @@
-//! Files of the system by their names: which file a name stands for, the two that were used last, and what is remembered of
-//! names and of files.
+//! Files of the system by their names: which file a name stands for, the two that were used last, and what is
+//! remembered of names and of files.
 //!
 //! No clause says anything of them.
 #![tactic(auto)]

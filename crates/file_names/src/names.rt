@@ -31,8 +31,8 @@ pub fn itself_at<R: Files>(files: &R, path: &str) -> io::Result<Option<Metadata>
     present(fs::symlink_metadata(files, path))
 }
 
-/// What a name stands for, behind a link, too; none where there is no file. What is no regular file, such as a folder or a pipe, is an error:
-/// opening a pipe would wait for whoever writes to it.
+/// What a name stands for, behind a link, too; none where there is no file. What is no regular file, such as a folder
+/// or a pipe, is an error: opening a pipe would wait for whoever writes to it.
 pub fn stamp_at<R: Files>(files: &R, path: &str) -> io::Result<Option<Stamp>> {
     match metadata_at(files, path)? {
         Some(metadata) if metadata.is_file() => Ok(Some(Stamp::of(&metadata))),
@@ -61,8 +61,8 @@ pub fn is_itself<R: Files>(files: &R, path: &str, node: Node) -> io::Result<bool
     Ok(found.is_some_and(|metadata| Node::of(&metadata) == node))
 }
 
-/// Where a name leads: to the file behind it where it is a link, else nowhere but to itself. A link that leads to no file is
-/// taken for the name of none.
+/// Where a name leads: to the file behind it where it is a link, else nowhere but to itself. A link that leads to no
+/// file is taken for the name of none.
 pub fn behind_link<R: Files>(alloc: Global, files: &R, name: &str) -> io::Result<String> {
     match fs::symlink_metadata(files, name) {
         Ok(metadata) if metadata.file_type().is_symlink() && replaced_at(files, name)?.is_some() =>
@@ -80,16 +80,16 @@ pub fn open_file<R: Files<File = File>>(files: &R, path: &str, access: Access) -
         .open(files, path)
 }
 
-/// Makes a file where there is none. Only its owner may read and write it. What somebody else made meanwhile, a link to no
-/// file too, is an error.
+/// Makes a file where there is none. Only its owner may read and write it. What somebody else made meanwhile, a link to
+/// no file too, is an error.
 pub fn make_absent<R: Files<File = File>>(files: &R, path: &str) -> io::Result<File> {
     let mut options = OpenOptions::new();
     options.read(true).write(true).create_new(true).mode(0o600);
     options.open(files, path)
 }
 
-/// Makes an empty file in place of one that was left behind under its name, which is taken away: what it stood for stays
-/// where it has another name, for example behind a link. Only its owner may read and write the new file.
+/// Makes an empty file in place of one that was left behind under its name, which is taken away: what it stood for
+/// stays where it has another name, for example behind a link. Only its owner may read and write the new file.
 pub fn make_anew<R: Files<File = File>>(files: &R, path: &str) -> io::Result<File> {
     match fs::remove_file(files, path) {
         Err(error) if error.kind() != ErrorKind::NotFound => return Err(error),

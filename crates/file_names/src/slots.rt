@@ -40,8 +40,8 @@ fn close(slot: Option<Slot>) -> io::Result<()> {
     }
 }
 
-/// The two files that were used last, which stay open: a change in place goes to and fro between a file and its undo file.
-/// No file is open twice.
+/// The two files that were used last, which stay open: a change in place goes to and fro between a file and its undo
+/// file. No file is open twice.
 #[derive(Drop)]
 pub struct Slots {
     last: Option<Slot>,

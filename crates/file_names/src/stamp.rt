@@ -18,8 +18,8 @@ impl Node {
     }
 }
 
-/// Which file it is, and what changes with each change of it, as far as the clock of the file system tells one moment from
-/// the next.
+/// Which file it is, and what changes with each change of it, as far as the clock of the file system tells one moment
+/// from the next.
 #[derive(Clone, Copy, Debug, PartialEq, Eq)]
 pub struct Stamp {
     node: Node,

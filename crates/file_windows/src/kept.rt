@@ -10,8 +10,8 @@ const MOST: u64 = 8_388_608;
 
 /// The windows of a file that is read in no order, which stand side by side in it. Each is kept once it was read.
 ///
-/// A file is read in no order where half as many reads as it has windows were strays: nothing led to them, or they stepped
-/// back. One that is too long is not kept, and neither is one that was changed meanwhile.
+/// A file is read in no order where half as many reads as it has windows were strays: nothing led to them, or they
+/// stepped back. One that is too long is not kept, and neither is one that was changed meanwhile.
 #[derive(Drop)]
 pub(crate) struct KeptWindows {
     alloc: Global,
@@ -81,8 +81,8 @@ impl KeptWindows {
         }
     }
 
-    /// Reads from a place on until the buffer is full or the file ends. The window that has this place is read, where there is
-    /// memory for it, else these bytes alone.
+    /// Reads from a place on until the buffer is full or the file ends. The window that has this place is read, where
+    /// there is memory for it, else these bytes alone.
     pub fn read(&mut self, file: &File, at: u64, buf: &mut [u8]) -> io::Result<usize>
         ensures { IfOk result (λ count. count ≤ length buf.new) }
     {

@@ -47,8 +47,8 @@ fn wait(file: &File, waiting: Waiting) -> io::Result<()> {
     }
 }
 
-/// Whether the system refuses a sync since there is nothing that it could wait for: the file is on a file system that is
-/// never written, or one without a disk. Source: fsync(2), on EINVAL and EROFS.
+/// Whether the system refuses a sync since there is nothing that it could wait for: the file is on a file system that
+/// is never written, or one without a disk. Source: fsync(2), on EINVAL and EROFS.
 fn has_no_disk(error: io::Error) -> bool {
     matches!(
         error.kind(),
@@ -170,8 +170,8 @@ impl Opened {
         self.file.metadata()
     }
 
-    /// Writes what is to be written, waits until the file is on the disk, and answers what the system says of it then. A file
-    /// that was opened to be read, and that the system can't wait for, is there already.
+    /// Writes what is to be written, waits until the file is on the disk, and answers what the system says of it then.
+    /// A file that was opened to be read, and that the system can't wait for, is there already.
     ///
     /// # Errors
     ///

@@ -21,18 +21,18 @@ const WINDOWS: usize = 8;
 
 /// What was read of a file last, with what was read ahead of that.
 ///
-/// Reads of places of which each lies not far behind the one before it are a run: it fills one window after another, each with
-/// one call of the system. Eight windows are kept, since runs go on side by side, as that of the data blocks of a file and that
-/// of the tree blocks that lead to them. Where a run stepped back, over the beginning of a window, windows stand side by side
-/// from then on, so that what a run stepped over is there.
+/// Reads of places of which each lies not far behind the one before it are a run: it fills one window after another,
+/// each with one call of the system. Eight windows are kept, since runs go on side by side, as that of the data blocks
+/// of a file and that of the tree blocks that lead to them. Where a run stepped back, over the beginning of a window,
+/// windows stand side by side from then on, so that what a run stepped over is there.
 ///
-/// What no run leads to is read by itself, a block of the file, and eight of these are kept, so that places that are far from
-/// each other cost no more than they hold, and those that are wanted again and again are read once. A block right behind two
-/// of them begins a run, and one right before three begins a run that goes down. Where so much was read like this that the
-/// file is read in no order, it is kept as far as it is asked for.
+/// What no run leads to is read by itself, a block of the file, and eight of these are kept, so that places that are
+/// far from each other cost no more than they hold, and those that are wanted again and again are read once. A block
+/// right behind two of them begins a run, and one right before three begins a run that goes down. Where so much was
+/// read like this that the file is read in no order, it is kept as far as it is asked for.
 ///
-/// What another program writes to the file meanwhile may be missed, however much later it is read; but what ends before the
-/// bytes that are asked for is read again, so a file that grew is read to its new end.
+/// What another program writes to the file meanwhile may be missed, however much later it is read; but what ends before
+/// the bytes that are asked for is read again, so a file that grew is read to its new end.
 #[derive(Drop)]
 pub(crate) struct ReadAhead {
     runs: RecentWindows,
@@ -106,8 +106,8 @@ impl ReadAhead {
         None
     }
 
-    /// Whether the run that was followed last leads to a place, or another one, or the read before, where that was one of a
-    /// block by itself.
+    /// Whether the run that was followed last leads to a place, or another one, or the read before, where that was one
+    /// of a block by itself.
     fn is_led_to(&self, far_end: Option<u64>, at: u64) -> bool {
         let by_far = match far_end {
             Some(end) => is_from(end, at, FAR_GAP),
@@ -131,8 +131,8 @@ impl ReadAhead {
         self.far.begins_at(block) && self.far.begins_at(second) && self.far.begins_at(third)
     }
 
-    /// Where the window begins that is to be filled for a place to which a run leads up: there, or where another window ends,
-    /// which leads there, where runs step back.
+    /// Where the window begins that is to be filled for a place to which a run leads up: there, or where another window
+    /// ends, which leads there, where runs step back.
     fn window_up(&mut self, at: u64) -> u64 {
         if self.runs.begins_behind(at) {
             self.kept.note_stray();
@@ -147,8 +147,8 @@ impl ReadAhead {
         }
     }
 
-    /// Reads from a place on until the buffer is full or the file ends. The block that has all of these bytes is read, where
-    /// there is one and there is memory for it, else they alone.
+    /// Reads from a place on until the buffer is full or the file ends. The block that has all of these bytes is read,
+    /// where there is one and there is memory for it, else they alone.
     fn read_block(&mut self, file: &File, at: u64, buf: &mut [u8]) -> io::Result<usize>
         ensures { IfOk result (λ count. count ≤ length buf.new) }
     {

@@ -12,8 +12,8 @@ struct UsedWindow {
     used: u64,
 }
 
-/// A few windows of one length into a file. Where there are as many as may be, another one takes the place of the one that was
-/// used least recently.
+/// A few windows of one length into a file. Where there are as many as may be, another one takes the place of the one
+/// that was used least recently.
 #[derive(Drop)]
 pub(crate) struct RecentWindows {
     alloc: Global,
@@ -69,7 +69,8 @@ impl RecentWindows {
             .max()
     }
 
-    /// Gives the bytes from a place on, where one of the windows has all that are asked for, and answers whether one has.
+    /// Gives the bytes from a place on, where one of the windows has all that are asked for, and answers whether one
+    /// has.
     #[inline(always)]
     pub fn give(&mut self, at: u64, buf: &mut [u8]) -> bool
         ensures len { length buf.new ≡ length buf.old }
@@ -84,8 +85,8 @@ impl RecentWindows {
         false
     }
 
-    /// Reads from a place on until the buffer is full or the file ends. A window is filled for it, from another place on, which
-    /// is not behind it, where there is memory for one.
+    /// Reads from a place on until the buffer is full or the file ends. A window is filled for it, from another place
+    /// on, which is not behind it, where there is memory for one.
     pub fn read(&mut self, file: &File, from: u64, at: u64, buf: &mut [u8]) -> io::Result<usize>
         ensures { IfOk result (λ count. count ≤ length buf.new) }
     {
@@ -99,8 +100,8 @@ impl RecentWindows {
         }
     }
 
-    /// The place of the window that is filled from here on: the one that begins here, which ended too early, or a new one, or
-    /// the one that was used least recently. Where there is memory for none it is no window's place.
+    /// The place of the window that is filled from here on: the one that begins here, which ended too early, or a new
+    /// one, or the one that was used least recently. Where there is memory for none it is no window's place.
     fn place_for(&mut self, from: u64) -> usize {
         self.uses = self.uses.saturating_add(1);
         let same = self

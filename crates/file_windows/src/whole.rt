@@ -5,8 +5,8 @@ use std::alloc::Global;
 use std::fs::File;
 use std::io;
 
-/// The most bytes of a file that are kept: those of the 4,194,304 blocks that a quota file can have. None behind them is
-/// ever read.
+/// The most bytes of a file that are kept: those of the 4,194,304 blocks that a quota file can have. None behind them
+/// is ever read.
 const MOST: u64 = 4_294_967_296;
 
 /// A file as it was when it was read.

@@ -74,7 +74,8 @@ impl FileWindow {
         self.held > 0 && at < self.at && self.at - at <= WINDOW as u64
     }
 
-    /// Whether there are some, and a run of reads that came to them leads to a place: one among them, or not far behind them.
+    /// Whether there are some, and a run of reads that came to them leads to a place: one among them, or not far behind
+    /// them.
     pub fn leads_to(&self, at: u64) -> bool {
         self.held > 0 && is_from(self.at, at, (self.held as u64).saturating_add(GAP))
     }
@@ -99,7 +100,8 @@ impl FileWindow {
         self.bytes.len() == most || self.bytes.resize(most, 0).is_ok()
     }
 
-    /// Gives the bytes from a place of the file on, where all that are asked for are here, and answers whether they are.
+    /// Gives the bytes from a place of the file on, where all that are asked for are here, and answers whether they
+    /// are.
     #[inline(always)]
     pub fn give(&self, at: u64, buf: &mut [u8]) -> bool
         ensures len { length buf.new ≡ length buf.old }
@@ -113,8 +115,8 @@ impl FileWindow {
         }
     }
 
-    /// Reads from a place on until the buffer is full or the file ends. The window is filled for it, from another place on, which
-    /// is not behind it.
+    /// Reads from a place on until the buffer is full or the file ends. The window is filled for it, from another place
+    /// on, which is not behind it.
     pub fn read(&mut self, file: &File, from: u64, at: u64, buf: &mut [u8]) -> io::Result<usize>
         ensures { IfOk result (λ count. count ≤ length buf.new) }
     {

@@ -13,7 +13,9 @@ pub record IsChain (file : List ℕ) (blocks head : ℕ) (chain : List ℕ) (end
   pub distinct : (number : ℕ) → times chain number ≤ 1
   pub stops : (end ≡ 0) ⊎ (blocks ≤ end) ⊎ StandsIn chain end
 
--- The blocks that are met from a head on, at most this many of them: up to the first number that is 0 or no block's number.
+-- The blocks that are met from a head on, at most this many of them: up to the first number that is 0 or no block's
+-- number.
 unfoldable pub chain_from : List ℕ → (blocks head most : ℕ) → List ℕ
 chain_from file blocks head zero = []
-chain_from file blocks head (suc most) = if leads blocks head then head ∷ chain_from file blocks (next_of file head) most else []
+chain_from file blocks head (suc most) =
+    if leads blocks head then head ∷ chain_from file blocks (next_of file head) most else []

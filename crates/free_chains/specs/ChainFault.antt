@@ -12,8 +12,8 @@ pub record LeadsOut (blocks : ℕ) (damage : Damage) : Type 0 where
   pub no_id : damage.id ≡ 0
   pub out : blocks ≤ damage.block
 
--- A call on the lists was refused where the store's count of faults rose, or for a number past the last block, of which a
--- fact holds.
+-- A call on the lists was refused where the store's count of faults rose, or for a number past the last block, of which
+-- a fact holds.
 abbrev pub IsChainFault : (blocks before now : ℕ) → (ℕ → Type 0) → ChainFault → Type 0
 IsChainFault blocks before now which Store = Rose before now
 IsChainFault blocks before now which (Damaged damage) = LeadsOut blocks damage × which damage.block

@@ -1,6 +1,7 @@
--- What calls do with the list of data blocks that have room. Source: `insert_free_dqentry` and `remove_free_dqentry` of the
--- kernel's `fs/quota/quota_tree.c`.
-use Rattle.std.specs.Prelude.{◌≡◌, ◌≢◌, ℕ, ◌<◌, ◌≤◌, ◌==◌, Bool, true, IsTrue, List, [], ◌∷◌, ◌++◌, length, map, take, if◌then◌else◌}
+-- What calls do with the list of data blocks that have room. Source: `insert_free_dqentry` and `remove_free_dqentry` of
+-- the kernel's `fs/quota/quota_tree.c`.
+use Rattle.std.specs.Prelude.{◌≡◌, ◌≢◌, ℕ, ◌<◌, ◌≤◌, ◌==◌, Bool, true, IsTrue, List, [], ◌∷◌, ◌++◌, length, map, take}
+use Rattle.std.specs.Prelude.{if◌then◌else◌}
 use Rattle.quota_types.specs.Times.{times}
 use Rattle.file_blocks.specs.Block.{leads, next_of, previous_of}
 use Rattle.outside.specs.Seen.{StoreSeen}
@@ -18,8 +19,8 @@ blocks_beside file block = block ∷ led_to (previous_of file block) ++ led_to (
 abbrev pub NamesPrevious : (file chain : List ℕ) → Type 0
 NamesPrevious file chain = map (previous_of file) chain ≡ take (length chain) (0 ∷ chain)
 
--- A block was put before the list of data blocks that have room: it has the old head and 0 as its links, the old first block
--- names it, and whatever list began at the old head goes on behind it.
+-- A block was put before the list of data blocks that have room: it has the old head and 0 as its links, the old first
+-- block names it, and whatever list began at the old head goes on behind it.
 pub record EntersList (old new : List ℕ) (heads : Heads) (block : ℕ) : Type 0 where
   pub links : block ≢ heads.first → HasLinks block heads.first 0 old new
   pub behind : block ≢ heads.first → heads.first ≢ 0 → HasWord heads.first 4 block old new
@@ -28,8 +29,8 @@ pub record EntersList (old new : List ℕ) (heads : Heads) (block : ℕ) : Type 
   pub previous : (chain : List ℕ) (end : ℕ) → IsChain old heads.blocks heads.first chain end → times chain block ≡ 0
       → IsTrue (leads heads.blocks block) → NamesPrevious old chain → NamesPrevious new (block ∷ chain)
 
--- A block left the list of data blocks that have room, in which these blocks stood in front of it and behind it: those are
--- the list now, the two on both sides of it name each other, and its own links are 0.
+-- A block left the list of data blocks that have room, in which these blocks stood in front of it and behind it: those
+-- are the list now, the two on both sides of it name each other, and its own links are 0.
 pub record LeavesList (old new : List ℕ) (heads now : Heads) (block : ℕ) (front back : List ℕ) : Type 0 where
   pub chain : IsChain new heads.blocks now.first (front ++ back) 0
   pub previous : NamesPrevious new (front ++ back)
@@ -39,9 +40,11 @@ pub record LeavesList (old new : List ℕ) (heads now : Heads) (block : ℕ) (fr
   pub before : (done : List ℕ) (number : ℕ) → front ≡ done ++ number ∷ [] → HasWord number 0 (next_of old block) old new
   pub behind : (number : ℕ) (rest : List ℕ) → back ≡ number ∷ rest → HasWord number 4 (previous_of old block) old new
 
--- A block was taken out of the list: neither of its links leads past the last block, the blocks to which they lead are the only
--- others that were lent for writing, and its link to the block behind it became the head where it names none before it.
-pub record TakesOut (tells : Bool) (block : ℕ) (before now : StoreSeen) (heads new_heads : Heads) (old new : Pages) : Type 0 where
+-- A block was taken out of the list: neither of its links leads past the last block, the blocks to which they lead are
+-- the only others that were lent for writing, and its link to the block behind it became the head where it names none
+-- before it.
+pub record TakesOut (tells : Bool) (block : ℕ) (before now : StoreSeen) (heads new_heads : Heads)
+    (old new : Pages) : Type 0 where
   pub next : ℕ
   pub previous : ℕ
   pub next_is : IsKnown tells before old → next ≡ next_of (shown_over before old) block
@@ -51,8 +54,8 @@ pub record TakesOut (tells : Bool) (block : ℕ) (before now : StoreSeen) (heads
   pub heads_are : new_heads ≡ record heads { first = if previous == 0 then next else heads.first }
   pub lends : LendsSome tells true 3 (block ∷ led_to previous ++ led_to next) before now old new
 
--- The number that stops a block from leaving: its link to the block behind it, or, where that is inside, the one to the block
--- before it.
+-- The number that stops a block from leaving: its link to the block behind it, or, where that is inside, the one to the
+-- block before it.
 pub record StopsLeaving (file : List ℕ) (blocks block number : ℕ) : Type 0 where
   pub next : blocks ≤ next_of file block → number ≡ next_of file block
   pub previous : next_of file block < blocks → number ≡ previous_of file block

@@ -15,7 +15,8 @@ pub record TakesNew (old new : Heads) (block : ℕ) : Type 0 where
   pub blocks : new.blocks ≡ old.blocks + 1
   pub free : new.free ≡ 0
 
--- The first block of the list of free blocks was taken. Neither the head nor the link of that block led past the last block.
+-- The first block of the list of free blocks was taken. Neither the head nor the link of that block led past the last
+-- block.
 pub record TakesListed (old new : Heads) (block : ℕ) : Type 0 where
   pub block_is : block ≡ old.free
   pub inside : old.free < old.blocks
@@ -34,8 +35,8 @@ LosesFirst new now block chain =
     ((chain ≡ []) × IsChain new now.blocks now.free [] 0)
     ⊎ ((rest : List ℕ) × (chain ≡ block ∷ rest) × IsChain new now.blocks now.free rest 0)
 
--- A block was taken: its bytes are all 0, its link became the head if it was the head, and the list of free blocks, where that
--- ends, lost it.
+-- A block was taken: its bytes are all 0, its link became the head if it was the head, and the list of free blocks,
+-- where that ends, lost it.
 pub record TakesBlock (old new : List ℕ) (heads now : Heads) (block : ℕ) : Type 0 where
   pub blank : block_of new block ≡ replicate 1024 0
   pub link : heads.free ≢ 0 → now.free ≡ next_of old block
@@ -53,16 +54,18 @@ pub record GivesBlock (old new : List ℕ) (heads : Heads) (block : ℕ) : Type 
   pub chain : (chain : List ℕ) (end : ℕ) → IsChain old heads.blocks heads.free chain end → times chain block ≡ 0
       → IsTrue (leads heads.blocks block) → IsChain new heads.blocks block (block ∷ chain) end
 
--- The blocks of the list of free blocks were counted, as far as a number of them. Where that has fewer, its end is not past
--- the last block.
+-- The blocks of the list of free blocks were counted, as far as a number of them. Where that has fewer, its end is not
+-- past the last block.
 pub record CountsFree (file : List ℕ) (heads : Heads) (most count : ℕ) : Type 0 where
   pub is : (chain : List ℕ) (end : ℕ) → IsChain file heads.blocks heads.free chain end → count ≡ min most (length chain)
-  pub inside : (chain : List ℕ) (end : ℕ) → IsChain file heads.blocks heads.free chain end → length chain < most → end < heads.blocks
+  pub inside : (chain : List ℕ) (end : ℕ) → IsChain file heads.blocks heads.free chain end → length chain < most
+      → end < heads.blocks
 
 -- Each of the first blocks of the list of free blocks, up to this many, is buffered, or there is room for it.
 abbrev pub CountsWithin : (file : List ℕ) → Heads → (most : ℕ) → List Page → Type 0
 CountsWithin file heads most pages =
-    (chain : List ℕ) (end : ℕ) → IsChain file heads.blocks heads.free chain end → length pages + missing_among pages (take most chain) ≤ 12
+    (chain : List ℕ) (end : ℕ) → IsChain file heads.blocks heads.free chain end
+    → length pages + missing_among pages (take most chain) ≤ 12
 
 -- The list of free blocks ends at this number, and before that it has fewer blocks than were asked for.
 pub record EndsBefore (file : List ℕ) (heads : Heads) (most number : ℕ) : Type 0 where

@@ -1,5 +1,5 @@
--- The links of single blocks. Source: `dqdh_next_free` and `dqdh_prev_free` of `struct qt_disk_dqdbheader` in the kernel's
--- `fs/quota/quota_tree.h`: a link that is 0 leads to no block.
+-- The links of single blocks. Source: `dqdh_next_free` and `dqdh_prev_free` of `struct qt_disk_dqdbheader` in the
+-- kernel's `fs/quota/quota_tree.h`: a link that is 0 leads to no block.
 use Rattle.std.specs.Prelude.{◌≡◌, ℕ, ◌==◌, List, [], ◌∷◌, if◌then◌else◌}
 use Rattle.file_blocks.specs.Block.{block_of, next_of, previous_of}
 use Rattle.quota_types.specs.KeptBytes.{KeepsOutside}

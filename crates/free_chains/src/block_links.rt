@@ -1,6 +1,7 @@
 //! The links of single blocks. A link that is 0 leads to no block.
 
-ghost use Rattle.std.specs.Prelude.{◌≡◌, ◌≢◌, ◌+◌, ◌<◌, ◌≤◌, ◌∷◌, [], true, false, IsOk, is_ok, IfOk, IfErr, OnOk, OnErr};
+ghost use Rattle.std.specs.Prelude.{◌≡◌, ◌≢◌, ◌+◌, ◌<◌, ◌≤◌, ◌∷◌, [], true, false, IsOk, is_ok, IfOk, IfErr, OnOk};
+ghost use Rattle.std.specs.Prelude.{OnErr};
 ghost use Rattle.quota_types.specs.Bytes.{number_at};
 ghost use Rattle.file_blocks.specs.Block.{block_of};
 ghost use Rattle.outside.specs.Count.{Rose};
@@ -34,7 +35,8 @@ pub(crate) fn link_at<S: Store>(
     ensures refused { IfErr result (IsChainFault blocks (S.seen store.old).faults (S.seen store.new).faults
         (λ number. IsKnown S.tells (S.seen store.old) pages.old
         → number ≡ number_at 4 (block_of (shown_over (S.seen store.old) pages.old) block) at)) }
-    ensures held { IfOk result (λ link. HoldsAsBuffered pages.new (λ shown. link ≡ number_at 4 (block_of shown block) at)) }
+    ensures held { IfOk result
+        (λ link. HoldsAsBuffered pages.new (λ shown. link ≡ number_at 4 (block_of shown block) at)) }
     ensures named { IfErr result (IfOut (λ number. (is_buffered (pages_of pages.new) block ≡ true)
         × HoldsAsBuffered pages.new (λ shown. number ≡ number_at 4 (block_of shown block) at))) }
     ensures commits { S.commits [] store.old store.new }

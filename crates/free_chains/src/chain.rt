@@ -80,8 +80,8 @@ impl Walk {
 ///
 /// # Errors
 ///
-/// `Store` where the store failed, `Memory` where there was not enough memory, and `Damage` where the list leads past the
-/// last block, or to one of its blocks again.
+/// `Store` where the store failed, `Memory` where there was not enough memory, and `Damage` where the list leads past
+/// the last block, or to one of its blocks again.
 pub fn walk_chain<S: Store>(
     alloc: Global,
     store: &mut S,

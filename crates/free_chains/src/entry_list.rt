@@ -1,6 +1,7 @@
 //! The list of data blocks that have room, which is linked both ways.
 
-ghost use Rattle.std.specs.Prelude.{◌≡◌, ℕ, ◌+◌, ◌<◌, ◌≤◌, ◌∷◌, ◌++◌, [], List, length, true, false, IfErr, OnOk, OnErr};
+ghost use Rattle.std.specs.Prelude.{◌≡◌, ℕ, ◌+◌, ◌<◌, ◌≤◌, ◌∷◌, ◌++◌, [], List, length, true, false, IfErr, OnOk};
+ghost use Rattle.std.specs.Prelude.{OnErr};
 ghost use Rattle.outside.specs.Count.{Rose};
 ghost use Rattle.quota_pages.specs.Page.{is_buffered};
 ghost use Rattle.quota_pages.specs.Pages.{HoldsAsBuffered, pages_of};
@@ -8,7 +9,8 @@ ghost use Rattle.quota_pages.specs.Used.{HasRoomWithin, IsKnown, LendsSome, Look
 ghost use Rattle.free_chains.specs.Chain.{IsChain};
 ghost use Rattle.free_chains.specs.ChainFault.{IfOut, IsChainFault};
 ghost use Rattle.free_chains.specs.Links.{ChangesLinksAlone, led_to};
-ghost use Rattle.free_chains.specs.EntryList.{AreApart, EntersList, LeavesList, NamesPrevious, StopsLeaving, TakesOut, Unlinks, blocks_beside};
+ghost use Rattle.free_chains.specs.EntryList.{AreApart, EntersList, LeavesList, NamesPrevious, StopsLeaving, TakesOut};
+ghost use Rattle.free_chains.specs.EntryList.{Unlinks, blocks_beside};
 
 use crate::block_links::{bring, link_at, set_link, set_links};
 use crate::chain_fault::ChainFault;
@@ -41,7 +43,8 @@ pub fn enter_entry_list<S: Store>(
         → ChangesLinksAlone (shown_over (S.seen store.old) pages.old) (shown_over (S.seen store.new) pages.new)) }
     ensures lends { OnOk result (LendsSome S.tells true 2 (n ∷ led_to heads.old.first)
         (S.seen store.old) (S.seen store.new) pages.old pages.new) }
-    ensures kept { OnErr result (LooksAtSome S.tells false 2 (S.seen store.old) (S.seen store.new) pages.old pages.new) }
+    ensures kept { OnErr result
+        (LooksAtSome S.tells false 2 (S.seen store.old) (S.seen store.new) pages.old pages.new) }
     ensures stays { OnErr result (heads.new ≡ heads.old) }
     ensures refused { IfErr result (IsChainFault heads.old.blocks (S.seen store.old).faults (S.seen store.new).faults
         (λ number. number ≡ heads.old.first)) }
@@ -59,8 +62,8 @@ pub fn enter_entry_list<S: Store>(
 }
 
 /// Takes a block out of the list of data blocks that have room. The blocks before it and behind it are linked to each
-/// other, and its own links become 0. All other bytes stay. It reads three blocks at most: there is room for as many, or,
-/// where it is known which they are, each of them is buffered or there is room for it.
+/// other, and its own links become 0. All other bytes stay. It reads three blocks at most: there is room for as many,
+/// or, where it is known which they are, each of them is buffered or there is room for it.
 ///
 /// # Errors
 ///
@@ -83,7 +86,8 @@ pub fn leave_entry_list<S: Store>(
         heads.old heads.new n front back) }
     ensures links { OnOk result (IsKnown S.tells (S.seen store.old) pages.old
         → ChangesLinksAlone (shown_over (S.seen store.old) pages.old) (shown_over (S.seen store.new) pages.new)) }
-    ensures kept { OnErr result (LooksAtSome S.tells false 3 (S.seen store.old) (S.seen store.new) pages.old pages.new) }
+    ensures kept { OnErr result
+        (LooksAtSome S.tells false 3 (S.seen store.old) (S.seen store.new) pages.old pages.new) }
     ensures stays { OnErr result (heads.new ≡ heads.old) }
     ensures refused { IfErr result (IsChainFault heads.old.blocks (S.seen store.old).faults (S.seen store.new).faults
         (λ number. IsKnown S.tells (S.seen store.old) pages.old
@@ -118,7 +122,8 @@ fn unlink<S: Store>(
         → ChangesLinksAlone (shown_over (S.seen store.old) pages.old) (shown_over (S.seen store.new) pages.new)) }
     ensures lends { OnOk result (LendsSome S.tells true 2 (n ∷ led_to previous ++ led_to next)
         (S.seen store.old) (S.seen store.new) pages.old pages.new) }
-    ensures kept { OnErr result (LooksAtSome S.tells false 2 (S.seen store.old) (S.seen store.new) pages.old pages.new) }
+    ensures kept { OnErr result
+        (LooksAtSome S.tells false 2 (S.seen store.old) (S.seen store.new) pages.old pages.new) }
     ensures cause { OnErr result (Rose (S.seen store.old).faults (S.seen store.new).faults) }
     ensures commits { S.commits [] store.old store.new }
 {

@@ -14,8 +14,8 @@ use quota_pages::Pages;
 use quota_types::{DamageKind, damage_at};
 
 /// Counts the blocks of the list of free blocks, as far as `most`, which is 4 at most. A list that returns to one of
-/// its blocks ends there. It reads `most` blocks at most: there is room for as many, or, where the list is known, each of
-/// its first blocks, up to `most`, is buffered or there is room for it.
+/// its blocks ends there. It reads `most` blocks at most: there is room for as many, or, where the list is known, each
+/// of its first blocks, up to `most`, is buffered or there is room for it.
 ///
 /// # Errors
 ///

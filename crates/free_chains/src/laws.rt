@@ -37,8 +37,8 @@ pub fn a_list_that_ends_leads_to_blocks()
         → IsChain file blocks head chain 0 → IsChain file more head chain 0 }
 {}
 
-/// A list that ends at 0 is a function of the file: the blocks that are met from its head on, of which no more are looked
-/// for than the file has, or than the list has.
+/// A list that ends at 0 is a function of the file: the blocks that are met from its head on, of which no more are
+/// looked for than the file has, or than the list has.
 pub fn a_list_that_ends_is_met_from_its_head()
     ensures all { (file : List ℕ) (blocks head : ℕ) (chain : List ℕ) → IsChain file blocks head chain 0
         → chain_from file blocks head blocks ≡ chain }

@@ -7,11 +7,13 @@ use Rattle.std.proofs.lemmas.List.Splits.{slice_split_first}
 use Rattle.id_names.proofs.FirstLemmas.{first_place}
 
 -- the first part ends at the first separator
-pub cut_at : (p : ℕ → Bool) (xs : List ℕ) (at : ℕ) → position p xs ≡ Some at → slice_split p xs ≡ take at xs ∷ slice_split p (drop (at + 1) xs)
+pub cut_at : (p : ℕ → Bool) (xs : List ℕ) (at : ℕ) → position p xs ≡ Some at
+    → slice_split p xs ≡ take at xs ∷ slice_split p (drop (at + 1) xs)
 cut_at p xs at h =
     let in_list = (position-Some p xs at 0 h).0 in
     let place = first_place p xs at h in
-    let first : slice_split p xs ≡ before_first p xs ∷ slice_split p (after_first p xs) = slice_split_first p xs 0 (omega arith) in
+    let first : slice_split p xs ≡ before_first p xs ∷ slice_split p (after_first p xs) =
+    slice_split_first p xs 0 (omega arith) in
     rw place at first
 
 none_past : (x : ℕ) (p : ℕ → Bool) (xs : List ℕ) → p x ≡ false → position p (x ∷ xs) ≡ None → position p xs ≡ None

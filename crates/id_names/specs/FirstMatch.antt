@@ -1,5 +1,5 @@
--- Look-ups among lines of names. Source: getpwnam(3), getpwuid(3), getgrnam(3) and getgrgid(3), which give the first line
--- of the file that matches.
+-- Look-ups among lines of names. Source: getpwnam(3), getpwuid(3), getgrnam(3) and getgrgid(3), which give the first
+-- line of the file that matches.
 use Rattle.std.specs.Prelude.{ℕ, ◌==◌, List, find, Option}
 use Rattle.std.specs.Option.{option_map}
 use Rattle.std.specs.Str.{bytes_eq}

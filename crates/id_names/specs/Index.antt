@@ -24,7 +24,8 @@ kept_lines index = map (line_at (name_list index.names.entries)) index.rows.item
 
 -- the index finds the first line of each name and of each identifier, and what it keeps are names
 pub record IsIndex (index : Index) : Type 0 where
-  pub ids : (name : List ℕ) → lookup (λ key. bytes_eq name key.items) index.names.entries ≡ first_id (kept_lines index) name
+  pub ids : (name : List ℕ)
+      → lookup (λ key. bytes_eq name key.items) index.names.entries ≡ first_id (kept_lines index) name
   pub first_rows : (id : ℕ) → get nat_eq index.first_rows id ≡ position (λ line. line.id == id) (kept_lines index)
   pub within : All (λ row. IsSome (slice_get (name_list index.names.entries) row.name)) index.rows.items
   pub are_names : All (λ line. IsTrue (is_name line.name)) (kept_lines index)

@@ -1,5 +1,6 @@
 -- Files of names, whose bytes may be any. Source: passwd(5), group(5) and projid(5).
-use Rattle.std.specs.Prelude.{ℕ, ◌+◌, ◌^◌, Bool, true, ◌&&◌, not, ◌==◌, nat_lt, nat_le, is_none, if◌then◌else◌, List, [], ◌∷◌, length, position, Option, Some, None, codes}
+use Rattle.std.specs.Prelude.{ℕ, ◌+◌, ◌^◌, Bool, true, ◌&&◌, not, ◌==◌, nat_lt, nat_le, is_none, if◌then◌else◌, List}
+use Rattle.std.specs.Prelude.{[], ◌∷◌, length, position, Option, Some, None, codes}
 use Rattle.std.specs.List.{slice_split, slice_index_or, list_all, list_any, filter_map}
 use Rattle.std.specs.Option.{option_map}
 use Rattle.std.specs.Str.{all_ascii_digits}
@@ -16,8 +17,8 @@ pub record NameLine : Type 0 where
 abbrev pub parts_of : ℕ → List ℕ → List (List ℕ)
 parts_of separator bytes = slice_split (λ byte. byte == separator) bytes
 
--- The lines of a file, which newlines separate. What stands behind the last newline is a line too; where it is empty, it
--- says nothing, like any empty line.
+-- The lines of a file, which newlines separate. What stands behind the last newline is a line too; where it is empty,
+-- it says nothing, like any empty line.
 abbrev pub lines_in : List ℕ → List (List ℕ)
 lines_in file = parts_of 10 file
 
@@ -25,8 +26,8 @@ lines_in file = parts_of 10 file
 abbrev pub fields_of : List ℕ → List (List ℕ)
 fields_of line = parts_of 58 line
 
--- a line says nothing where it is empty, or begins with one of the three characters of comments and of the compatibility
--- mode of nsswitch.conf(5)
+-- a line says nothing where it is empty, or begins with one of the three characters of comments and of the
+-- compatibility mode of nsswitch.conf(5)
 abbrev pub is_passed_over : List ℕ → Bool
 is_passed_over [] = true
 is_passed_over (first ∷ behind) = list_any (λ mark. first == mark) (codes "#+-")
@@ -61,10 +62,11 @@ id_of_field field =
 
 -- the line of names of a name and the field of its identifier, where they are such
 abbrev pub named : List ℕ → List ℕ → Option NameLine
-named name field = if is_name name then option_map (λ number. record { name = name; id = number }) (id_of_field field) else None
+named name field =
+    if is_name name then option_map (λ number. record { name = name; id = number }) (id_of_field field) else None
 
--- the line of names that a line of the file spells: it has as many fields as the lines of its kind, of which the first is
--- the name, and the third the identifier, or the second in a line of projects
+-- the line of names that a line of the file spells: it has as many fields as the lines of its kind, of which the first
+-- is the name, and the third the identifier, or the second in a line of projects
 abbrev pub line_of : Kind → List ℕ → Option NameLine
 line_of kind line =
     if length (fields_of line) == fields_in kind

@@ -1,4 +1,5 @@
-ghost use Rattle.std.specs.Prelude.{◌≡◌, ℕ, ◌∷◌, ◌++◌, ◌==◌, [], List, None, Some, IfOk, IfSome, IsTrue, OnOk, if◌then◌else◌, nat_eq, slice_get};
+ghost use Rattle.std.specs.Prelude.{◌≡◌, ℕ, ◌∷◌, ◌++◌, ◌==◌, [], List, None, Some, IfOk, IfSome, IsTrue, OnOk};
+ghost use Rattle.std.specs.Prelude.{if◌then◌else◌, nat_eq, slice_get};
 ghost use Rattle.id_names.specs.FirstMatch.{first_id, first_name};
 ghost use Rattle.id_names.specs.Index.{IsIndex, kept_lines, name_list};
 ghost use Rattle.id_names.specs.NamesFile.{is_name};
@@ -49,7 +50,9 @@ impl Index {
     pub(crate) fn add(&mut self, alloc: Global, line: Line<'_>) -> Result<(), AllocError>
         requires index { IsIndex self.old }
         requires name { IsTrue (is_name line.name.now) }
-        ensures lines { OnOk result (kept_lines self.new ≡ kept_lines self.old ++ record { name = line.entry.name.now; id = line.entry.id } ∷ []) }
+        ensures lines { OnOk result
+            (kept_lines self.new
+            ≡ kept_lines self.old ++ record { name = line.entry.name.now; id = line.entry.id } ∷ []) }
         ensures index { OnOk result (IsIndex self.new) }
     {
         let name = place_of(&mut self.names, alloc, line.name, line.id)?;
@@ -82,7 +85,9 @@ impl Index {
 
 /// Notes the row of an identifier, where none is noted.
 fn note_row(first_rows: &mut HashMap<u32, usize>, id: u32, row: usize) -> Result<(), AllocError>
-    ensures { OnOk result ((other : ℕ) → get nat_eq first_rows.new other ≡ option_or (get nat_eq first_rows.old other) (if id == other then Some row else None)) }
+    ensures { OnOk result
+        ((other : ℕ) → get nat_eq first_rows.new other
+        ≡ option_or (get nat_eq first_rows.old other) (if id == other then Some row else None)) }
 {
     if !first_rows.contains_key(&id) {
         first_rows.insert(id, row)?;
@@ -98,8 +103,14 @@ fn place_of(
     id: u32,
 ) -> Result<usize, AllocError>
     ensures place { IfOk result (λ place. slice_get (name_list names.new.entries) place ≡ Some name.now) }
-    ensures others { OnOk result ((place : ℕ) (other : List ℕ) → slice_get (name_list names.old.entries) place ≡ Some other → slice_get (name_list names.new.entries) place ≡ Some other) }
-    ensures ids { OnOk result ((other : List ℕ) → lookup (λ key. bytes_eq other key.items) names.new.entries ≡ option_or (lookup (λ key. bytes_eq other key.items) names.old.entries) (if bytes_eq other name.now then Some id else None)) }
+    ensures others { OnOk result
+        ((place : ℕ) (other : List ℕ) → slice_get (name_list names.old.entries) place ≡ Some other
+        → slice_get (name_list names.new.entries) place ≡ Some other) }
+    ensures ids { OnOk result
+        ((other : List ℕ)
+        → lookup (λ key. bytes_eq other key.items) names.new.entries
+        ≡ option_or (lookup (λ key. bytes_eq other key.items) names.old.entries)
+        (if bytes_eq other name.now then Some id else None)) }
 {
     if let Some((place, _name, _id)) = names.get_full(name) {
         return Ok(place);

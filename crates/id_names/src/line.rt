@@ -1,5 +1,6 @@
 ghost use Rattle.std.specs.Prelude.{◌≡◌, ◌≢◌, ◌≤◌, [], IfSome, IfNone, length};
-ghost use Rattle.id_names.specs.NamesFile.{fields_in, fields_of, id_of_field, id_place, is_name, is_name_byte, is_passed_over, line_of};
+ghost use Rattle.id_names.specs.NamesFile.{fields_in, fields_of, id_of_field, id_place, is_name, is_name_byte};
+ghost use Rattle.id_names.specs.NamesFile.{is_passed_over, line_of};
 ghost use Rattle.std.specs.List.{list_all, slice_index_or};
 ghost use Rattle.std.specs.Option.{option_map};
 

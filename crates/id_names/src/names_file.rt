@@ -13,8 +13,8 @@ use quota_types::Kind;
 use std::alloc::Global;
 use std::marker::Model;
 
-/// The lines of a file of names, in the file's order: contracts see this type as their list. Look-ups go by an index, and
-/// not from line to line.
+/// The lines of a file of names, in the file's order: contracts see this type as their list. Look-ups go by an index,
+/// and not from line to line.
 #[derive(Drop)]
 pub struct Names {
     index: Index,
@@ -42,8 +42,8 @@ impl Names {
         }
     }
 
-    /// Reads the bytes of a file in the form of passwd(5) for users, of group(5) for groups, or of projid(5) for projects.
-    /// Empty lines, and those that begin with `#`, `+` or `-`, are passed over.
+    /// Reads the bytes of a file in the form of passwd(5) for users, of group(5) for groups, or of projid(5) for
+    /// projects. Empty lines, and those that begin with `#`, `+` or `-`, are passed over.
     ///
     /// # Errors
     ///
@@ -90,7 +90,8 @@ fn take_line(
     number: u64,
 ) -> Result<(), NamesFault>
     requires { IsIndex index.old }
-    ensures lines { OnOk result (kept_lines index.new ≡ kept_lines index.old ++ option_to_list (told_by kind line.now)) }
+    ensures lines { OnOk result
+        (kept_lines index.new ≡ kept_lines index.old ++ option_to_list (told_by kind line.now)) }
     ensures index { OnOk result (IsIndex index.new) }
     ensures accepted { OnOk result (is_bad kind line.now ≡ false) }
     ensures refused { IfErr result (IsBadLine number (is_bad kind line.now)) }

@@ -1,6 +1,7 @@
--- The records of a quota file once the usage is that of a listing. Source: quotacheck(8), which sets the usage and leaves
--- the limits.
-use Rattle.std.specs.Prelude.{◌≡◌, ℕ, if◌then◌else◌, map, ◌++◌, Option, Some, None, Result, Err, slice_get, unwrap_or, ⊤}
+-- The records of a quota file once the usage is that of a listing. Source: quotacheck(8), which sets the usage and
+-- leaves the limits.
+use Rattle.std.specs.Prelude.{◌≡◌, ℕ, if◌then◌else◌, map, ◌++◌, Option, Some, None, Result, Err, slice_get, unwrap_or}
+use Rattle.std.specs.Prelude.{⊤}
 use Rattle.std.specs.FinMap.{entries, from_entries, get, keys}
 use Rattle.std.specs.List.{filter_map}
 use Rattle.std.specs.Option.{option_map}
@@ -36,11 +37,13 @@ wanted_record grace now rec used = timers_of (using (unwrap_or rec zero_record) 
 -- the records that the identifiers of a file and of a listing are to have
 unfoldable pub wanted : Grace → (now : ℕ) → Records → UsageMap → Records
 wanted grace now records usage =
-    from_entries (map (λ id. (id, wanted_record grace now (get records id) (get usage id))) (keys records ++ keys usage))
+    from_entries
+    (map (λ id. (id, wanted_record grace now (get records id) (get usage id))) (keys records ++ keys usage))
 
 -- the first value of a record for which the format has no room
 abbrev pub no_room : Format → ℕ × Rec → Option NoRoom
-no_room format entry = option_map (λ out. record { id = entry.0; field = out.0; value = out.1 }) (unfit format entry.0 entry.1)
+no_room format entry =
+    option_map (λ out. record { id = entry.0; field = out.0; value = out.1 }) (unfit format entry.0 entry.1)
 
 -- what the format keeps of a record, unless that is null
 abbrev pub kept_entry : Format → ℕ × Rec → Option (ℕ × Rec)
@@ -59,10 +62,12 @@ first_no_room format records = slice_get (filter_map (no_room format) (entries r
 abbrev pub kept_records : Format → Records → Records
 kept_records format records = from_entries (filter_map (kept_entry format) (entries records))
 
--- the records of a file of the format once the usage is that of a listing, or the first value for which there is no room
+-- the records of a file of the format once the usage is that of a listing, or the first value for which there is no
+-- room
 unfoldable pub applied : Format → Grace → (now : ℕ) → Records → UsageMap → Result Records NoRoom
 applied format grace now records usage =
-    unless (first_no_room format (wanted grace now records usage)) (kept_records format (wanted grace now records usage))
+    unless (first_no_room format (wanted grace now records usage))
+    (kept_records format (wanted grace now records usage))
 
 -- there is no room for a value, or memory ran out, which is left open
 abbrev pub IsApplyFault : Result Records NoRoom → ApplyFault → Type 0

@@ -28,7 +28,8 @@ narrow_inode inode = narrow_from (below (2 ^ 32) inode.device) (below (2 ^ 32) i
 
 -- what is kept of a first line, where its blocks and its number are there
 abbrev pub narrow_with : FirstLine → (blocks number : Option ℕ) → Option NarrowLine
-narrow_with line (Some blocks) (Some number) = Some (record { owner = line.owner; group = line.group; blocks = blocks; number = number })
+narrow_with line (Some blocks) (Some number) =
+    Some (record { owner = line.owner; group = line.group; blocks = blocks; number = number })
 narrow_with line blocks number = None
 
 -- what is kept of a first line, where each of its numbers has 32 bits

@@ -1,6 +1,7 @@
--- A listing that is made, of as many lines as are asked for. Source: the recurrence is D. E. Knuth's linear congruential
--- generator of 64 bits, as in MMIX; what the lines have is this project's own.
-use Rattle.std.specs.Prelude.{ℕ, zero, suc, ◌+◌, ◌-◌, ◌*◌, ◌/◌, ◌%◌, ◌^◌, ◌==◌, Bool, if◌then◌else◌, List, [], ◌∷◌, ◌++◌, codes, decimal}
+-- A listing that is made, of as many lines as are asked for. Source: the recurrence is D. E. Knuth's linear
+-- congruential generator of 64 bits, as in MMIX; what the lines have is this project's own.
+use Rattle.std.specs.Prelude.{ℕ, zero, suc, ◌+◌, ◌-◌, ◌*◌, ◌/◌, ◌%◌, ◌^◌, ◌==◌, Bool, if◌then◌else◌, List, [], ◌∷◌}
+use Rattle.std.specs.Prelude.{◌++◌, codes, decimal}
 use Rattle.std.specs.List.{flat_map}
 use Rattle.inode_scan.specs.declared.row.Row.{Row}
 
@@ -28,12 +29,19 @@ first_alike line = if repeats line then line - 1 else line
 -- what a line says that repeats none and is made of this number
 abbrev pub row_made : (x line : ℕ) → Row
 row_made x line =
-    record { owner = 1000 + x / 2 ^ 33 % 5000; group = 100; device = 2049; inode = 1000 + line; blocks = 8 * (x / 2 ^ 20 % 64) }
+    record {
+      owner = 1000 + x / 2 ^ 33 % 5000;
+      group = 100;
+      device = 2049;
+      inode = 1000 + line;
+      blocks = 8 * (x / 2 ^ 20 % 64);
+    }
 
 -- a row as a line: five numbers with a space between them
 unfoldable pub row_text : Row → List ℕ
 row_text row =
-    decimal row.owner ++ codes " " ++ decimal row.group ++ codes " " ++ decimal row.device ++ codes " " ++ decimal row.inode
+    decimal row.owner ++ codes " " ++ decimal row.group ++ codes " " ++ decimal row.device ++ codes " "
+    ++ decimal row.inode
     ++ codes " " ++ decimal row.blocks
 
 -- a line

@@ -1,6 +1,7 @@
--- What the lines of a listing add up to, and what is wrong with them, over all of its lines. Source: quotacheck(8), which
--- counts each inode once, however many names it has; 512 bytes are the unit of `%b` of find(1).
-use Rattle.std.specs.Prelude.{ℕ, ◌*◌, Bool, true, false, ◌&&◌, ◌==◌, if◌then◌else◌, List, map, filter, find, length, sum_by, Option, Some, None}
+-- What the lines of a listing add up to, and what is wrong with them, over all of its lines. Source: quotacheck(8),
+-- which counts each inode once, however many names it has; 512 bytes are the unit of `%b` of find(1).
+use Rattle.std.specs.Prelude.{ℕ, ◌*◌, Bool, true, false, ◌&&◌, ◌==◌, if◌then◌else◌, List, map, filter, find, length}
+use Rattle.std.specs.Prelude.{sum_by, Option, Some, None}
 use Rattle.std.specs.FinMap.{from_entries}
 use Rattle.std.specs.List.{enumerate_from, filter_map}
 use Rattle.std.specs.Option.{option_and_then, option_map}

@@ -30,7 +30,8 @@ first_fault device lines = slice_get (faults_of device (read_lines lines) ++ opt
 
 -- the usage that the lines of a listing add up to, or the first thing that is wrong with it
 abbrev pub scanned_lines : Kind → Option ℕ → InputLines → Result UsageMap ScanFault
-scanned_lines kind device lines = unless (first_fault device lines) (usage_of kind (counted_lines device (read_lines lines)))
+scanned_lines kind device lines =
+    unless (first_fault device lines) (usage_of kind (counted_lines device (read_lines lines)))
 
 -- the usage that the listing in these bytes adds up to, or the first thing that is wrong with it
 unfoldable pub scanned : Kind → (device : Option ℕ) → List ℕ → Result UsageMap ScanFault

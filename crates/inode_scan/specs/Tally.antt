@@ -1,10 +1,13 @@
--- What is kept of the lines of a listing that were read. It is the code's own, and no contract of a public call speaks of it.
-use Rattle.std.specs.Prelude.{◌≡◌, ℕ, ◌+◌, ◌*◌, ◌^◌, ◌<◌, ◌≤◌, ◌&&◌, ◌==◌, Bool, IfSome, List, [], ◌∷◌, ◌++◌, Some, None, length, ⊤}
+-- What is kept of the lines of a listing that were read. It is the code's own, and no contract of a public call speaks
+-- of it.
+use Rattle.std.specs.Prelude.{◌≡◌, ℕ, ◌+◌, ◌*◌, ◌^◌, ◌<◌, ◌≤◌, ◌&&◌, ◌==◌, Bool, IfSome, List, [], ◌∷◌, ◌++◌, Some}
+use Rattle.std.specs.Prelude.{None, length, ⊤}
 use Rattle.std.specs.FinMap as map
 use Rattle.std.specs.List.{AllByRecursion}
 use Rattle.std.specs.Option.{option_map}
 use Rattle.inode_scan.specs.declared.scan_fault.ScanFault.{ScanFault}
-use Rattle.inode_scan.specs.declared.scan_fault.ScanFault.TheVariants.{Source, TooLarge, BadLine, LongLine, Conflict, Memory}
+use Rattle.inode_scan.specs.declared.scan_fault.ScanFault.TheVariants.{Source, TooLarge, BadLine, LongLine, Conflict}
+use Rattle.inode_scan.specs.declared.scan_fault.ScanFault.TheVariants.{Memory}
 use Rattle.inode_scan.specs.declared.inode.Inode.{Inode}
 use Rattle.inode_scan.specs.declared.inode.FirstLine.{FirstLine}
 use Rattle.inode_scan.specs.declared.row.Row.{Row}
@@ -19,11 +22,13 @@ row_at inode = record { owner = 0; group = 0; device = inode.device; inode = ino
 
 -- what is kept of the first line of an inode
 abbrev pub first_kept : Counted → FirstLine
-first_kept line = record { owner = line.row.owner; group = line.row.group; blocks = line.row.blocks; number = line.number }
+first_kept line =
+    record { owner = line.row.owner; group = line.row.group; blocks = line.row.blocks; number = line.number }
 
 -- no usage is more than this many inodes, or more than their greatest number of blocks
 abbrev pub IsBounded : ℕ → UsageMap → Type 0
-IsBounded count usage = (id : ℕ) → IfSome (map.get usage id) (λ used. (used.inodes ≤ count) × (used.space ≤ 2 ^ 73 * used.inodes))
+IsBounded count usage =
+    (id : ℕ) → IfSome (map.get usage id) (λ used. (used.inodes ≤ count) × (used.space ≤ 2 ^ 73 * used.inodes))
 
 -- what is kept of a first line agrees with a row
 abbrev pub agrees : FirstLine → Row → Bool
@@ -45,7 +50,8 @@ AreBefore number lines = AllByRecursion (λ line. line.number < number) lines
 -- a row is taken behind the lines before it, and conflicts with none
 abbrev pub TakesRow : (old new : Tally) → Row → ℕ → Type 0
 TakesRow old new row number = (lines : List Counted) → AreBefore number lines → KeepsLines old lines
-    → KeepsLines new (lines ++ counted_at number row ∷ []) × (conflict_of (lines ++ counted_at number row ∷ []) (counted_at number row) ≡ None)
+    → KeepsLines new (lines ++ counted_at number row ∷ [])
+    × (conflict_of (lines ++ counted_at number row ∷ []) (counted_at number row) ≡ None)
 
 -- this is what is wrong with a row that stands behind other lines
 abbrev pub ConflictsAs : Tally → Row → ℕ → ScanFault → Type 0

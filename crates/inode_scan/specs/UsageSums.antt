@@ -11,10 +11,12 @@ use Rattle.inode_scan.specs.Usage.{UsageMap}
 
 -- a usage is stored as the pair of its fields
 abbrev pub used_code : Coded Used
-used_code = code_by (ℕ × ℕ) (coded× coded_ℕ coded_ℕ) (λ used. (used.space, used.inodes)) (λ pair. record { space = pair.0; inodes = pair.1 }) (λ _. refl)
+used_code =
+    code_by (ℕ × ℕ) (coded× coded_ℕ coded_ℕ) (λ used. (used.space, used.inodes))
+    (λ pair. record { space = pair.0; inodes = pair.1 }) (λ _. refl)
 
--- The least identifier with a usage that comes after another one, or after none; there is none exactly where no identifier
--- that comes after has a usage.
+-- The least identifier with a usage that comes after another one, or after none; there is none exactly where no
+-- identifier that comes after has a usage.
 abbrev pub IsNextUser : Option ℕ → UsageMap → Option ℕ → Type 0
 IsNextUser after usage None = (id : ℕ) → IsAfter after id → get usage id ≡ None
 IsNextUser after usage (Some next) =

@@ -12,9 +12,10 @@ use crate::{ApplyFault, Usage};
 use quota_types::{Entry, Format, Grace, Rec};
 use std::alloc::{AllocFailed, Global};
 
-/// The records of a quota file of the format once the usage is that of a listing: of each identifier of the list or of the
-/// listing, ascending, its limits, or zeros where it is not in the list; the usage of the listing, or zeros where it is not
-/// there; and the timers that go with both at the moment `now`, in seconds since 1970. What is null then is left out.
+/// The records of a quota file of the format once the usage is that of a listing: of each identifier of the list or of
+/// the listing, ascending, its limits, or zeros where it is not in the list; the usage of the listing, or zeros where
+/// it is not there; and the timers that go with both at the moment `now`, in seconds since 1970. What is null then is
+/// left out.
 ///
 /// The list ascends strictly by its identifiers. The grace periods are in seconds.
 ///

@@ -9,7 +9,8 @@ use crate::narrow::{NarrowInode, NarrowLine};
 use std::alloc::Global;
 use std::collections::HashMap;
 
-/// The first line of each inode. Where all of its numbers have 32 bits, as they usually do, it takes 24 bytes instead of 40.
+/// The first line of each inode. Where all of its numbers have 32 bits, as they usually do, it takes 24 bytes instead
+/// of 40.
 #[derive(Drop)]
 pub(crate) struct Firsts {
     /// The first lines with narrow numbers alone.
@@ -29,8 +30,8 @@ impl Firsts {
         }
     }
 
-    /// Keeps the line of an inode where it is the first one, and answers the first one where it is not. An inode with no
-    /// line before is looked up once where its numbers are narrow.
+    /// Keeps the line of an inode where it is the first one, and answers the first one where it is not. An inode with
+    /// no line before is looked up once where its numbers are narrow.
     pub(crate) fn keep(
         &mut self,
         inode: Inode,
@@ -70,8 +71,8 @@ impl Firsts {
         Ok(earlier)
     }
 
-    /// Keeps the line of an inode that has no wide one, where it is the first one, and answers the first one where it is
-    /// not.
+    /// Keeps the line of an inode that has no wide one, where it is the first one, and answers the first one where it
+    /// is not.
     fn keep_wide(&mut self, inode: Inode, line: FirstLine) -> Result<Option<FirstLine>, ScanFault>
         requires { get inode_eq self.old.wide inode ≡ None }
         ensures found { IfOk result (λ first. first ≡ kept_in self.old inode) }
@@ -86,8 +87,8 @@ impl Firsts {
         Ok(None)
     }
 
-    /// The wide first line of an inode, where there is one. Where there is none of any inode, which is usual, the inode is
-    /// not hashed.
+    /// The wide first line of an inode, where there is one. Where there is none of any inode, which is usual, the inode
+    /// is not hashed.
     fn wide_first(&self, inode: Inode) -> Option<FirstLine>
         ensures { result ≡ get inode_eq self.now.wide inode }
     {

@@ -10,12 +10,12 @@ use outside::{Source, SourceFault};
 /// How many bytes a line has at most: five numbers, and a byte behind each.
 const LINE: usize = 5 * 21;
 
-/// A listing of inodes that is made while it is read, the same for the same seed, as a source. It keeps a line at a time,
-/// takes no memory of the heap, and never fails.
+/// A listing of inodes that is made while it is read, the same for the same seed, as a source. It keeps a line at a
+/// time, takes no memory of the heap, and never fails.
 ///
-/// A number begins as the seed. Every tenth line repeats the one before. Any other line takes the next number x of Knuth's
-/// generator of 64 bits, and tells the owner 1000 + floor(x / 2^33) mod 5000, the group 100, the device 2049, the inode 1000
-/// and the line's number, from 1 on, and 8 (floor(x / 2^20) mod 64) blocks.
+/// A number begins as the seed. Every tenth line repeats the one before. Any other line takes the next number x of
+/// Knuth's generator of 64 bits, and tells the owner 1000 + floor(x / 2^33) mod 5000, the group 100, the device 2049,
+/// the inode 1000 and the line's number, from 1 on, and 8 (floor(x / 2^20) mod 64) blocks.
 #[derive(Debug, Drop)]
 pub struct Generated {
     /// The number that the last line was made of, or the seed.

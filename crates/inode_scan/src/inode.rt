@@ -41,7 +41,8 @@ impl FirstLine {
 
     /// Refuses a later line of the inode, of this number, that does not say the same.
     pub(crate) fn check(&self, row: &Row, number: u64) -> Result<(), ScanFault>
-        ensures { result ≡ (if agrees self.now row.now then Ok tt else Err (ScanFault.Conflict number self.now.number)) }
+        ensures { result
+            ≡ (if agrees self.now row.now then Ok tt else Err (ScanFault.Conflict number self.now.number)) }
     {
         if self.owner == row.owner && self.group == row.group && self.blocks == row.blocks {
             Ok(())

@@ -1,5 +1,5 @@
-//! The usage of identifiers from a listing of inodes, as `find -printf '%U %G %D %i %b\n'` of find(1) prints one, and the
-//! records of a quota file with that usage.
+//! The usage of identifiers from a listing of inodes, as `find -printf '%U %G %D %i %b\n'` of find(1) prints one, and
+//! the records of a quota file with that usage.
 //!
 //! The one promise: `scan` gives the sums over the first lines of all inodes of the listing, or the first fault of the
 //! listing. `apply` gives the records with that usage, or the least identifier with a value that the format has no room

@@ -1,4 +1,5 @@
-ghost use Rattle.std.specs.Prelude.{◌≡◌, ◌+◌, ◌-◌, ◌<◌, ◌≤◌, [], true, false, is_ok, IsTrue, IfOk, IfErr, OnOk, Ok, if◌then◌else◌};
+ghost use Rattle.std.specs.Prelude.{◌≡◌, ◌+◌, ◌-◌, ◌<◌, ◌≤◌, [], true, false, is_ok, IsTrue, IfOk, IfErr, OnOk, Ok};
+ghost use Rattle.std.specs.Prelude.{if◌then◌else◌};
 ghost use Rattle.input_text.specs.LineReading.{line_then};
 ghost use Rattle.inode_scan.specs.Scan.{scanned};
 ghost use Rattle.inode_scan.specs.ListingFaults.{IsEndFault, IsScanFault, listing_left};
@@ -17,13 +18,14 @@ const MAX_LINE: usize = 256;
 /// How many bytes a listing has at most.
 const MAX_LISTING: u64 = 1_099_511_627_776;
 
-/// Reads a listing of inodes to the end of the source, and adds up what each user, group or project uses: 512 bytes a block,
-/// and one inode.
+/// Reads a listing of inodes to the end of the source, and adds up what each user, group or project uses: 512 bytes a
+/// block, and one inode.
 ///
 /// A line has five words between spaces and tabs: owner, group, or the project in its place where projects are counted,
 /// device, inode, and blocks of 512 bytes. Each has 1 to 20 decimal digits; the first two are below 2^32, the others
-/// below 2^64. A line with no word says nothing. Where a device is given, lines of other devices need to have this form,
-/// and count for nothing else. Of each inode of a device the first line counts, and later ones have to say the same.
+/// below 2^64. A line with no word says nothing. Where a device is given, lines of other devices need to have this
+/// form, and count for nothing else. Of each inode of a device the first line counts, and later ones have to say the
+/// same.
 ///
 /// # Errors
 ///

@@ -7,8 +7,8 @@ use std::alloc::{AllocError, AllocFailed, Global};
 use std::collections::HashMap;
 use std::marker::Model;
 
-/// What identifiers use, as far as it was added up, in no order: it is seen as `Usage` is. An identifier is found at once,
-/// where in order it would be searched for at each line.
+/// What identifiers use, as far as it was added up, in no order: it is seen as `Usage` is. An identifier is found at
+/// once, where in order it would be searched for at each line.
 #[derive(Drop)]
 pub(crate) struct Sums {
     used: HashMap<u32, Used>,

@@ -8,7 +8,8 @@ use std::collections::{BTreeMap, HashMap};
 use std::marker::Model;
 use std::ops::Bound;
 
-/// What identifiers use, as a listing tells it: contracts see this type as a finite map from identifiers to what they use.
+/// What identifiers use, as a listing tells it: contracts see this type as a finite map from identifiers to what they
+/// use.
 #[derive(Drop)]
 pub struct Usage {
     used: BTreeMap<u32, Used>,
@@ -43,7 +44,8 @@ impl Usage {
         self.used.get(&id).copied()
     }
 
-    /// The least identifier that uses something and is greater than `after`, or the least of all; `None` where there is none.
+    /// The least identifier that uses something and is greater than `after`, or the least of all; `None` where there is
+    /// none.
     pub fn next_after(&self, after: Option<u32>) -> Option<u32>
         ensures { IsNextUser after self.now result }
     {

@@ -9,8 +9,8 @@ ghost use Rattle.inode_scan.specs.Apply.{IsKeptEntry, no_room, using, wanted_rec
 use crate::Used;
 use quota_types::{Entry, Field, Format, Grace, NoRoom, Rec, check_record, next_kept};
 
-/// What the format keeps of the record that an identifier is to have, where it had `rec` and now uses `used`; `None` where
-/// that is null.
+/// What the format keeps of the record that an identifier is to have, where it had `rec` and now uses `used`; `None`
+/// where that is null.
 pub(crate) fn wanted_entry(
     format: Format,
     id: u32,

@@ -2,8 +2,8 @@
 use Rattle.std.specs.Prelude.{ℕ, zero, suc, ◌-◌, List, length}
 use Rattle.input_text.specs.Lines.{NextLine, AtEnd, Line, LongLine, PastTotal, next_line_of}
 
--- The lines of an input, each with those behind it, up to its end, or up to a line that is too long, or to one that does
--- not end within the bytes that may be read.
+-- The lines of an input, each with those behind it, up to its end, or up to a line that is too long, or to one that
+-- does not end within the bytes that may be read.
 pub data InputLines : Type 0 where
   NoLine : InputLines
   LineThen : (line : List ℕ) (more : InputLines) → InputLines
@@ -17,11 +17,13 @@ lines_from (Line line rest) behind = LineThen line (behind rest)
 lines_from LongLine behind = LongNext
 lines_from PastTotal behind = PastNext
 
--- the lines in this many steps, where a line may have `most` bytes, and `room` bytes of the rest of the input may be read
+-- the lines in this many steps, where a line may have `most` bytes, and `room` bytes of the rest of the input may be
+-- read
 abbrev pub lines_within : (steps most room : ℕ) → List ℕ → InputLines
 lines_within zero most room rest = NoLine
 lines_within (suc steps) most room rest =
-    lines_from (next_line_of most room rest) (λ behind. lines_within steps most (room - (length rest - length behind)) behind)
+    lines_from (next_line_of most room rest)
+    (λ behind. lines_within steps most (room - (length rest - length behind)) behind)
 
 -- The lines of an input of which `room` bytes may be read. Since each line takes a byte, one step more than there are
 -- bytes is enough.

@@ -6,8 +6,8 @@ use Rattle.input_text.specs.declared.line_reader.LineFault.TheVariants.{Source, 
 use Rattle.input_text.specs.Lines.{NextLine, AtEnd, Line, LongLine, PastTotal}
 use Rattle.input_text.specs.InputLines.{InputLines, NoLine, LineThen, input_lines}
 
--- What is seen of a reader of lines: the bytes that it took from its source and that stand in no line yet, the number of
--- the line at hand, from 1 on, and how many bytes of the input the lines have that were given, newlines and all.
+-- What is seen of a reader of lines: the bytes that it took from its source and that stand in no line yet, the number
+-- of the line at hand, from 1 on, and how many bytes of the input the lines have that were given, newlines and all.
 pub record LinesSeen : Type 0 where
   pub held : List ℕ
   pub number : ℕ

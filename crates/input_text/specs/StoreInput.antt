@@ -18,14 +18,16 @@ module _ {S : Type 0} (seen : S → StoreSeen) where
     faults = (seen input.store.now).faults;
   }
 
--- Both references stay, and the name; the store is only read, and commits nothing. No name is unsynced that was not, unless
--- the store's count of faults rose; where each call answered Ok, not even then. Of a store that tells, bytes are taken from
--- the front of what is left.
-pub record KeepsInput {S : Type 0} (tells : Bool) (seen : S → StoreSeen) (commits : List World → S → S → Type 0) (ok : Bool) (old new : StoreInput S) : Type 0 where
+-- Both references stay, and the name; the store is only read, and commits nothing. No name is unsynced that was not,
+-- unless the store's count of faults rose; where each call answered Ok, not even then. Of a store that tells, bytes are
+-- taken from the front of what is left.
+pub record KeepsInput {S : Type 0} (tells : Bool) (seen : S → StoreSeen) (commits : List World → S → S → Type 0)
+    (ok : Bool) (old new : StoreInput S) : Type 0 where
   pub source : new.source.ghost_name ≡ old.source.ghost_name
   pub store : new.store.ghost_name ≡ old.store.ghost_name
   pub name : string_bytes new.source.now.name ≡ string_bytes old.source.now.name
   pub leaves : OnlyReads ok (string_bytes old.source.now.name) (seen old.store.now) (seen new.store.now)
-  pub unsynced : Rose (seen old.store.now).faults (seen new.store.now).faults ⊎ AddsNone (seen old.store.now).unsynced (seen new.store.now).unsynced
+  pub unsynced : Rose (seen old.store.now).faults (seen new.store.now).faults
+      ⊎ AddsNone (seen old.store.now).unsynced (seen new.store.now).unsynced
   pub behind : IsTrue tells → IsBehind (store_input_seen seen old).left (store_input_seen seen new).left
   pub committed : commits [] old.store.now new.store.now

@@ -1,4 +1,5 @@
-ghost use Rattle.std.specs.Prelude.{◌≡◌, ◌<◌, ◌≤◌, ◌+◌, ◌-◌, ◌^◌, ◌++◌, ℕ, List, [], true, false, nat_lt, length, take, drop, position, is_ok, IsTrue, IfOk, IfErr, OnOk, OnErr, if◌then◌else◌};
+ghost use Rattle.std.specs.Prelude.{◌≡◌, ◌<◌, ◌≤◌, ◌+◌, ◌-◌, ◌^◌, ◌++◌, ℕ, List, [], true, false, nat_lt, length, take};
+ghost use Rattle.std.specs.Prelude.{drop, position, is_ok, IsTrue, IfOk, IfErr, OnOk, OnErr, if◌then◌else◌};
 ghost use Rattle.std.specs.List.{list_any, position_or_len};
 ghost use Rattle.outside.specs.Count.{Rose};
 ghost use Rattle.input_text.specs.Lines.{Line, is_newline, next_line_of};
@@ -76,8 +77,8 @@ impl LineReader {
     /// Puts the next line, without its newline, in place of what stands in `line`, and answers `true`, or `false` with
     /// no line where the input is at its end. A last line without a newline is a line.
     ///
-    /// `most` is how many bytes a line may have, and `total` how many bytes of the input may be read, from its beginning
-    /// on.
+    /// `most` is how many bytes a line may have, and `total` how many bytes of the input may be read, from its
+    /// beginning on.
     ///
     /// # Errors
     ///
@@ -228,7 +229,8 @@ impl LineReader {
         self.start += len;
     }
 
-    /// Takes the newline that stands first among the held bytes, and counts the line that it ends, which has `len` bytes.
+    /// Takes the newline that stands first among the held bytes, and counts the line that it ends, which has `len`
+    /// bytes.
     fn end_line(&mut self, len: usize, total: u64)
         requires newline { 0 < length self.old.held }
         requires fits { len + 1 ≤ total - self.old.given }

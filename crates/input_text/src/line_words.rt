@@ -69,7 +69,8 @@ fn first_blank(text: &[u8]) -> Option<usize>
 
 /// The words of a line, in order, or `None` where there are more than `N`. It takes no memory of the heap.
 pub fn words<const N: usize>(line: &[u8]) -> Option<ArrayVec<&[u8], N>>
-    ensures { MatchOption result (N < length (words_of line.now)) (λ words. map (λ word. word.now) words.items ≡ words_of line.now) }
+    ensures { MatchOption result (N < length (words_of line.now))
+        (λ words. map (λ word. word.now) words.items ≡ words_of line.now) }
 {
     let mut words = ArrayVec::new();
     let mut rest = line;

@@ -1,5 +1,6 @@
 -- What one call of a journal puts where a stop of the machine leaves it.
-use Rattle.std.proofs.Common.{◌≡◌, ◌≢◌, inl, inr, ⊎_elim, ℕ, List, [], ◌∷◌, Option, Some, None, unwrap_or, sym, ap, ◌∙◌, subst}
+use Rattle.std.proofs.Common.{◌≡◌, ◌≢◌, inl, inr, ⊎_elim, ℕ, List, [], ◌∷◌, Option, Some, None, unwrap_or, sym, ap, ◌∙◌}
+use Rattle.std.proofs.Common.{subst}
 use Rattle.std.specs.Str.{bytes_eq}
 use Rattle.std.proofs.lemmas.Bool.{cases_Bool}
 use Rattle.outside.specs.World.{World, with_new_name}
@@ -26,19 +27,25 @@ use Rattle.journal_store.proofs.ToldLemmas.{differs}
 abbrev RecoversAlike : List ℕ → World → World → Type 0
 RecoversAlike name old new = recovered (new name) (new (undo_name name)) ≡ recovered (old name) (old (undo_name name))
 
-alike-same : (name : List ℕ) (old new : World) → new name ≡ old name → new (undo_name name) ≡ old (undo_name name) → RecoversAlike name old new
+alike-same : (name : List ℕ) (old new : World) → new name ≡ old name → new (undo_name name) ≡ old (undo_name name)
+    → RecoversAlike name old new
 alike-same name old new file undo =
-    ap (λ (f : Option (List ℕ)). recovered f (new (undo_name name))) file ∙ ap (λ (u : Option (List ℕ)). recovered (old name) u) undo
+    ap (λ (f : Option (List ℕ)). recovered f (new (undo_name name))) file
+    ∙ ap (λ (u : Option (List ℕ)). recovered (old name) u) undo
 
 -- another plain name
-alike-other : (name other : List ℕ) → IsPlain name → IsPlain other → other ≢ name → (old new : World) → KeepsOtherThree name (undo_name name) (und_name name) old new → RecoversAlike other old new
+alike-other : (name other : List ℕ) → IsPlain name → IsPlain other → other ≢ name → (old new : World)
+    → KeepsOtherThree name (undo_name name) (und_name name) old new → RecoversAlike other old new
 alike-other name other plain is differ old new keeps =
     alike-same other old new
     (keeps other differ (undo-apart other name is.undo) (und-apart other name is.undo))
-    (keeps (undo_name other) (λ same. undo-apart name other plain.undo (sym same)) (λ same. differ (undo-injective other name same)) (λ same. und-undo name other (sym same)))
+    (keeps (undo_name other) (λ same. undo-apart name other plain.undo (sym same))
+    (λ same. differ (undo-injective other name same)) (λ same. und-undo name other (sym same)))
 
 -- each plain name, where the file of one is recovered
-alike-recovered : (name : List ℕ) → IsPlain name → (old new : World) → RecoversSame name (undo_name name) (und_name name) old new → (other : List ℕ) → kind_of other ≡ Plain → RecoversAlike other old new
+alike-recovered : (name : List ℕ) → IsPlain name → (old new : World)
+    → RecoversSame name (undo_name name) (und_name name) old new → (other : List ℕ) → kind_of other ≡ Plain
+    → RecoversAlike other old new
 alike-recovered name plain old new same other is =
     elim (cases_Bool (bytes_eq name other)) [
       | inl e ↦ subst (λ (n : List ℕ). RecoversAlike n old new) (bytes_eq-true name other e) same.0
@@ -46,27 +53,35 @@ alike-recovered name plain old new same other is =
     ]
 
 -- a step by which a recovery makes the same of each plain name puts nothing there
-pub commits_alike : (step : World → World → Type 0) (a b : DiskSeen) → ((old new : World) → step old new → (name : List ℕ) → kind_of name ≡ Plain → RecoversAlike name old new) → Passes step a b → Commits [] a b
+pub commits_alike : (step : World → World → Type 0) (a b : DiskSeen)
+    → ((old new : World) → step old new → (name : List ℕ) → kind_of name ≡ Plain → RecoversAlike name old new)
+    → Passes step a b → Commits [] a b
 commits_alike step a b alike passes = record {
   later = passes.later;
   left = λ name plain image is.
       let from = passes.follows.left image is in inl (from.0, from.1, alike from.0 image from.2 name plain);
   known = λ moment image early was.
-      ⊎_elim (λ before. inl before) (λ by. inr (λ name plain. inl (by.0, by.1, alike by.0 image by.2 name plain))) (passes.known moment image early was);
+      ⊎_elim (λ before. inl before) (λ by. inr (λ name plain. inl (by.0, by.1, alike by.0 image by.2 name plain)))
+      (passes.known moment image early was);
 }
 
 -- nor does a recovery
-pub commits_recovered : (name : List ℕ) → kind_of name ≡ Plain → (a b : DiskSeen) → Passes (RecoversSame name (undo_name name) (und_name name)) a b → Commits [] a b
+pub commits_recovered : (name : List ℕ) → kind_of name ≡ Plain → (a b : DiskSeen)
+    → Passes (RecoversSame name (undo_name name) (und_name name)) a b → Commits [] a b
 commits_recovered name plain a b passes =
-    commits_alike (RecoversSame name (undo_name name) (und_name name)) a b (λ old new step other is. alike-recovered name (is_plain name plain) old new step other is) passes
+    commits_alike (RecoversSame name (undo_name name) (und_name name)) a b
+    (λ old new step other is. alike-recovered name (is_plain name plain) old new step other is) passes
 
 -- nor does a call that changes nothing
 pub commits_same : (a b : DiskSeen) → Passes IsSame a b → Commits [] a b
 commits_same a b passes =
-    commits_alike IsSame a b (λ old new same name plain. alike-same name old new (ap (λ (w : World). w name) same) (ap (λ (w : World). w (undo_name name)) same)) passes
+    commits_alike IsSame a b
+    (λ old new same name plain.
+    alike-same name old new (ap (λ (w : World). w name) same) (ap (λ (w : World). w (undo_name name)) same)) passes
 
 -- nor does a change of a file whose name is new
-pub commits_new : (Changes : Option (List ℕ) → Option (List ℕ) → Type 0) (name : List ℕ) → IsNew name → (a b : DiskSeen) → TakesStep (ChangesFile Changes name) a b → Commits [] a b
+pub commits_new : (Changes : Option (List ℕ) → Option (List ℕ) → Type 0) (name : List ℕ) → IsNew name → (a b : DiskSeen)
+    → TakesStep (ChangesFile Changes name) a b → Commits [] a b
 commits_new Changes name new a b takes =
     commits_alike (ChangesFile Changes name) a b
     (λ old now step other is.
@@ -76,8 +91,10 @@ commits_new Changes name new a b takes =
     (passes-step (ChangesFile Changes name) a b takes)
 
 -- a commit puts one file there, as it is in this world
-pub commits_synced : (world : World) (name : List ℕ) (file : Option (List ℕ)) → kind_of name ≡ Plain → world name ≡ file → (a b : DiskSeen)
-    → OnlyLeaves (RecoversAsBeforeOr name (undo_name name) a file) a b → Passes (KeepsOtherThree name (undo_name name) (und_name name)) a b → Commits (world ∷ []) a b
+pub commits_synced : (world : World) (name : List ℕ) (file : Option (List ℕ)) → kind_of name ≡ Plain → world name ≡ file
+    → (a b : DiskSeen)
+    → OnlyLeaves (RecoversAsBeforeOr name (undo_name name) a file) a b
+    → Passes (KeepsOtherThree name (undo_name name) (und_name name)) a b → Commits (world ∷ []) a b
 commits_synced world name file plain told a b only passes = record {
   later = passes.later;
   left = λ other is image now.
@@ -86,17 +103,24 @@ commits_synced world name file plain told a b only passes = record {
   known = λ moment image early was.
       ⊎_elim
       (λ before. inl before)
-      (λ by. ⊎_elim (λ before. inl before) (λ has. inr (λ other is. each other is image has by)) (only.known moment image early was))
+      (λ by. ⊎_elim (λ before. inl before) (λ has. inr (λ other is. each other is image has by))
+      (only.known moment image early was))
       (passes.known moment image early was);
 }
   where
-    each : (other : List ℕ) → kind_of other ≡ Plain → (image : World) → RecoversAsBeforeOr name (undo_name name) a file image
-        → (before : World) × a.images before × KeepsOtherThree name (undo_name name) (und_name name) before image → RecoversOr (world ∷ []) a other image
+    each : (other : List ℕ) → kind_of other ≡ Plain → (image : World)
+        → RecoversAsBeforeOr name (undo_name name) a file image
+        → (before : World) × a.images before × KeepsOtherThree name (undo_name name) (und_name name) before image
+        → RecoversOr (world ∷ []) a other image
     each other is image has from =
         elim (cases_Bool (bytes_eq name other)) [
           | inl e ↦ subst (λ (n : List ℕ). RecoversOr (world ∷ []) a n image) (bytes_eq-true name other e)
               (⊎_elim (λ before. inl before) (λ new. inr (inl (new ∙ sym told))) has)
-          | inr e ↦ inl (from.0, from.1, alike-other name other (is_plain name plain) (is_plain other is) (differs name other e) from.0 image from.2)
+          | inr e ↦ inl (
+            from.0,
+            from.1,
+            alike-other name other (is_plain name plain) (is_plain other is) (differs name other e) from.0 image from.2,
+          )
         ]
 
 -- what was put there, and then nothing
@@ -109,28 +133,47 @@ commits_any worlds a b none = commits_then [] worlds a b b none (nothing_commits
 
 module _ (from to : List ℕ) (new : IsNew from) (plain : IsPlain to) where
   -- a rename leaves each plain name but the new one
-  alike-renamed : (old now : World) → now ≡ with_new_name old from to → (other : List ℕ) → kind_of other ≡ Plain → other ≢ to → RecoversAlike other old now
+  alike-renamed : (old now : World) → now ≡ with_new_name old from to → (other : List ℕ) → kind_of other ≡ Plain
+      → other ≢ to → RecoversAlike other old now
   alike-renamed old now is other other_plain differ =
       let others = with_new_name-others old from to in
       alike-same other old now
-      (ap (λ (w : World). w other) is ∙ others other (λ same. new-apart other from (is_plain other other_plain).new new.new (sym same)) differ)
-      (ap (λ (w : World). w (undo_name other)) is ∙ others (undo_name other) (λ same. undo-apart from other new.undo (sym same)) (λ same. undo-apart to other plain.undo (sym same)))
+      (ap (λ (w : World). w other) is
+      ∙ others other (λ same. new-apart other from (is_plain other other_plain).new new.new (sym same)) differ)
+      (ap (λ (w : World). w (undo_name other)) is
+      ∙ others (undo_name other) (λ same. undo-apart from other new.undo (sym same))
+      (λ same. undo-apart to other plain.undo (sym same)))
 
   -- what is left of a plain name by a rename from a file that each image has as this world has it
-  left-renamed : (world : World) (file : Option (List ℕ)) (disk : DiskSeen) → world from ≡ file → EachImage (λ image. image from ≡ file) disk
+  left-renamed : (world : World) (file : Option (List ℕ)) (disk : DiskSeen) → world from ≡ file
+      → EachImage (λ image. image from ≡ file) disk
       → EachImage (λ image. byte_at (unwrap_or (image (undo_name to)) []) 0 ≢ 1) disk
-      → (other : List ℕ) → kind_of other ≡ Plain → (old now : World) → disk.images old → MayBeRenamed from to old now → RecoversOr (with_new_name world from to ∷ []) disk other now
+      → (other : List ℕ) → kind_of other ≡ Plain → (old now : World) → disk.images old → MayBeRenamed from to old now
+      → RecoversOr (with_new_name world from to ∷ []) disk other now
   left-renamed world file disk told kept closed other is old now was (inl same) =
-      inl (old, was, alike-same other old now (ap (λ (w : World). w other) same) (ap (λ (w : World). w (undo_name other)) same))
+      inl (
+        old,
+        was,
+        alike-same other old now (ap (λ (w : World). w other) same) (ap (λ (w : World). w (undo_name other)) same),
+      )
   left-renamed world None disk told kept closed other is old now was (inr renamed) =
       let same : now ≡ old = renamed ∙ with_new_name-absent old from to (kept old was) in
-      inl (old, was, alike-same other old now (ap (λ (w : World). w other) same) (ap (λ (w : World). w (undo_name other)) same))
+      inl (
+        old,
+        was,
+        alike-same other old now (ap (λ (w : World). w other) same) (ap (λ (w : World). w (undo_name other)) same),
+      )
   left-renamed world (Some bytes) disk told kept closed other is old now was (inr renamed) =
       elim (cases_Bool (bytes_eq to other)) [
-        | inl e ↦ subst (λ (n : List ℕ). RecoversOr (with_new_name world from to ∷ []) disk n now) (bytes_eq-true to other e)
+        | inl e ↦
+            subst (λ (n : List ℕ). RecoversOr (with_new_name world from to ∷ []) disk n now) (bytes_eq-true to other e)
             (inr (inl (
-            ap (λ (f : Option (List ℕ)). recovered f (now (undo_name to))) (ap (λ (w : World). w to) renamed ∙ new_name-to old from to bytes (kept old was))
-            ∙ ap (λ (u : Option (List ℕ)). recovered (Some bytes) u) (ap (λ (w : World). w (undo_name to)) renamed ∙ with_new_name-others old from to (undo_name to) (λ same. undo-apart from to new.undo (sym same)) (λ same. undo-apart to to plain.undo (sym same)))
+            ap (λ (f : Option (List ℕ)). recovered f (now (undo_name to)))
+            (ap (λ (w : World). w to) renamed ∙ new_name-to old from to bytes (kept old was))
+            ∙ ap (λ (u : Option (List ℕ)). recovered (Some bytes) u)
+            (ap (λ (w : World). w (undo_name to)) renamed
+            ∙ with_new_name-others old from to (undo_name to) (λ same. undo-apart from to new.undo (sym same))
+            (λ same. undo-apart to to plain.undo (sym same)))
             ∙ recovered-closed bytes (old (undo_name to)) (closed old was)
             ∙ sym (new_name-to world from to bytes told))))
         | inr e ↦ inl (old, was, alike-renamed old now renamed other is (differs to other e))
@@ -148,6 +191,7 @@ module _ (from to : List ℕ) (new : IsNew from) (plain : IsPlain to) where
     known = λ moment image early was.
         ⊎_elim
         (λ before. inl before)
-        (λ now. inr (λ other is. let from_image = takes.follows.left image now in left-renamed world (a.files from) a told kept closed other is from_image.0 image from_image.1 from_image.2))
+        (λ now. inr (λ other is. let from_image = takes.follows.left image now in
+        left-renamed world (a.files from) a told kept closed other is from_image.0 image from_image.1 from_image.2))
         ((takes.elapses.known moment image early).0 was);
   }

@@ -1,5 +1,6 @@
 -- Names of each kind.
-use Rattle.std.proofs.Common.{◌≡◌, ◌≢◌, ℕ, ◌-◌, ◌≤◌, Bool, true, false, refl, List, [], ◌++◌, length, drop, sym, ap, ◌∙◌, arith, length-append}
+use Rattle.std.proofs.Common.{◌≡◌, ◌≢◌, ℕ, ◌-◌, ◌≤◌, Bool, true, false, refl, List, [], ◌++◌, length, drop, sym, ap}
+use Rattle.std.proofs.Common.{◌∙◌, arith, length-append}
 use Rattle.std.specs.Prelude.{codes, nat_le, if◌then◌else◌}
 use Rattle.std.specs.Str.{bytes_eq}
 use Rattle.std.proofs.Math.Bool.{or-true}
@@ -47,14 +48,18 @@ pub record IsNew (name : List ℕ) : Type 0 where
   pub new : is_new name ≡ true
 
 -- what the tests say of a plain name, and of a new one
-plain_tests : (u n a b : Bool) → (if u then Barred else (if n then (if a then New else Barred) else (if b then Plain else Barred))) ≡ Plain → (u ≡ false) × (n ≡ false) × (b ≡ true)
+plain_tests : (u n a b : Bool)
+    → (if u then Barred else (if n then (if a then New else Barred) else (if b then Plain else Barred))) ≡ Plain
+    → (u ≡ false) × (n ≡ false) × (b ≡ true)
 plain_tests false false a true is = (refl, refl, refl)
 plain_tests true n a b is = absurd (cc)
 plain_tests false true true b is = absurd (cc)
 plain_tests false true false b is = absurd (cc)
 plain_tests false false a false is = absurd (cc)
 
-new_tests : (u n a b : Bool) → (if u then Barred else (if n then (if a then New else Barred) else (if b then Plain else Barred))) ≡ New → (u ≡ false) × (n ≡ true)
+new_tests : (u n a b : Bool)
+    → (if u then Barred else (if n then (if a then New else Barred) else (if b then Plain else Barred))) ≡ New
+    → (u ≡ false) × (n ≡ true)
 new_tests false true true b is = (refl, refl)
 new_tests true n a b is = absurd (cc)
 new_tests false true false b is = absurd (cc)

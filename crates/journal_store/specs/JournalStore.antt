@@ -16,7 +16,8 @@ use Rattle.journal_store.specs.declared.kinds.NameKind.TheVariants.{Barred, New,
 
 -- a recovery of these files makes of one what one of some image of a disk makes, or this file
 abbrev pub RecoversAsBeforeOr : (name undo : List ℕ) → DiskSeen → Option (List ℕ) → World → Type 0
-RecoversAsBeforeOr name undo disk file image = RecoversAsBefore name undo disk image ⊎ (recovered (image name) (image undo) ≡ file)
+RecoversAsBeforeOr name undo disk file image =
+    RecoversAsBefore name undo disk image ⊎ (recovered (image name) (image undo) ≡ file)
 
 -- no file has this name, which is plain
 abbrev pub IsAbsent : World → List ℕ → Type 0

@@ -22,4 +22,5 @@ is_new name = ends_so name (codes ".new")
 abbrev pub kind_of : List ℕ → NameKind
 kind_of name =
     if is_undo name then Barred
-    else (if is_new name then (if nat_le (length name) 254 then New else Barred) else (if nat_le (length name) 250 then Plain else Barred))
+    else (if is_new name then (if nat_le (length name) 254 then New else Barred)
+    else (if nat_le (length name) 250 then Plain else Barred))

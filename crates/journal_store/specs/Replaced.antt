@@ -13,8 +13,10 @@ HasClosedGate name disk = EachImage (λ image. byte_at (unwrap_or (image (undo_n
 
 -- a recovery makes of one file what it made of it before, and then another one gets its name, or does not
 abbrev pub MayReplaceRecovered : (from to : List ℕ) → World → World → Type 0
-MayReplaceRecovered from to old new = (between : World) × RecoversSame to (undo_name to) (und_name to) old between × MayBeRenamed from to between new
+MayReplaceRecovered from to old new =
+    (between : World) × RecoversSame to (undo_name to) (und_name to) old between × MayBeRenamed from to between new
 
 -- a recovery makes of one file what it made of it before, and then another one gets its name
 abbrev pub ReplacesRecovered : (from to : List ℕ) → World → World → Type 0
-ReplacesRecovered from to old new = (between : World) × RecoversSame to (undo_name to) (und_name to) old between × IsRenamed from to between new
+ReplacesRecovered from to old new =
+    (between : World) × RecoversSame to (undo_name to) (und_name to) old between × IsRenamed from to between new

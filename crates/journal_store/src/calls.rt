@@ -8,9 +8,12 @@ use edit_journal::KeptRange;
 use outside::StoreFault;
 
 impl<D: Disk> Journal<D> {
-    ghost use Rattle.std.specs.Prelude.{◌≡◌, ◌≢◌, ◌⊎◌, ◌^◌, ◌≤◌, [], None, Some, length, option_map, take, false, true, IfOk, IsSome, IsTrue, OnErr, OnOk, is_ok};
-    ghost use Rattle.journal_store.specs.Calls.{CommitsNothing, MakesFile, Refuses, RefusesFor, ReplacesFile, SyncsFile};
-    ghost use Rattle.journal_store.specs.JournalStore.{Holds, IsAbsent, IsRefused, IsRenameRefused, IsReplaceRefused, IsWriteRefused, KeepsSame, disk_of, told_of};
+    ghost use Rattle.std.specs.Prelude.{◌≡◌, ◌≢◌, ◌⊎◌, ◌^◌, ◌≤◌, [], None, Some, length, option_map, take, false, true};
+    ghost use Rattle.std.specs.Prelude.{IfOk, IsSome, IsTrue, OnErr, OnOk, is_ok};
+    ghost use Rattle.journal_store.specs.Calls.{CommitsNothing, MakesFile, Refuses, RefusesFor, ReplacesFile};
+    ghost use Rattle.journal_store.specs.Calls.{SyncsFile};
+    ghost use Rattle.journal_store.specs.JournalStore.{Holds, IsAbsent, IsRefused, IsRenameRefused, IsReplaceRefused};
+    ghost use Rattle.journal_store.specs.JournalStore.{IsWriteRefused, KeepsSame, disk_of, told_of};
     ghost use Rattle.journal_store.specs.Kinds.{kind_of};
     ghost use Rattle.journal_store.specs.Told.{LooksAtName};
     ghost use Rattle.outside.specs.Unsynced.{AddsNone, with_handed, with_name};
@@ -38,7 +41,8 @@ impl<D: Disk> Journal<D> {
 
     /// The length of a file, or `None` where there is none of this name.
     pub(crate) fn size(&mut self, name: &str) -> Result<Option<u64>, StoreFault>
-        ensures found { IfOk result (λ found. IsTrue D.tells → found ≡ option_map length ((told_of self.old).files name.now)) }
+        ensures found { IfOk result
+            (λ found. IsTrue D.tells → found ≡ option_map length ((told_of self.old).files name.now)) }
         ensures leaves { IsTrue D.tells → LooksAtName (is_ok result) name.now (told_of self.old) (told_of self.new) }
         ensures moments { IsTrue D.tells → CommitsNothing name.now (disk_of self.old) (disk_of self.new) }
         ensures refuses { RefusesFor (IsRefused self.old name.now) D.seen self.old.disk self.new.disk result }
@@ -97,7 +101,8 @@ impl<D: Disk> Journal<D> {
             → IsSome ((told_of self.old).files name.now)) }
         ensures moments { IsTrue D.tells → CommitsNothing name.now (disk_of self.old) (disk_of self.new) }
         ensures refuses { Refuses (IsWriteRefused self.old name.now at (length bytes.now))
-            (IsWriteRefused self.old name.now at (length bytes.now) ⊎ (IsTrue D.tells → IsAbsent (told_of self.old).files name.now))
+            (IsWriteRefused self.old name.now at (length bytes.now)
+            ⊎ (IsTrue D.tells → IsAbsent (told_of self.old).files name.now))
             (IsRefused self.old name.now) D.seen self.old.disk self.new.disk result }
     {
         let plain = self.enter(name)?;
@@ -120,9 +125,9 @@ impl<D: Disk> Journal<D> {
         Ok(())
     }
 
-    /// Makes an empty file of this name, in place of the one that was there. A plain one is recovered first, where it is not
-    /// held, so its undo file changes nothing of the new one; it is not journaled, and until it is synced a stop may leave any
-    /// bytes in it. No name is held then.
+    /// Makes an empty file of this name, in place of the one that was there. A plain one is recovered first, where it
+    /// is not held, so its undo file changes nothing of the new one; it is not journaled, and until it is synced a stop
+    /// may leave any bytes in it. No name is held then.
     pub(crate) fn create(&mut self, name: &str) -> Result<(), StoreFault>
         ensures ok { OnOk result (IsTrue D.tells
             → (told_of self.new).files ≡ with_file (told_of self.old).files name.now (Some [])) }
@@ -180,8 +185,8 @@ impl<D: Disk> Journal<D> {
         Ok(())
     }
 
-    /// Gives a file whose name is new a plain name, whose file is recovered first. A call that is refused touches nothing. No
-    /// name is held then.
+    /// Gives a file whose name is new a plain name, whose file is recovered first. A call that is refused touches
+    /// nothing. No name is held then.
     pub(crate) fn rename(&mut self, from: &str, to: &str) -> Result<(), StoreFault>
         requires { from.now ≢ to.now }
         ensures ok { OnOk result (IsTrue D.tells
@@ -191,10 +196,13 @@ impl<D: Disk> Journal<D> {
         ensures absent { OnOk result (IsTrue D.tells → (told_of self.old).files from.now ≡ None
             → AddsNone (told_of self.old).unsynced (told_of self.new).unsynced) }
         ensures fault { OnErr result (IsTrue D.tells → (told_of self.new).files ≡ (told_of self.old).files) }
-        ensures names { IsTrue D.tells → KeepsOtherTwo from.now to.now (told_of self.old).unsynced (told_of self.new).unsynced }
-        ensures moments { IsTrue D.tells → ReplacesFile from.now to.now (told_of self.old).unsynced (told_of self.old).files
+        ensures names { IsTrue D.tells
+            → KeepsOtherTwo from.now to.now (told_of self.old).unsynced (told_of self.new).unsynced }
+        ensures moments { IsTrue D.tells
+            → ReplacesFile from.now to.now (told_of self.old).unsynced (told_of self.old).files
             (disk_of self.old) (disk_of self.new) result }
-        ensures refuses { RefusesFor (IsRenameRefused self.old from.now to.now) D.seen self.old.disk self.new.disk result }
+        ensures refuses { RefusesFor (IsRenameRefused self.old from.now to.now) D.seen self.old.disk
+            self.new.disk result }
     {
         if kind_of(from) != NameKind::New || kind_of(to) != NameKind::Plain {
             return Err(StoreFault);

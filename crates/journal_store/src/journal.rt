@@ -27,7 +27,8 @@ pub(crate) struct Journal<D: Disk> {
     pub(crate) ranges: ArrayVec<KeptRange, 12>,
     ghost plain: { kind_of name.bytes ≡ Plain },
     ghost settled: { IsTrue D.tells → IsTrue ready
-        → IsRecovered name.bytes (undo_name name.bytes) ((D.seen disk).files name.bytes) (D.seen disk) } by { Prim.hlevel props },
+        → IsRecovered name.bytes (undo_name name.bytes) ((D.seen disk).files name.bytes)
+        (D.seen disk) } by { Prim.hlevel props },
     ghost there: { IsTrue D.tells → 1 ≤ length ranges.items → IsSome ((D.seen disk).files name.bytes) },
 }
 
@@ -36,7 +37,8 @@ impl<D: Disk> Journal<D> {
     ghost use Rattle.std.specs.Str.{bytes_eq};
     ghost use Rattle.edit_journal.specs.Keeps.{CountsFaults};
     ghost use Rattle.journal_store.specs.Calls.{CommitsFile, CommitsNothing, RecoversFile, RefusesFor};
-    ghost use Rattle.journal_store.specs.JournalStore.{Holds, IsPending, IsRefused, IsSecond, KeepsAny, KeepsSame, disk_of, told_of};
+    ghost use Rattle.journal_store.specs.JournalStore.{Holds, IsPending, IsRefused, IsSecond, KeepsAny, KeepsSame};
+    ghost use Rattle.journal_store.specs.JournalStore.{disk_of, told_of};
     ghost use Rattle.journal_store.specs.Kinds.{is_new};
     ghost use Rattle.journal_store.specs.Told.{LooksAtName};
     ghost use Rattle.outside.specs.Unsynced.{with_name};

@@ -1,6 +1,7 @@
 //! A store over a disk.
 
-ghost use Rattle.std.specs.Prelude.{List, ℕ, ◌≡◌, ◌≢◌, ◌⊎◌, ◌↔◌, ◌^◌, ◌≤◌, ◌∷◌, [], None, Some, length, option_map, take, false, true, IfOk, IsSome, IsTrue, OnErr, OnOk, is_ok};
+ghost use Rattle.std.specs.Prelude.{List, ℕ, ◌≡◌, ◌≢◌, ◌⊎◌, ◌↔◌, ◌^◌, ◌≤◌, ◌∷◌, [], None, Some, length, option_map};
+ghost use Rattle.std.specs.Prelude.{take, false, true, IfOk, IsSome, IsTrue, OnErr, OnOk, is_ok};
 ghost use Rattle.edit_journal.specs.Keeps.{CountsFaults};
 ghost use Rattle.journal_store.specs.Kinds.{is_new, kind_of};
 ghost use Rattle.journal_store.specs.Told.{told_files, told_names};
@@ -24,9 +25,9 @@ use outside::{Store, StoreFault};
 /// ending `.new`.
 ///
 /// A call is refused where the disk failed in it, and besides where the name has no file so, where a plain name is used
-/// while ranges are kept for another one, where a range would be the thirteenth or has a byte in common with a kept one,
-/// where bytes are written into a plain file that is not there, where a file of which ranges are kept is made anew or
-/// replaced, and where a file is renamed that is not one under `.new` that gets a plain name.
+/// while ranges are kept for another one, where a range would be the thirteenth or has a byte in common with a kept
+/// one, where bytes are written into a plain file that is not there, where a file of which ranges are kept is made anew
+/// or replaced, and where a file is renamed that is not one under `.new` that gets a plain name.
 #[derive(Drop)]
 pub struct JournalStore<D: Disk> {
     journal: Journal<D>,
@@ -48,7 +49,8 @@ fn count_fault<T>(faults: &mut u64, done: &Result<T, StoreFault>)
 
 impl<D: Disk> JournalStore<D> {
     ghost use Rattle.journal_store.specs.Calls.{CommitsFile, CountsRefusal, RecoversFile, RefusesFor};
-    ghost use Rattle.journal_store.specs.JournalStore.{IsPending, IsRefused, KeepsSame, disk_in, disk_seen, inside, store_seen};
+    ghost use Rattle.journal_store.specs.JournalStore.{IsPending, IsRefused, KeepsSame, disk_in, disk_seen, inside};
+    ghost use Rattle.journal_store.specs.JournalStore.{store_seen};
 
     /// A store over this disk. It holds no name.
     pub fn new(disk: D) -> Self
@@ -82,8 +84,8 @@ impl<D: Disk> JournalStore<D> {
         self.journal.is_pending(name)
     }
 
-    /// Writes the ranges that are kept for a file into it, in place, so that a stop at any moment leaves the file of before
-    /// or the new one. Where an earlier commit of it was refused, the file is recovered first.
+    /// Writes the ranges that are kept for a file into it, in place, so that a stop at any moment leaves the file of
+    /// before or the new one. Where an earlier commit of it was refused, the file is recovered first.
     ///
     /// # Errors
     ///
@@ -107,13 +109,13 @@ impl<D: Disk> JournalStore<D> {
         done
     }
 
-    /// Recovers a file, and holds its name: it is, in whatever a stop may leave then, what its undo file says that it was,
-    /// or as it was where the undo file says nothing, and its gate is closed. What is kept stays kept.
+    /// Recovers a file, and holds its name: it is, in whatever a stop may leave then, what its undo file says that it
+    /// was, or as it was where the undo file says nothing, and its gate is closed. What is kept stays kept.
     ///
     /// # Errors
     ///
-    /// The name has no file, ranges are kept for another one, or the disk failed. No name is held then, unless ranges are
-    /// kept.
+    /// The name has no file, ranges are kept for another one, or the disk failed. No name is held then, unless ranges
+    /// are kept.
     pub fn recover(&mut self, name: &str) -> Result<(), StoreFault>
         requires { is_new name.now ≡ false }
         ensures cause { OnErr result (Rose (store_seen self.old).faults (store_seen self.new).faults) }
@@ -121,7 +123,8 @@ impl<D: Disk> JournalStore<D> {
         ensures reads { (store_seen self.new).reads ≡ (store_seen self.old).reads }
         ensures moments { IsTrue D.tells → RecoversFile name.now (disk_seen self.old) (disk_seen self.new) result }
         ensures kept { KeepsSame (inside self.old) (inside self.new) }
-        ensures refuses { RefusesFor (IsRefused (inside self.old) name.now) D.seen (disk_in self.old) (disk_in self.new) result }
+        ensures refuses { RefusesFor (IsRefused (inside self.old) name.now) D.seen (disk_in self.old)
+            (disk_in self.new) result }
         ensures own { CountsRefusal result (store_seen self.old).faults (store_seen self.new).faults }
     {
         let done = self.journal.recover(name);
@@ -131,9 +134,11 @@ impl<D: Disk> JournalStore<D> {
 }
 
 impl<D: Disk> Store for JournalStore<D> {
-    ghost use Rattle.journal_store.specs.Calls.{CommitsNothing, CountsRefusal, MakesFile, Refuses, RefusesFor, ReplacesFile, SyncsFile};
+    ghost use Rattle.journal_store.specs.Calls.{CommitsNothing, CountsRefusal, MakesFile, Refuses, RefusesFor};
+    ghost use Rattle.journal_store.specs.Calls.{ReplacesFile, SyncsFile};
     ghost use Rattle.journal_store.specs.Commits.{Commits, commits_then, nothing_commits};
-    ghost use Rattle.journal_store.specs.JournalStore.{IsAbsent, IsRefused, IsRenameRefused, IsReplaceRefused, IsWriteRefused, disk_in, disk_seen, inside, store_seen};
+    ghost use Rattle.journal_store.specs.JournalStore.{IsAbsent, IsRefused, IsRenameRefused, IsReplaceRefused};
+    ghost use Rattle.journal_store.specs.JournalStore.{IsWriteRefused, disk_in, disk_seen, inside, store_seen};
 
     ghost tells = { D.tells };
 
@@ -147,13 +152,15 @@ impl<D: Disk> Store for JournalStore<D> {
         commits_then one two (disk_seen first) (disk_seen between) (disk_seen last) (former told) (latter told) };
 
     fn size(&mut self, name: &str) -> Result<Option<u64>, StoreFault>
-        ensures found { IfOk result (λ found. IsTrue D.tells → found ≡ option_map length ((store_seen self.old).files name.now)) }
+        ensures found { IfOk result
+            (λ found. IsTrue D.tells → found ≡ option_map length ((store_seen self.old).files name.now)) }
         ensures cause { OnErr result (Rose (store_seen self.old).faults (store_seen self.new).faults) }
         ensures leaves { OnlyReads (is_ok result) name.now (store_seen self.old) (store_seen self.new) }
         ensures reads { (store_seen self.new).reads ≡ (store_seen self.old).reads }
         ensures commits { IsTrue D.tells → Commits [] (disk_seen self.old) (disk_seen self.new) }
         ensures moments { IsTrue D.tells → CommitsNothing name.now (disk_seen self.old) (disk_seen self.new) }
-        ensures refuses { RefusesFor (IsRefused (inside self.old) name.now) D.seen (disk_in self.old) (disk_in self.new) result }
+        ensures refuses { RefusesFor (IsRefused (inside self.old) name.now) D.seen (disk_in self.old)
+            (disk_in self.new) result }
         ensures own { CountsRefusal result (store_seen self.old).faults (store_seen self.new).faults }
     {
         let done = self.journal.size(name);
@@ -173,7 +180,8 @@ impl<D: Disk> Store for JournalStore<D> {
         ensures reads { (store_seen self.new).reads ≡ counted (store_seen self.old).reads }
         ensures commits { IsTrue D.tells → Commits [] (disk_seen self.old) (disk_seen self.new) }
         ensures moments { IsTrue D.tells → CommitsNothing name.now (disk_seen self.old) (disk_seen self.new) }
-        ensures refuses { RefusesFor (IsRefused (inside self.old) name.now) D.seen (disk_in self.old) (disk_in self.new) result }
+        ensures refuses { RefusesFor (IsRefused (inside self.old) name.now) D.seen (disk_in self.old)
+            (disk_in self.new) result }
         ensures own { CountsRefusal result (store_seen self.old).faults (store_seen self.new).faults }
     {
         self.reads = self.reads.saturating_add(1);
@@ -211,8 +219,9 @@ impl<D: Disk> Store for JournalStore<D> {
         done
     }
 
-    /// Makes an empty file, as `Store` says. One of a plain name is recovered first where it is not held, an absent one too,
-    /// so that no recovery changes the new one. It is not journaled: until it is synced a stop may leave any bytes in it.
+    /// Makes an empty file, as `Store` says. One of a plain name is recovered first where it is not held, an absent one
+    /// too, so that no recovery changes the new one. It is not journaled: until it is synced a stop may leave any bytes
+    /// in it.
     fn create(&mut self, name: &str) -> Result<(), StoreFault>
         ensures ok { OnOk result (IsTrue D.tells
             → (store_seen self.new).files ≡ with_file (store_seen self.old).files name.now (Some [])) }
@@ -226,7 +235,8 @@ impl<D: Disk> Store for JournalStore<D> {
         ensures commits { (base : List ℕ) → name.now ≡ replacement_name base → IsTrue D.tells
             → Commits [] (disk_seen self.old) (disk_seen self.new) }
         ensures moments { IsTrue D.tells → MakesFile name.now (disk_seen self.old) (disk_seen self.new) result }
-        ensures refuses { Refuses (IsReplaceRefused (inside self.old) name.now) (IsReplaceRefused (inside self.old) name.now)
+        ensures refuses { Refuses (IsReplaceRefused (inside self.old) name.now)
+            (IsReplaceRefused (inside self.old) name.now)
             (IsRefused (inside self.old) name.now) D.seen (disk_in self.old) (disk_in self.new) result }
         ensures own { CountsRefusal result (store_seen self.old).faults (store_seen self.new).faults }
     {
@@ -247,7 +257,8 @@ impl<D: Disk> Store for JournalStore<D> {
             → Commits [] (disk_seen self.old) (disk_seen self.new) }
         ensures moments { IsTrue D.tells
             → SyncsFile name.now (store_seen self.old).files (disk_seen self.old) (disk_seen self.new) result }
-        ensures refuses { RefusesFor (IsRefused (inside self.old) name.now) D.seen (disk_in self.old) (disk_in self.new) result }
+        ensures refuses { RefusesFor (IsRefused (inside self.old) name.now) D.seen (disk_in self.old)
+            (disk_in self.new) result }
         ensures own { CountsRefusal result (store_seen self.old).faults (store_seen self.new).faults }
     {
         let done = self.journal.sync(name);
@@ -255,8 +266,8 @@ impl<D: Disk> Store for JournalStore<D> {
         done
     }
 
-    /// Gives a file another name, as `Store` says, once the file that has that name is recovered, an absent one too. A call
-    /// that is refused so touches nothing.
+    /// Gives a file another name, as `Store` says, once the file that has that name is recovered, an absent one too. A
+    /// call that is refused so touches nothing.
     fn rename(&mut self, from: &str, to: &str) -> Result<(), StoreFault>
         requires { from.now ≢ to.now }
         ensures ok { OnOk result (IsTrue D.tells
@@ -270,10 +281,13 @@ impl<D: Disk> Store for JournalStore<D> {
         ensures leaves { ChangesTwo from.now to.now (store_seen self.old) (store_seen self.new) }
         ensures writes { (store_seen self.new).writes ≡ (store_seen self.old).writes }
         ensures commits { (store_seen self.old).unsynced from.now ≡ false → IsTrue D.tells
-            → Commits (with_new_name (store_seen self.old).files from.now to.now ∷ []) (disk_seen self.old) (disk_seen self.new) }
-        ensures moments { IsTrue D.tells → ReplacesFile from.now to.now (store_seen self.old).unsynced (store_seen self.old).files
+            → Commits (with_new_name (store_seen self.old).files from.now to.now ∷ []) (disk_seen self.old)
+            (disk_seen self.new) }
+        ensures moments { IsTrue D.tells
+            → ReplacesFile from.now to.now (store_seen self.old).unsynced (store_seen self.old).files
             (disk_seen self.old) (disk_seen self.new) result }
-        ensures refuses { RefusesFor (IsRenameRefused (inside self.old) from.now to.now) D.seen (disk_in self.old) (disk_in self.new) result }
+        ensures refuses { RefusesFor (IsRenameRefused (inside self.old) from.now to.now) D.seen (disk_in self.old)
+            (disk_in self.new) result }
         ensures own { CountsRefusal result (store_seen self.old).faults (store_seen self.new).faults }
     {
         let done = self.journal.rename(from, to);

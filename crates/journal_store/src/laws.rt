@@ -14,8 +14,8 @@ use crate::JournalStore;
 use disk::Disk;
 use outside::Store;
 
-/// Where each image recovers a file to the one that is told, whatever a stop leaves at any moment of the calls that follow
-/// recovers to that file too, or to the one of a world that these calls committed.
+/// Where each image recovers a file to the one that is told, whatever a stop leaves at any moment of the calls that
+/// follow recovers to that file too, or to the one of a world that these calls committed.
 pub fn a_stop_leaves_what_was_committed<D: Disk>(old: &JournalStore<D>, new: &JournalStore<D>)
     ensures { (worlds : List World) (name : List ℕ) (image : World) → IsTrue D.tells → kind_of name ≡ Plain
         → EachImage (λ before. recovered (before name) (before (undo_name name)) ≡ (store_seen old.now).files name)

@@ -1,6 +1,7 @@
 //! What is read of a file over which kept ranges are laid.
 
-ghost use Rattle.std.specs.Prelude.{◌≡◌, ◌<◌, ◌≤◌, ◌+◌, ◌-◌, ◌^◌, List, ℕ, length, min, option_map, slice_index, take, unwrap_or, IfOk, IsTrue};
+ghost use Rattle.std.specs.Prelude.{◌≡◌, ◌<◌, ◌≤◌, ◌+◌, ◌-◌, ◌^◌, List, ℕ, length, min, option_map, slice_index, take};
+ghost use Rattle.std.specs.Prelude.{unwrap_or, IfOk, IsTrue};
 ghost use Rattle.edit_journal.specs.Keeps.{OnlyLooks};
 ghost use Rattle.edit_journal.specs.ByteRanges.{laid, range_of, ranges_of, with_laid};
 ghost use Rattle.journal_store.specs.Overlap.{overlaps, overlaps_any};
@@ -130,9 +131,11 @@ pub(crate) fn laid_read<D: Disk>(
     requires { length buf.old ≤ 1024 }
     ensures fits { IfOk result (λ count. count ≤ length buf.new) }
     ensures count { IfOk result (λ count. IsTrue D.tells → count
-        ≡ length (bytes_from (option_map (laid (ranges_of ranges.now)) ((D.seen disk.old).files name.now)) at (length buf.old))) }
+        ≡ length (bytes_from (option_map (laid (ranges_of ranges.now)) ((D.seen disk.old).files name.now)) at
+        (length buf.old))) }
     ensures bytes { IfOk result (λ count. IsTrue D.tells → take count buf.new
-        ≡ bytes_from (option_map (laid (ranges_of ranges.now)) ((D.seen disk.old).files name.now)) at (length buf.old)) }
+        ≡ bytes_from (option_map (laid (ranges_of ranges.now)) ((D.seen disk.old).files name.now)) at
+        (length buf.old)) }
     ensures looks { OnlyLooks (D.seen disk.old) (D.seen disk.new) result }
 {
     if ranges.is_empty() {

@@ -1,5 +1,6 @@
 -- What is seen of connections in memory.
-use Rattle.std.specs.Prelude.{◌≡◌, ◌≤◌, ℕ, ◌+◌, Bool, false, true, List, [], ◌++◌, length, map, drop, take, Option, None, Some, is_some, unwrap_or, if◌then◌else◌, refl}
+use Rattle.std.specs.Prelude.{◌≡◌, ◌≤◌, ℕ, ◌+◌, Bool, false, true, List, [], ◌++◌, length, map, drop, take, Option}
+use Rattle.std.specs.Prelude.{None, Some, is_some, unwrap_or, if◌then◌else◌, refl}
 use Rattle.std.specs.List.{slice_get}
 use Rattle.std.specs.Option.{option_map, option_to_list}
 use Rattle.std.proofs.Common.{sym, ap, arith, inl, inr}
@@ -56,10 +57,13 @@ connection_count seen = length seen.closed + length (option_to_list seen.current
 -- what was written on the connection at a place, in the order in which they come: nothing on those that are left
 abbrev pub written_at : ConnsSeen → (place : ℕ) → List ℕ
 written_at seen place =
-    unwrap_or (option_map (λ (connection : Connection). connection.written) (slice_get (seen.closed ++ option_to_list seen.current) place)) []
+    unwrap_or (option_map (λ (connection : Connection). connection.written)
+    (slice_get (seen.closed ++ option_to_list seen.current) place)) []
 
 -- the open one is told exactly where one is open
-pub told_where_open : (connections : List KeptConnection) (closed : ℕ) (is_open : Bool) → closed + (if is_open then 1 else 0) ≤ length connections → is_open ≡ is_some (current_of connections closed is_open)
+pub told_where_open : (connections : List KeptConnection) (closed : ℕ) (is_open : Bool)
+    → closed + (if is_open then 1 else 0) ≤ length connections
+    → is_open ≡ is_some (current_of connections closed is_open)
 told_where_open connections closed false within = refl
 told_where_open connections closed true within =
     elim (slice_get_cases (map connection_in connections) closed).1 [

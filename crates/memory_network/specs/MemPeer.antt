@@ -19,7 +19,8 @@ events_of given = map event_in given
 abbrev pub sent_in : List (Vec ℕ Global) → List (List ℕ)
 sent_in sent = map (λ (datagram : Vec ℕ Global). datagram.items) sent
 
--- the last start of a peer, kept as its port and as how many datagrams were sent and how many of these events were taken before
+-- the last start of a peer, kept as its port and as how many datagrams were sent and how many of these events were
+-- taken before
 abbrev pub last_start : List Event → Option LastStart → Option PeerStart
 last_start events None = None
 last_start events (Some kept) = Some (record { port = kept.port; sent = kept.sent; left = drop kept.taken events })

@@ -1,5 +1,6 @@
 ghost use Rattle.std.specs.Prelude.{◌≡◌, ◌≤◌, ◌++◌, ◌⊎◌, [], Some, length, take, OnOk, OnErr};
-ghost use Rattle.network.specs.Connections.{accepted, unread, with_failed_read, with_failed_write, with_taken, with_written};
+ghost use Rattle.network.specs.Connections.{accepted, unread, with_failed_read, with_failed_write, with_taken};
+ghost use Rattle.network.specs.Connections.{with_written};
 ghost use Rattle.memory_network.specs.KeptConnection.{arrival_in, connection_in};
 
 use std::alloc::AllocError;
@@ -64,7 +65,8 @@ impl KeptConnection {
     pub fn read(&mut self, buf: &mut [u8]) -> usize
         ensures fits { result ≤ length buf.new }
         ensures taken { connection_in self.new ≡ with_taken result (connection_in self.old) }
-        ensures bytes { unread (Some (connection_in self.old)) ≡ take result buf.new ++ unread (Some (connection_in self.new)) }
+        ensures bytes { unread (Some (connection_in self.old))
+            ≡ take result buf.new ++ unread (Some (connection_in self.new)) }
         ensures end { result ≡ 0 → (length buf.old ≡ 0) ⊎ (unread (Some (connection_in self.old)) ≡ []) }
     {
         let left = self.unread();

@@ -1,4 +1,5 @@
-ghost use Rattle.std.specs.Prelude.{◌≡◌, ◌≤◌, ◌<◌, ◌+◌, ◌↔◌, ◌⊎◌, ◌++◌, [], None, length, take, map, false, is_ok, if◌then◌else◌, Contains, IsErr, IsTrue, IfOk, OnOk, OnErr};
+ghost use Rattle.std.specs.Prelude.{◌≡◌, ◌≤◌, ◌<◌, ◌+◌, ◌↔◌, ◌⊎◌, ◌++◌, [], None, length, take, map, false, is_ok};
+ghost use Rattle.std.specs.Prelude.{if◌then◌else◌, Contains, IsErr, IsTrue, IfOk, OnOk, OnErr};
 ghost use Rattle.outside.specs.Count.{Rose, counted};
 ghost use Rattle.memory_objects.specs.InMemory.{new_plan};
 ghost use Rattle.memory_network.specs.KeptConnection.{arrival_in, arrivals_of};
@@ -17,8 +18,8 @@ struct LastListen {
     accepted: usize,
 }
 
-/// Connections in memory, which tell those that are left, the open one, the closed ones and how it listened. They can be
-/// made to fail at given calls. Where there is no memory for what is written, that write has failed too.
+/// Connections in memory, which tell those that are left, the open one, the closed ones and how it listened. They can
+/// be made to fail at given calls. Where there is no memory for what is written, that write has failed too.
 #[derive(Debug, Drop)]
 pub struct MemConns {
     connections: Vec<KeptConnection>,
@@ -59,7 +60,8 @@ fn keep_all(
 }
 
 impl MemConns {
-    ghost use Rattle.memory_network.specs.MemConns.{accepted_count, connection_count, listen_port, mem_conns_plan, mem_conns_seen, written_at};
+    ghost use Rattle.memory_network.specs.MemConns.{accepted_count, connection_count, listen_port, mem_conns_plan};
+    ghost use Rattle.memory_network.specs.MemConns.{mem_conns_seen, written_at};
 
     /// Connections that come one after another, each at its moment and with its bytes. The calls of `listen`, `accept`,
     /// `read` and `write` whose numbers, from 1 on, stand in `failing` fail.
@@ -146,7 +148,9 @@ impl MemConns {
 impl Conns for MemConns {
     ghost use Rattle.std.specs.Prelude.{true};
     ghost use Rattle.std.specs.Option.{option_map};
-    ghost use Rattle.network.specs.Connections.{AcceptsNext, ChangesCurrent, ClosesCurrent, FailsToWrite, KeepsConnections, KeepsListening, listened_at, unread, with_failed_read, with_taken, with_written};
+    ghost use Rattle.network.specs.Connections.{AcceptsNext, ChangesCurrent, ClosesCurrent, FailsToWrite};
+    ghost use Rattle.network.specs.Connections.{KeepsConnections, KeepsListening, listened_at, unread};
+    ghost use Rattle.network.specs.Connections.{with_failed_read, with_taken, with_written};
     ghost use Rattle.memory_network.specs.MemConns.{mem_conns_plan, mem_conns_seen, told_where_open};
 
     ghost tells = { true };
@@ -162,13 +166,16 @@ impl Conns for MemConns {
             ↔ Contains (mem_conns_plan self.old).failing (counted (mem_conns_plan self.old).calls) }
         ensures plan { mem_conns_plan self.new
             ≡ record (mem_conns_plan self.old) { calls = counted (mem_conns_plan self.old).calls } }
-        ensures listened { OnOk result ((mem_conns_seen self.new).listened ≡ listened_at (mem_conns_seen self.old) port) }
+        ensures listened { OnOk result
+            ((mem_conns_seen self.new).listened ≡ listened_at (mem_conns_seen self.old) port) }
         ensures fault { OnErr result ((mem_conns_seen self.new).listened ≡ (mem_conns_seen self.old).listened) }
         ensures leaves { KeepsConnections (mem_conns_seen self.old) (mem_conns_seen self.new) }
         ensures open_as_before { self.new.is_open ≡ self.old.is_open }
-        ensures faults { (mem_conns_seen self.new).listener_faults ≡ (if is_ok result then (mem_conns_seen self.old).listener_faults
+        ensures faults { (mem_conns_seen self.new).listener_faults
+            ≡ (if is_ok result then (mem_conns_seen self.old).listener_faults
             else counted (mem_conns_seen self.old).listener_faults) }
-        ensures cause { OnErr result (Rose (mem_conns_seen self.old).listener_faults (mem_conns_seen self.new).listener_faults) }
+        ensures cause { OnErr result
+            (Rose (mem_conns_seen self.old).listener_faults (mem_conns_seen self.new).listener_faults) }
     {
         if self.failures.next_fails() {
             count_fault(&mut self.listener_faults);
@@ -190,15 +197,18 @@ impl Conns for MemConns {
         ensures plan { mem_conns_plan self.new
             ≡ record (mem_conns_plan self.old) { calls = counted (mem_conns_plan self.old).calls } }
         ensures opens { self.new.is_open ≡ is_ok result }
-        ensures accepted { IfOk result (λ moment. AcceptsNext moment (mem_conns_seen self.old) (mem_conns_seen self.new)) }
+        ensures accepted { IfOk result
+            (λ moment. AcceptsNext moment (mem_conns_seen self.old) (mem_conns_seen self.new)) }
         ensures fault { OnErr result ((mem_conns_seen self.new).left ≡ (mem_conns_seen self.old).left) }
         ensures closed { (mem_conns_seen self.new).closed ≡ (mem_conns_seen self.old).closed }
         ensures leaves { KeepsListening (mem_conns_seen self.old) (mem_conns_seen self.new) }
         ensures connection_faults { (mem_conns_seen self.new).connection_faults
             ≡ (mem_conns_seen self.old).connection_faults }
-        ensures faults { (mem_conns_seen self.new).listener_faults ≡ (if is_ok result then (mem_conns_seen self.old).listener_faults
+        ensures faults { (mem_conns_seen self.new).listener_faults
+            ≡ (if is_ok result then (mem_conns_seen self.old).listener_faults
             else counted (mem_conns_seen self.old).listener_faults) }
-        ensures cause { OnErr result (Rose (mem_conns_seen self.old).listener_faults (mem_conns_seen self.new).listener_faults) }
+        ensures cause { OnErr result
+            (Rose (mem_conns_seen self.old).listener_faults (mem_conns_seen self.new).listener_faults) }
     {
         if self.failures.next_fails() {
             count_fault(&mut self.listener_faults);
@@ -230,9 +240,11 @@ impl Conns for MemConns {
             ≡ option_map with_failed_read (mem_conns_seen self.old).current) }
         ensures leaves { ChangesCurrent (mem_conns_seen self.old) (mem_conns_seen self.new) }
         ensures open_as_before { self.new.is_open ≡ self.old.is_open }
-        ensures faults { (mem_conns_seen self.new).connection_faults ≡ (if is_ok result then (mem_conns_seen self.old).connection_faults
+        ensures faults { (mem_conns_seen self.new).connection_faults
+            ≡ (if is_ok result then (mem_conns_seen self.old).connection_faults
             else counted (mem_conns_seen self.old).connection_faults) }
-        ensures cause { OnErr result (Rose (mem_conns_seen self.old).connection_faults (mem_conns_seen self.new).connection_faults) }
+        ensures cause { OnErr result
+            (Rose (mem_conns_seen self.old).connection_faults (mem_conns_seen self.new).connection_faults) }
     {
         if self.failures.next_fails() {
             self.connections[self.closed].fail_read();
@@ -250,12 +262,15 @@ impl Conns for MemConns {
             ≡ record (mem_conns_plan self.old) { calls = counted (mem_conns_plan self.old).calls } }
         ensures written { OnOk result ((mem_conns_seen self.new).current
             ≡ option_map (with_written bytes.now) (mem_conns_seen self.old).current) }
-        ensures fault { OnErr result (FailsToWrite bytes.now (mem_conns_seen self.old).current (mem_conns_seen self.new).current) }
+        ensures fault { OnErr result
+            (FailsToWrite bytes.now (mem_conns_seen self.old).current (mem_conns_seen self.new).current) }
         ensures leaves { ChangesCurrent (mem_conns_seen self.old) (mem_conns_seen self.new) }
         ensures open_as_before { self.new.is_open ≡ self.old.is_open }
-        ensures faults { (mem_conns_seen self.new).connection_faults ≡ (if is_ok result then (mem_conns_seen self.old).connection_faults
+        ensures faults { (mem_conns_seen self.new).connection_faults
+            ≡ (if is_ok result then (mem_conns_seen self.old).connection_faults
             else counted (mem_conns_seen self.old).connection_faults) }
-        ensures cause { OnErr result (Rose (mem_conns_seen self.old).connection_faults (mem_conns_seen self.new).connection_faults) }
+        ensures cause { OnErr result
+            (Rose (mem_conns_seen self.old).connection_faults (mem_conns_seen self.new).connection_faults) }
     {
         if self.failures.next_fails() {
             self.connections[self.closed].fail_write();
@@ -276,8 +291,10 @@ impl Conns for MemConns {
         ensures closed { ClosesCurrent (mem_conns_seen self.old) (mem_conns_seen self.new) }
         ensures left { (mem_conns_seen self.new).left ≡ (mem_conns_seen self.old).left }
         ensures listened { (mem_conns_seen self.new).listened ≡ (mem_conns_seen self.old).listened }
-        ensures listener_faults { (mem_conns_seen self.new).listener_faults ≡ (mem_conns_seen self.old).listener_faults }
-        ensures connection_faults { (mem_conns_seen self.new).connection_faults ≡ (mem_conns_seen self.old).connection_faults }
+        ensures listener_faults { (mem_conns_seen self.new).listener_faults
+            ≡ (mem_conns_seen self.old).listener_faults }
+        ensures connection_faults { (mem_conns_seen self.new).connection_faults
+            ≡ (mem_conns_seen self.old).connection_faults }
         ensures plan { mem_conns_plan self.new ≡ mem_conns_plan self.old }
     {
         if self.is_open {

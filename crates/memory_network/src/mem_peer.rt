@@ -1,4 +1,5 @@
-ghost use Rattle.std.specs.Prelude.{◌≡◌, ◌≤◌, ◌↔◌, ◌⊎◌, ◌∷◌, ◌++◌, List, [], None, Contains, IsErr, is_ok, if◌then◌else◌, IfOk, IfSome, OnOk, OnErr};
+ghost use Rattle.std.specs.Prelude.{◌≡◌, ◌≤◌, ◌↔◌, ◌⊎◌, ◌∷◌, ◌++◌, List, [], None, Contains, IsErr, is_ok};
+ghost use Rattle.std.specs.Prelude.{if◌then◌else◌, IfOk, IfSome, OnOk, OnErr};
 ghost use Rattle.outside.specs.Count.{Rose, counted};
 ghost use Rattle.memory_objects.specs.InMemory.{new_plan};
 ghost use Rattle.network.specs.Events.{Event, KeepsStart, TakesEvent, peer_started_at};
@@ -19,8 +20,8 @@ struct LastStart {
     taken: usize,
 }
 
-/// A peer in memory, which tells the events that are left, the datagrams that were sent and how it was started. It can be
-/// made to fail at given calls. Where it cannot get memory for what is sent, it has failed too.
+/// A peer in memory, which tells the events that are left, the datagrams that were sent and how it was started. It can
+/// be made to fail at given calls. Where it cannot get memory for what is sent, it has failed too.
 #[derive(Debug, Drop)]
 pub struct MemPeer {
     events: Vec<Option<Vec<u8>>>,
@@ -38,7 +39,12 @@ impl MemPeer {
     /// calls whose numbers, from 1 on, stand in `failing` fail.
     pub fn new(events: Vec<Option<Vec<u8>>>, failing: Vec<u64>) -> Self
         ensures seen { ⟦<MemPeer as Peer>⟧.seen result
-            ≡ record { left = events_of events.items; sent = []; started = record { times = 0; last = None }; faults = 0 } }
+            ≡ record {
+              left = events_of events.items;
+              sent = [];
+              started = record { times = 0; last = None };
+              faults = 0;
+            } }
         ensures plan { mem_peer_plan result ≡ new_plan failing.items }
     {
         let sent = Vec::new(*events.allocator());
@@ -120,7 +126,8 @@ impl Peer for MemPeer {
             ↔ Contains (mem_peer_plan self.old).failing (counted (mem_peer_plan self.old).calls) }
         ensures plan { mem_peer_plan self.new
             ≡ record (mem_peer_plan self.old) { calls = counted (mem_peer_plan self.old).calls } }
-        ensures started { OnOk result ((mem_peer_seen self.new).started ≡ peer_started_at (mem_peer_seen self.old) port) }
+        ensures started { OnOk result
+            ((mem_peer_seen self.new).started ≡ peer_started_at (mem_peer_seen self.old) port) }
         ensures fault { OnErr result ((mem_peer_seen self.new).started ≡ (mem_peer_seen self.old).started) }
         ensures left { (mem_peer_seen self.new).left ≡ (mem_peer_seen self.old).left }
         ensures sent { (mem_peer_seen self.new).sent ≡ (mem_peer_seen self.old).sent }
@@ -169,12 +176,14 @@ impl Peer for MemPeer {
     fn receive(&mut self, buf: &mut [u8; 4096]) -> Result<Option<usize>, PeerFault>
         ensures planned { Contains (mem_peer_plan self.old).failing (counted (mem_peer_plan self.old).calls)
             → IsErr result }
-        ensures otherwise { IsErr result → (Contains (mem_peer_plan self.old).failing (counted (mem_peer_plan self.old).calls))
+        ensures otherwise { IsErr result
+            → (Contains (mem_peer_plan self.old).failing (counted (mem_peer_plan self.old).calls))
             ⊎ ((mem_peer_seen self.old).left ≡ []) }
         ensures plan { mem_peer_plan self.new
             ≡ record (mem_peer_plan self.old) { calls = counted (mem_peer_plan self.old).calls } }
         ensures fits { IfOk result (λ got. IfSome got (λ len. len ≤ 4096)) }
-        ensures taken { IfOk result (λ got. TakesEvent got buf.new (mem_peer_seen self.old).left (mem_peer_seen self.new).left) }
+        ensures taken { IfOk result
+            (λ got. TakesEvent got buf.new (mem_peer_seen self.old).left (mem_peer_seen self.new).left) }
         ensures fault { OnErr result ((mem_peer_seen self.new).left ≡ (mem_peer_seen self.old).left) }
         ensures sent { (mem_peer_seen self.new).sent ≡ (mem_peer_seen self.old).sent }
         ensures leaves { KeepsStart (mem_peer_seen self.old) (mem_peer_seen self.new) }

@@ -10,8 +10,8 @@ use Rattle.memory_objects.specs.declared.mem_sink.MemSink.{MemSink}
 use Rattle.memory_objects.specs.declared.mem_source.MemSource.{MemSource}
 use Rattle.memory_objects.specs.declared.mem_store.MemStore.{MemStore}
 
--- Which calls of an object in memory are to fail, by their numbers from 1, and how many calls there were, up to the last
--- value of a counter of 64 bits.
+-- Which calls of an object in memory are to fail, by their numbers from 1, and how many calls there were, up to the
+-- last value of a counter of 64 bits.
 pub record Plan : Type 0 where
   pub failing : List ℕ
   pub calls : ℕ

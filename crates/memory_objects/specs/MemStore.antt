@@ -12,7 +12,9 @@ NamedFile = String Global × Vec ℕ Global
 
 -- the first file of this name
 abbrev pub file_named : List NamedFile → World
-file_named files name = option_map (λ (file : NamedFile). file.1.items) (find (λ (file : NamedFile). bytes_eq (string_bytes file.0) name) files)
+file_named files name =
+    option_map (λ (file : NamedFile). file.1.items)
+    (find (λ (file : NamedFile). bytes_eq (string_bytes file.0) name) files)
 
 -- no two files have one name
 abbrev pub HaveDistinctNames : List NamedFile → Type 0

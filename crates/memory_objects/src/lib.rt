@@ -1,4 +1,5 @@
-//! The outside in memory: files, streams and datagrams that tell all that they have, and that fail where they are asked to.
+//! The outside in memory: files, streams and datagrams that tell all that they have, and that fail where they are asked
+//! to.
 //!
 //! Each object fails in the calls whose numbers it was given, counted from 1, and in no other call, unless there is not
 //! enough memory.

@@ -1,14 +1,16 @@
-ghost use Rattle.std.specs.Prelude.{◌≡◌, ◌≤◌, ◌↔◌, ◌⊎◌, ◌∷◌, ◌++◌, [], None, length, min, take, Contains, IsErr, is_ok, if◌then◌else◌, IfOk, OnOk, OnErr};
+ghost use Rattle.std.specs.Prelude.{◌≡◌, ◌≤◌, ◌↔◌, ◌⊎◌, ◌∷◌, ◌++◌, [], None, length, min, take, Contains, IsErr, is_ok};
+ghost use Rattle.std.specs.Prelude.{if◌then◌else◌, IfOk, OnOk, OnErr};
 ghost use Rattle.outside.specs.Count.{Rose, counted};
-ghost use Rattle.memory_objects.specs.InMemory.{answers_in, datagrams_of, mem_link_plan, mem_link_seen, new_plan, port_of};
+ghost use Rattle.memory_objects.specs.InMemory.{answers_in, datagrams_of, mem_link_plan, mem_link_seen, new_plan};
+ghost use Rattle.memory_objects.specs.InMemory.{port_of};
 ghost use Rattle.outside.specs.Seen.{Datagram, started_at};
 
 use crate::failures::Failures;
 use outside::{Got, Link, LinkFault};
 use std::alloc::AllocError;
 
-/// A link in memory, which tells the datagrams that are left, the answers that were sent and how it was started. It can be
-/// made to fail at given calls. Where it cannot get memory for an answer, it has failed too.
+/// A link in memory, which tells the datagrams that are left, the answers that were sent and how it was started. It can
+/// be made to fail at given calls. Where it cannot get memory for an answer, it has failed too.
 #[derive(Debug, Drop)]
 pub struct MemLink {
     datagrams: Vec<(Vec<u8>, u64)>,
@@ -27,7 +29,12 @@ impl MemLink {
     /// fail.
     pub fn new(datagrams: Vec<(Vec<u8>, u64)>, failing: Vec<u64>) -> Self
         ensures seen { ⟦<MemLink as Link>⟧.seen result
-            ≡ record { left = datagrams_of datagrams.items; answers = []; started = record { times = 0; last = None }; faults = 0 } }
+            ≡ record {
+              left = datagrams_of datagrams.items;
+              answers = [];
+              started = record { times = 0; last = None };
+              faults = 0;
+            } }
         ensures plan { mem_link_plan result ≡ new_plan failing.items }
     {
         let answers = Vec::new(*datagrams.allocator());
@@ -67,7 +74,8 @@ impl MemLink {
 
     /// Keeps an answer.
     fn keep(&mut self, bytes: &[u8]) -> Result<(), AllocError>
-        ensures ok { OnOk result (answers_in self.new.answers.items ≡ answers_in self.old.answers.items ++ bytes.now ∷ []) }
+        ensures ok { OnOk result
+            (answers_in self.new.answers.items ≡ answers_in self.old.answers.items ++ bytes.now ∷ []) }
         ensures err { OnErr result (answers_in self.new.answers.items ≡ answers_in self.old.answers.items) }
         ensures datagrams { self.new.datagrams.items ≡ self.old.datagrams.items }
         ensures taken { self.new.taken ≡ self.old.taken }
@@ -115,7 +123,8 @@ impl Link for MemLink {
     fn next(&mut self, buf: &mut [u8; 4096]) -> Result<Got, LinkFault>
         ensures planned { Contains (mem_link_plan self.old).failing (counted (mem_link_plan self.old).calls)
             → IsErr result }
-        ensures otherwise { IsErr result → (Contains (mem_link_plan self.old).failing (counted (mem_link_plan self.old).calls))
+        ensures otherwise { IsErr result
+            → (Contains (mem_link_plan self.old).failing (counted (mem_link_plan self.old).calls))
             ⊎ ((mem_link_seen self.old).left ≡ []) }
         ensures plan { mem_link_plan self.new
             ≡ record (mem_link_plan self.old) { calls = counted (mem_link_plan self.old).calls } }
@@ -156,7 +165,8 @@ impl Link for MemLink {
             → IsErr result }
         ensures plan { mem_link_plan self.new
             ≡ record (mem_link_plan self.old) { calls = counted (mem_link_plan self.old).calls } }
-        ensures sent { OnOk result ((mem_link_seen self.new).answers ≡ (mem_link_seen self.old).answers ++ bytes.now ∷ []) }
+        ensures sent { OnOk result
+            ((mem_link_seen self.new).answers ≡ (mem_link_seen self.old).answers ++ bytes.now ∷ []) }
         ensures fault { OnErr result ((mem_link_seen self.new).answers ≡ (mem_link_seen self.old).answers) }
         ensures left { (mem_link_seen self.new).left ≡ (mem_link_seen self.old).left }
         ensures started { (mem_link_seen self.new).started ≡ (mem_link_seen self.old).started }

@@ -1,4 +1,5 @@
-ghost use Rattle.std.specs.Prelude.{◌≡◌, ◌≢◌, ◌+◌, ◌<◌, ◌≤◌, ◌^◌, ◌↔◌, [], None, Some, length, take, true, false, Contains, IsErr, IsSome, IfOk, OnOk, OnErr, is_ok};
+ghost use Rattle.std.specs.Prelude.{◌≡◌, ◌≢◌, ◌+◌, ◌<◌, ◌≤◌, ◌^◌, ◌↔◌, [], None, Some, length, take, true, false};
+ghost use Rattle.std.specs.Prelude.{Contains, IsErr, IsSome, IfOk, OnOk, OnErr, is_ok};
 ghost use Rattle.std.specs.Option.{option_copied, option_map};
 ghost use Rattle.outside.specs.Count.{Rose, counted};
 ghost use Rattle.outside.specs.Frame.{ChangesOne, ChangesTwo, OnlyReads};
@@ -79,8 +80,10 @@ impl MemStore {
 
     fn write_file(&mut self, name: &str, at: usize, bytes: &[u8]) -> Result<(), AllocError>
         requires { at + length bytes.now < 2 ^ 63 }
-        ensures ok { OnOk result ((mem_store_seen self.new).files ≡ with_bytes (mem_store_seen self.old).files name.now at bytes.now) }
-        ensures unsynced { OnOk result ((mem_store_seen self.new).unsynced ≡ with_name (mem_store_seen self.old).unsynced name.now true) }
+        ensures ok { OnOk result
+            ((mem_store_seen self.new).files ≡ with_bytes (mem_store_seen self.old).files name.now at bytes.now) }
+        ensures unsynced { OnOk result
+            ((mem_store_seen self.new).unsynced ≡ with_name (mem_store_seen self.old).unsynced name.now true) }
         ensures fault { OnErr result ((mem_store_seen self.new).files ≡ (mem_store_seen self.old).files) }
         ensures leaves { ChangesOne name.now (mem_store_seen self.old) (mem_store_seen self.new) }
         ensures faults { (mem_store_seen self.new).faults ≡ (mem_store_seen self.old).faults }
@@ -92,8 +95,10 @@ impl MemStore {
     }
 
     fn create_file(&mut self, name: &str) -> Result<(), AllocError>
-        ensures ok { OnOk result ((mem_store_seen self.new).files ≡ with_file (mem_store_seen self.old).files name.now (Some [])) }
-        ensures unsynced { OnOk result ((mem_store_seen self.new).unsynced ≡ with_name (mem_store_seen self.old).unsynced name.now true) }
+        ensures ok { OnOk result
+            ((mem_store_seen self.new).files ≡ with_file (mem_store_seen self.old).files name.now (Some [])) }
+        ensures unsynced { OnOk result
+            ((mem_store_seen self.new).unsynced ≡ with_name (mem_store_seen self.old).unsynced name.now true) }
         ensures fault { OnErr result ((mem_store_seen self.new).files ≡ (mem_store_seen self.old).files) }
         ensures leaves { ChangesOne name.now (mem_store_seen self.old) (mem_store_seen self.new) }
         ensures faults { (mem_store_seen self.new).faults ≡ (mem_store_seen self.old).faults }
@@ -106,7 +111,8 @@ impl MemStore {
 
     fn rename_file(&mut self, from: &str, to: &str) -> Result<(), AllocError>
         requires { from.now ≢ to.now }
-        ensures ok { OnOk result ((mem_store_seen self.new).files ≡ with_new_name (mem_store_seen self.old).files from.now to.now) }
+        ensures ok { OnOk result
+            ((mem_store_seen self.new).files ≡ with_new_name (mem_store_seen self.old).files from.now to.now) }
         ensures unsynced { OnOk result (IsSome ((mem_store_seen self.old).files from.now)
             → (mem_store_seen self.new).unsynced ≡ with_handed (mem_store_seen self.old).unsynced from.now to.now) }
         ensures absent { OnOk result ((mem_store_seen self.old).files from.now ≡ None

@@ -30,7 +30,8 @@ impl NameSet {
 
     /// Puts a name into the set.
     pub fn add(&mut self, name: &str) -> Result<(), AllocError>
-        ensures ok { OnOk result (names_in self.new.names.items ≡ with_name (names_in self.old.names.items) name.now true) }
+        ensures ok { OnOk result
+            (names_in self.new.names.items ≡ with_name (names_in self.old.names.items) name.now true) }
         ensures err { OnErr result (names_in self.new.names.items ≡ names_in self.old.names.items) }
     {
         if self.contains(name) {

@@ -1,4 +1,5 @@
-ghost use Rattle.std.specs.Prelude.{◌≡◌, ◌≢◌, ◌+◌, ◌-◌, ◌<◌, ◌≤◌, ◌^◌, ◌++◌, [], length, take, drop, replicate, position, None, Some, IfOk, OnOk, OnErr};
+ghost use Rattle.std.specs.Prelude.{◌≡◌, ◌≢◌, ◌+◌, ◌-◌, ◌<◌, ◌≤◌, ◌^◌, ◌++◌, [], length, take, drop, replicate};
+ghost use Rattle.std.specs.Prelude.{position, None, Some, IfOk, OnOk, OnErr};
 ghost use Rattle.std.specs.Option.{option_copied, option_map};
 ghost use Rattle.std.specs.Str.{bytes_eq};
 ghost use Rattle.std.specs.String.{string_bytes};
@@ -44,14 +45,16 @@ impl NamedFiles {
     }
 
     fn position(&self, name: &str) -> Option<usize>
-        ensures { result ≡ position (λ (file : NamedFile). bytes_eq (string_bytes file.0) name.now) self.now.entries.items }
+        ensures { result
+            ≡ position (λ (file : NamedFile). bytes_eq (string_bytes file.0) name.now) self.now.entries.items }
     {
         self.entries.iter().position(|file| file.0.as_str() == name)
     }
 
     /// Makes a file empty that is there, or makes an empty one.
     pub fn create(&mut self, name: &str) -> Result<(), AllocError>
-        ensures ok { OnOk result (file_named self.new.entries.items ≡ with_file (file_named self.old.entries.items) name.now (Some [])) }
+        ensures ok { OnOk result
+            (file_named self.new.entries.items ≡ with_file (file_named self.old.entries.items) name.now (Some [])) }
         ensures err { OnErr result (file_named self.new.entries.items ≡ file_named self.old.entries.items) }
     {
         if let Some(place) = self.position(name) {
@@ -64,7 +67,9 @@ impl NamedFiles {
 
     fn add(&mut self, name: &str, bytes: Vec<u8>) -> Result<(), AllocError>
         requires { file_named self.old.entries.items name.now ≡ None }
-        ensures ok { OnOk result (file_named self.new.entries.items ≡ with_file (file_named self.old.entries.items) name.now (Some bytes.items)) }
+        ensures ok { OnOk result
+            (file_named self.new.entries.items
+            ≡ with_file (file_named self.old.entries.items) name.now (Some bytes.items)) }
         ensures err { OnErr result (file_named self.new.entries.items ≡ file_named self.old.entries.items) }
     {
         let name = String::from_str(*self.entries.allocator(), name)?;
@@ -75,7 +80,8 @@ impl NamedFiles {
     /// Writes bytes into a file at place `at`. A file that is not there is made, and a gap is filled with zeros.
     pub fn write(&mut self, name: &str, at: usize, bytes: &[u8]) -> Result<(), AllocError>
         requires { at + length bytes.now < 2 ^ 63 }
-        ensures ok { OnOk result (file_named self.new.entries.items ≡ with_bytes (file_named self.old.entries.items) name.now at bytes.now) }
+        ensures ok { OnOk result
+            (file_named self.new.entries.items ≡ with_bytes (file_named self.old.entries.items) name.now at bytes.now) }
         ensures err { OnErr result (file_named self.new.entries.items ≡ file_named self.old.entries.items) }
     {
         if let Some(place) = self.position(name) {
@@ -89,7 +95,8 @@ impl NamedFiles {
     /// Gives a file another name, in place of the file that had it.
     pub fn rename(&mut self, from: &str, to: &str) -> Result<(), AllocError>
         requires { from.now ≢ to.now }
-        ensures ok { OnOk result (file_named self.new.entries.items ≡ with_new_name (file_named self.old.entries.items) from.now to.now) }
+        ensures ok { OnOk result
+            (file_named self.new.entries.items ≡ with_new_name (file_named self.old.entries.items) from.now to.now) }
         ensures err { OnErr result (file_named self.new.entries.items ≡ file_named self.old.entries.items) }
     {
         if self.find(from).is_none() {
@@ -124,7 +131,9 @@ impl NamedFiles {
 
     /// Gives a name a file of these bytes, in place of the one that had it.
     pub fn put(&mut self, name: &str, bytes: &[u8]) -> Result<(), AllocError>
-        ensures { OnOk result (file_named self.new.entries.items ≡ with_file (file_named self.old.entries.items) name.now (Some bytes.now)) }
+        ensures { OnOk result
+            (file_named self.new.entries.items
+            ≡ with_file (file_named self.old.entries.items) name.now (Some bytes.now)) }
     {
         let copy = bytes.to_vec(*self.entries.allocator())?;
         self.remove(name);
@@ -141,7 +150,8 @@ impl NamedFiles {
 
     fn set_name(&mut self, from: &str, to: String)
         requires { file_named self.old.entries.items (string_bytes to) ≡ None }
-        ensures { file_named self.new.entries.items ≡ with_new_name (file_named self.old.entries.items) from.now (string_bytes to) }
+        ensures { file_named self.new.entries.items
+            ≡ with_new_name (file_named self.old.entries.items) from.now (string_bytes to) }
     {
         if let Some(place) = self.position(from) {
             self.entries[place].0 = to;

@@ -23,8 +23,8 @@ pub record Listen : Type 0 where
   pub port : ℕ
   pub left : List Arrival
 
--- How it listened: how often it began to, up to the last value of a counter of 64 bits, and how the last time, if ever it
--- did.
+-- How it listened: how often it began to, up to the last value of a counter of 64 bits, and how the last time, if ever
+-- it did.
 pub record Listened : Type 0 where
   pub times : ℕ
   pub last : Option Listen
@@ -103,8 +103,8 @@ pub record KeepsConnections (old new : ConnsSeen) : Type 0 where
   pub connection_faults : new.connection_faults ≡ old.connection_faults
   pub later : old.listener_faults ≤ new.listener_faults
 
--- What calls on the open connection leave: all others, how it listened, and the count of faults of `listen` and `accept`;
--- their own count does not fall.
+-- What calls on the open connection leave: all others, how it listened, and the count of faults of `listen` and
+-- `accept`; their own count does not fall.
 pub record ChangesCurrent (old new : ConnsSeen) : Type 0 where
   pub left : new.left ≡ old.left
   pub closed : new.closed ≡ old.closed

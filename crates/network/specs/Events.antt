@@ -12,7 +12,8 @@ pub record PeerStart : Type 0 where
   pub sent : ℕ
   pub left : List Event
 
--- How a peer was started: how often, up to the last value of a counter of 64 bits, and how the last time, if ever it was.
+-- How a peer was started: how often, up to the last value of a counter of 64 bits, and how the last time, if ever it
+-- was.
 pub record PeerStarted : Type 0 where
   pub times : ℕ
   pub last : Option PeerStart

@@ -1,7 +1,10 @@
-ghost use Rattle.std.specs.Prelude.{◌≡◌, ◌≤◌, ◌++◌, ◌⊎◌, Bool, [], false, is_ok, is_some, length, take, IsTrue, IfOk, OnOk, OnErr};
+ghost use Rattle.std.specs.Prelude.{◌≡◌, ◌≤◌, ◌++◌, ◌⊎◌, Bool, [], false, is_ok, is_some, length, take, IsTrue, IfOk};
+ghost use Rattle.std.specs.Prelude.{OnOk, OnErr};
 ghost use Rattle.std.specs.Option.{option_map};
 ghost use Rattle.outside.specs.Count.{Rose};
-ghost use Rattle.network.specs.Connections.{AcceptsNext, ChangesCurrent, ClosesCurrent, ConnsSeen, FailsToWrite, KeepsConnections, KeepsListening, listened_at, unread, with_failed_read, with_taken, with_written};
+ghost use Rattle.network.specs.Connections.{AcceptsNext, ChangesCurrent, ClosesCurrent, ConnsSeen, FailsToWrite};
+ghost use Rattle.network.specs.Connections.{KeepsConnections, KeepsListening, listened_at, unread, with_failed_read};
+ghost use Rattle.network.specs.Connections.{with_taken, with_written};
 
 /// A call on connections failed.
 #[derive(Clone, Copy, Debug, PartialEq, Eq)]
@@ -18,8 +21,8 @@ pub trait Conns {
     /// Whether a connection is open, which every object tells.
     ghost is_open: { Self → Bool };
 
-    /// The connections that are left, the open one, the closed ones and how it listened, which count only where the object
-    /// tells them, and the two counts of faults.
+    /// The connections that are left, the open one, the closed ones and how it listened, which count only where the
+    /// object tells them, and the two counts of faults.
     ghost seen: { Self → ConnsSeen };
 
     /// Begins to listen for connections to this port; 0 stands for a port that the system chooses.
@@ -49,8 +52,8 @@ pub trait Conns {
         ensures connection_faults { (seen self.new).connection_faults ≡ (seen self.old).connection_faults }
         ensures cause { OnErr result (Rose (seen self.old).listener_faults (seen self.new).listener_faults) };
 
-    /// Takes bytes of the open connection into `buf`, and answers how many: at least one where `buf` has room for one and
-    /// the other side has not ended.
+    /// Takes bytes of the open connection into `buf`, and answers how many: at least one where `buf` has room for one
+    /// and the other side has not ended.
     ///
     /// # Errors
     ///

@@ -8,14 +8,14 @@ pub struct PeerFault;
 
 /// Someone who is asked by datagrams, such as a server at a UDP port.
 ///
-/// Whatever a peer tells, its count of faults rises in a call that fails and stays in one that does not, and a number of
-/// bytes that a call answers fits the buffer.
+/// Whatever a peer tells, its count of faults rises in a call that fails and stays in one that does not, and a number
+/// of bytes that a call answers fits the buffer.
 pub trait Peer {
     /// Whether peers of this type tell the events, what was sent and how they were started.
     ghost tells: { Bool };
 
-    /// The events that are left, the datagrams that were sent and how the peer was started, which count only where the peer
-    /// tells them, and the count of faults.
+    /// The events that are left, the datagrams that were sent and how the peer was started, which count only where the
+    /// peer tells them, and the count of faults.
     ghost seen: { Self → PeerSeen };
 
     /// Begins to ask the server at this port.
@@ -45,8 +45,8 @@ pub trait Peer {
         ensures steady { OnOk result ((seen self.new).faults ≡ (seen self.old).faults) }
         ensures cause { OnErr result (Rose (seen self.old).faults (seen self.new).faults) };
 
-    /// Takes the next event. A datagram gives its first 4,096 bytes, and how many they are; `None` is a quiet, in which no
-    /// datagram came.
+    /// Takes the next event. A datagram gives its first 4,096 bytes, and how many they are; `None` is a quiet, in which
+    /// no datagram came.
     ///
     /// # Errors
     ///

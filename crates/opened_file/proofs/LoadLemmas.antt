@@ -1,5 +1,6 @@
 -- A file that is read block by block.
-use Rattle.std.proofs.Common.{◌≡◌, ℕ, ◌+◌, ◌-◌, ◌≤◌, min, List, [], ◌++◌, length, take, drop, Option, Some, refl, sym, ap, subst, ◌∙◌, arith, length-append, length-take, length-drop}
+use Rattle.std.proofs.Common.{◌≡◌, ℕ, ◌+◌, ◌-◌, ◌≤◌, min, List, [], ◌++◌, length, take, drop, Option, Some, refl, sym}
+use Rattle.std.proofs.Common.{ap, subst, ◌∙◌, arith, length-append, length-take, length-drop}
 use Rattle.std.proofs.Math.Seq.{take-add}
 use Rattle.std.specs.Option.{unwrap_or}
 use Rattle.outside.specs.World.{bytes_from}
@@ -12,7 +13,9 @@ pub record IsBegun (file : Option (List ℕ)) (size : ℕ) (bytes : List ℕ) : 
   pub long : length whole ≡ size
   pub front : take (length bytes) whole ≡ bytes
 
-more_of : (whole bytes : List ℕ) (wanted : ℕ) → take (length bytes) whole ≡ bytes → take (length (bytes ++ take wanted (drop (length bytes) whole))) whole ≡ bytes ++ take wanted (drop (length bytes) whole)
+more_of : (whole bytes : List ℕ) (wanted : ℕ) → take (length bytes) whole ≡ bytes
+    → take (length (bytes ++ take wanted (drop (length bytes) whole))) whole
+    ≡ bytes ++ take wanted (drop (length bytes) whole)
 more_of whole bytes wanted front =
     let rest = drop (length bytes) whole in
     ap (λ (n : ℕ). take n whole) (length-append bytes (take wanted rest))
@@ -21,24 +24,32 @@ more_of whole bytes wanted front =
     ∙ ap (λ (t : List ℕ). bytes ++ t) (take-length-take wanted rest)
 
 -- one more read
-pub begun_more : (file : Option (List ℕ)) (size : ℕ) (bytes : List ℕ) (wanted : ℕ) (got : List ℕ) → IsBegun file size bytes → got ≡ bytes_from file (length bytes) wanted → IsBegun file size (bytes ++ got)
+pub begun_more : (file : Option (List ℕ)) (size : ℕ) (bytes : List ℕ) (wanted : ℕ) (got : List ℕ)
+    → IsBegun file size bytes → got ≡ bytes_from file (length bytes) wanted → IsBegun file size (bytes ++ got)
 begun_more file size bytes wanted got b e =
-    let is : got ≡ take wanted (drop (length bytes) b.whole) = e ∙ ap (λ (f : Option (List ℕ)). take wanted (drop (length bytes) (unwrap_or f []))) b.there in
+    let is : got ≡ take wanted (drop (length bytes) b.whole) =
+    e ∙ ap (λ (f : Option (List ℕ)). take wanted (drop (length bytes) (unwrap_or f []))) b.there in
     record {
       whole = b.whole;
       there = b.there;
       long = b.long;
-      front = subst (λ (t : List ℕ). take (length (bytes ++ t)) b.whole ≡ bytes ++ t) (sym is) (more_of b.whole bytes wanted b.front);
+      front = subst (λ (t : List ℕ). take (length (bytes ++ t)) b.whole ≡ bytes ++ t) (sym is)
+          (more_of b.whole bytes wanted b.front);
     }
 
 -- one more read of a store whose files stay
-pub begun_step : (file now : Option (List ℕ)) (size : ℕ) (bytes more : List ℕ) (at wanted : ℕ) → IsBegun file size bytes → now ≡ file → at ≡ length bytes → more ≡ bytes ++ bytes_from now at wanted → IsBegun file size more
+pub begun_step : (file now : Option (List ℕ)) (size : ℕ) (bytes more : List ℕ) (at wanted : ℕ) → IsBegun file size bytes
+    → now ≡ file → at ≡ length bytes → more ≡ bytes ++ bytes_from now at wanted → IsBegun file size more
 begun_step file now size bytes more at wanted b same place e =
-    let is : more ≡ bytes ++ bytes_from file (length bytes) wanted = e ∙ ap (λ (f : Option (List ℕ)). bytes ++ bytes_from f at wanted) same ∙ ap (λ (n : ℕ). bytes ++ bytes_from file n wanted) place in
-    subst (λ (t : List ℕ). IsBegun file size t) (sym is) (begun_more file size bytes wanted (bytes_from file (length bytes) wanted) b refl)
+    let is : more ≡ bytes ++ bytes_from file (length bytes) wanted = e
+    ∙ ap (λ (f : Option (List ℕ)). bytes ++ bytes_from f at wanted) same
+    ∙ ap (λ (n : ℕ). bytes ++ bytes_from file n wanted) place in
+    subst (λ (t : List ℕ). IsBegun file size t) (sym is)
+    (begun_more file size bytes wanted (bytes_from file (length bytes) wanted) b refl)
 
 -- how far one more read of a store whose files stay comes
-pub begun_ends : (file now : Option (List ℕ)) (size : ℕ) (bytes more : List ℕ) (at wanted : ℕ) → IsBegun file size bytes → now ≡ file → at ≡ length bytes → more ≡ bytes ++ bytes_from now at wanted
+pub begun_ends : (file now : Option (List ℕ)) (size : ℕ) (bytes more : List ℕ) (at wanted : ℕ) → IsBegun file size bytes
+    → now ≡ file → at ≡ length bytes → more ≡ bytes ++ bytes_from now at wanted
     → wanted ≡ min (size - at) 1024 → at ≤ size → length more ≡ min size (at + 1024)
 begun_ends file now size bytes more at wanted b same place e asked within =
     let rest : bytes_from now at wanted ≡ take wanted (drop at b.whole) =

@@ -1,5 +1,6 @@
 -- What is said of an edit of the value that an opened file holds, after calls that only looked something up in it.
-use Rattle.std.proofs.Common.{◌≡◌, ◌⊎◌, ℕ, ◌≤◌, Bool, true, IfErr, IfSome, OnOk, Option, Result, Ok, Err, refl, sym, subst, ◌∙◌, arith}
+use Rattle.std.proofs.Common.{◌≡◌, ◌⊎◌, ℕ, ◌≤◌, Bool, true, IfErr, IfSome, OnOk, Option, Result, Ok, Err, refl, sym}
+use Rattle.std.proofs.Common.{subst, ◌∙◌, arith}
 use Rattle.std.specs.Prelude.{IsOkAnd, is_ok}
 use Rattle.std.proofs.lemmas.Option.{IfSome_then}
 use Rattle.std.proofs.lemmas.Result.{IfOk-weaker}
@@ -44,25 +45,29 @@ module _ {T U E G : Type 0} (fault_in : E → Option FileFault) (fault_of : G �
   answer-ok (Err fault) (Ok answer) is = absurd is
   answer-ok (Err fault) (Err out) is = refl
 
-  answer-done : (result : Result T E) (answer : Result U G) (P Q : Type 0) → IsAnswer result answer → (P → Q) → OnOk result P → OnOk answer Q
+  answer-done : (result : Result T E) (answer : Result U G) (P Q : Type 0) → IsAnswer result answer → (P → Q)
+      → OnOk result P → OnOk answer Q
   answer-done (Ok told) (Ok answer) P Q is map fact = map fact
   answer-done (Ok told) (Err out) P Q is map fact = absurd is
   answer-done (Err fault) (Ok answer) P Q is map fact = absurd is
   answer-done (Err fault) (Err out) P Q is map fact = tt
 
-  answer-refused : (result : Result T E) (answer : Result U G) (P Q : FileFault → Type 0) → IsAnswer result answer → ((fault : FileFault) → P fault → Q fault)
+  answer-refused : (result : Result T E) (answer : Result U G) (P Q : FileFault → Type 0) → IsAnswer result answer
+      → ((fault : FileFault) → P fault → Q fault)
       → IfErr result (λ fault. IfSome (fault_in fault) P) → IfErr answer (λ fault. IfSome (fault_of fault) Q)
   answer-refused (Ok told) (Ok answer) P Q is map fact = tt
   answer-refused (Ok told) (Err out) P Q is map fact = absurd is
   answer-refused (Err fault) (Ok answer) P Q is map fact = absurd is
   answer-refused (Err fault) (Err out) P Q is map fact = rw is (IfSome_then (fault_in fault) fact map)
 
-pub is_answer-itself : {T E : Type 0} (fault_of : E → Option FileFault) (result : Result T E) → IsAnswer {T = T} {U = T} fault_of fault_of result result
+pub is_answer-itself : {T E : Type 0} (fault_of : E → Option FileFault) (result : Result T E)
+    → IsAnswer {T = T} {U = T} fault_of fault_of result result
 is_answer-itself fault_of (Ok told) = tt
 is_answer-itself fault_of (Err fault) = refl
 
 -- a change that is refused after a lookup is refused by what held before the lookup
-pub change_fault-after : (before between now : ℕ) (held held_between : QuotaValue → Type 0) (lacks lacks_between : ℕ → ℕ → Type 0)
+pub change_fault-after : (before between now : ℕ) (held held_between : QuotaValue → Type 0)
+    (lacks lacks_between : ℕ → ℕ → Type 0)
     (fault : FileFault) → before ≤ between → ((value : QuotaValue) → held value → held_between value)
     → ((blocks limit : ℕ) → lacks_between blocks limit → lacks blocks limit)
     → IsChangeFault between now held_between lacks_between fault → IsChangeFault before now held lacks fault
@@ -92,15 +97,18 @@ module _ (edit next : ValueEdit) (laws : FileLaws) (old new : FileAt) (held : Qu
         rw (same.change value holds) (done.makes value (up.stays value holds) (sym (same.idle value holds) ∙ busy));
     room = λ needs value blocks limit holds busy.
         rw (same.edited value holds, same.change value holds)
-        (done.room (sym same.room ∙ needs) value blocks limit (up.stays value holds) (sym (same.idle value holds) ∙ busy));
+        (done.room (sym same.room ∙ needs) value blocks limit (up.stays value holds)
+        (sym (same.idle value holds) ∙ busy));
     synced = λ tells.
         is_synced-then old.seen.name old.store (mid_at old held store).store new.store
         (is_synced-read old.seen.name old.store (mid_at old held store).store up.leaves) (done.synced tells);
-    writes = λ value holds. rw (same.change value holds) (omega (arith, up.leaves.writes, done.writes value (up.stays value holds)));
+    writes = λ value holds.
+        rw (same.change value holds) (omega (arith, up.leaves.writes, done.writes value (up.stays value holds)));
     same = done.same;
   }
 
-  refused-after : (fault : FileFault) → IsRefused next laws (mid_at old held store) new fault → IsRefused edit laws old new fault
+  refused-after : (fault : FileFault) → IsRefused next laws (mid_at old held store) new fault
+      → IsRefused edit laws old new fault
   refused-after fault refused = record {
     cause = change_fault-after old.store.faults store.faults new.store.faults old.holds held
         (LacksRoomFor edit laws old) (LacksRoomFor next laws (mid_at old held store)) fault up.leaves.later up.stays
@@ -110,7 +118,8 @@ module _ (edit next : ValueEdit) (laws : FileLaws) (old new : FileAt) (held : Qu
         )) refused.cause;
     may = refused.may;
     passes = refused.passes;
-    busy = unless_store-map fault _ _ (λ busy value holds. same.idle value holds ∙ busy value (up.stays value holds)) refused.busy;
+    busy = unless_store-map fault _ _
+        (λ busy value holds. same.idle value holds ∙ busy value (up.stays value holds)) refused.busy;
     counted = refused.counted;
     usable = refused.usable;
     stays = λ usable value holds. refused.stays usable value (up.stays value holds);
@@ -118,38 +127,50 @@ module _ (edit next : ValueEdit) (laws : FileLaws) (old new : FileAt) (held : Qu
     fits = λ ended value holds. rw (same.edited value holds) (refused.fits ended value (up.stays value holds));
     left = λ ended value holds.
         rw (same.change value holds)
-        (subst (λ (edited : Result QuotaValue (Field × ℕ)). (new.store.files old.seen.name ≡ old.store.files old.seen.name)
-        ⊎ IsLeft (laws.makes old.seen (next.change value) old.seen.name) (λ bytes. IsOkAnd edited (laws.stands_for old.seen.format bytes))
+        (subst
+        (λ (edited : Result QuotaValue (Field × ℕ)). (new.store.files old.seen.name ≡ old.store.files old.seen.name)
+        ⊎ IsLeft (laws.makes old.seen (next.change value) old.seen.name)
+        (λ bytes. IsOkAnd edited (laws.stands_for old.seen.format bytes))
         (laws.may_leave old.seen.format (next.change value)) old.seen.name old.store.files new.store.files)
         (sym (same.edited value holds)) (refused.left ended value (up.stays value holds)));
     between = refused.between;
   }
 
-  edits_value-mid : {T U E G : Type 0} (fault_in : E → Option FileFault) (fault_of : G → Option FileFault) (result : Result T E) (answer : Result U G)
+  edits_value-mid : {T U E G : Type 0} (fault_in : E → Option FileFault) (fault_of : G → Option FileFault)
+      (result : Result T E) (answer : Result U G)
       → IsAnswer fault_in fault_of result answer
       → EditsValue fault_in next laws (mid_at old held store) new result → EditsValue fault_of edit laws old new answer
   edits_value-mid fault_in fault_of result answer is edits =
-      let read : OnlyReads (is_ok result) old.seen.name old.store new.store → OnlyReads (is_ok answer) old.seen.name old.store new.store =
-      subst (λ (ok : Bool). OnlyReads ok old.seen.name old.store new.store) (sym (answer-ok fault_in fault_of result answer is)) in
+      let read : OnlyReads (is_ok result) old.seen.name old.store new.store
+      → OnlyReads (is_ok answer) old.seen.name old.store new.store =
+      subst (λ (ok : Bool). OnlyReads ok old.seen.name old.store new.store)
+      (sym (answer-ok fault_in fault_of result answer is)) in
       record {
         done = answer-done fault_in fault_of result answer _ _ is done-after edits.done;
         refused = answer-refused fault_in fault_of result answer _ _ is refused-after edits.refused;
-        idle = λ value holds idle. read (only_reads-then old.seen.name old.store _ new.store up.leaves (edits.idle value (up.stays value holds) (sym (same.idle value holds) ∙ idle)));
+        idle = λ value holds idle. read
+            (only_reads-then old.seen.name old.store _ new.store up.leaves
+            (edits.idle value (up.stays value holds) (sym (same.idle value holds) ∙ idle)));
         full = λ needs value blocks limit holds.
             rw (same.edited value holds, same.change value holds)
-            (IfOk-weaker (next.edited value) _ _ (λ edited only lacks. read (only_reads-then old.seen.name old.store _ new.store up.leaves (only lacks)))
+            (IfOk-weaker (next.edited value) _ _
+            (λ edited only lacks. read (only_reads-then old.seen.name old.store _ new.store up.leaves (only lacks)))
             (edits.full (sym same.room ∙ needs) value blocks limit (up.stays value holds)));
         leaves = edits_one-after_read old.seen.name old.store _ new.store up.leaves edits.leaves;
         writes = (edits.writes.0, omega (arith, up.leaves.writes, edits.writes.1));
       }
 
--- an edit after calls that only looked something up, which told that another edit is the one that is wanted of what the file holds
-pub edits_value-after : {T U E G : Type 0} (fault_in : E → Option FileFault) (fault_of : G → Option FileFault) (edit next : ValueEdit) (laws : FileLaws) (old mid new : FileAt)
-    (result : Result T E) (answer : Result U G) → IsAnswer fault_in fault_of result answer → IsLookedUp old mid → IsSameAt edit next old
+-- an edit after calls that only looked something up, which told that another edit is the one that is wanted of what the
+-- file holds
+pub edits_value-after : {T U E G : Type 0} (fault_in : E → Option FileFault) (fault_of : G → Option FileFault)
+    (edit next : ValueEdit) (laws : FileLaws) (old mid new : FileAt)
+    (result : Result T E) (answer : Result U G) → IsAnswer fault_in fault_of result answer → IsLookedUp old mid
+    → IsSameAt edit next old
     → EditsValue fault_in next laws mid new result → EditsValue fault_of edit laws old new answer
 edits_value-after fault_in fault_of edit next laws old mid new result answer is up same edits =
     let at : FileSeen → World → FileAt = λ seen files. file_at mid.holds seen (record mid.store { files = files }) in
-    let P : FileSeen → World → Type 0 = λ seen files. IsLookedUp old (at seen files) × EditsValue fault_in next laws (at seen files) new result in
+    let P : FileSeen → World → Type 0 =
+    λ seen files. IsLookedUp old (at seen files) × EditsValue fault_in next laws (at seen files) new result in
     let moved : P old.seen old.store.files =
     subst (λ (seen : FileSeen). P seen old.store.files) up.same
     (subst (λ (files : World). P mid.seen files) up.leaves.files (up, edits)) in

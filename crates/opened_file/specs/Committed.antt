@@ -9,5 +9,7 @@ abbrev pub CommitsOnce : (committed : List World → Type 0) → (whole : Type 0
 CommitsOnce committed whole now = committed [] ⊎ (committed (now ∷ []) × whole)
 
 -- a file stands for what a change makes of each value that was held before
-abbrev pub StandsChanged : FileChange → (held : QuotaValue → Type 0) → (stands : List ℕ → QuotaValue → Type 0) → Option (List ℕ) → Type 0
-StandsChanged change held stands file = (value : QuotaValue) → held value → IsSomeAnd file (λ bytes. stands bytes (changed_value change value))
+abbrev pub StandsChanged : FileChange → (held : QuotaValue → Type 0) → (stands : List ℕ → QuotaValue → Type 0)
+    → Option (List ℕ) → Type 0
+StandsChanged change held stands file =
+    (value : QuotaValue) → held value → IsSomeAnd file (λ bytes. stands bytes (changed_value change value))

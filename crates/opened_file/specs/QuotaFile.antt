@@ -10,7 +10,8 @@ use Rattle.opened_file.specs.declared.quota_file.FileFault.{FileFault}
 use Rattle.opened_file.specs.declared.quota_file.FileFault.TheVariants.{Store, Damage, Full, Memory}
 use Rattle.opened_file.specs.FileSeen.{FileSeen}
 
--- A refused call counts once, and leaves the name, the format and the limit; it tells whether the file may still be used.
+-- A refused call counts once, and leaves the name, the format and the limit; it tells whether the file may still be
+-- used.
 pub record CountsRefusal (still_usable : Bool) (old new : FileSeen) : Type 0 where
   pub name : new.name ≡ old.name
   pub format : new.format ≡ old.format
@@ -26,8 +27,8 @@ IsLookupFault before now holds (Damage _) = (value : QuotaValue) → ¬ (holds v
 IsLookupFault before now holds (Full _ _) = ⊥
 IsLookupFault before now holds Memory = ⊥
 
--- A change is refused where the store's count of faults rose, where the opened file with its store holds no value, where
--- it lacks room, needing more blocks than it may have, or where there was not enough memory.
+-- A change is refused where the store's count of faults rose, where the opened file with its store holds no value,
+-- where it lacks room, needing more blocks than it may have, or where there was not enough memory.
 abbrev pub IsChangeFault : ℕ → ℕ → (QuotaValue → Type 0) → (ℕ → ℕ → Type 0) → FileFault → Type 0
 IsChangeFault before now holds lacks Store = Rose before now
 IsChangeFault before now holds lacks (Damage _) = (value : QuotaValue) → ¬ (holds value)
@@ -69,18 +70,20 @@ WantsNoMemory (Damage _) = ⊤
 WantsNoMemory (Full _ _) = ⊤
 WantsNoMemory Memory = ⊥
 
--- The bytes of a file have changed in at most this many blocks of 1,024 bytes each: all others are as before, and the file has grown
--- no further than to the end of the last of those.
+-- The bytes of a file have changed in at most this many blocks of 1,024 bytes each: all others are as before, and the
+-- file has grown no further than to the end of the last of those.
 pub record ChangesBlocks (most : ℕ) (before after : List ℕ) : Type 0 where
   pub numbers : List ℕ
   pub few : length numbers ≤ most
   pub others : (number : ℕ) → times numbers number ≡ 0 → block_of after number ≡ block_of before number
   pub longer : length before ≤ length after
-  pub within : (blocks : ℕ) → ((number : ℕ) → StandsIn numbers number → number < blocks) → length after ≤ max (length before) (1024 * blocks)
+  pub within : (blocks : ℕ) → ((number : ℕ) → StandsIn numbers number → number < blocks)
+      → length after ≤ max (length before) (1024 * blocks)
 
--- A change that is made where the bytes lie, in place: however it ends, and whatever the file holds, at most twelve blocks of it have
--- changed where the store tells it, no other file has, and memory does not run out.
-pub record StaysInPlace (tells : Bool) (name : List ℕ) (old new : World) (result : Result (Unit {0}) FileFault) : Type 0 where
+-- A change that is made where the bytes lie, in place: however it ends, and whatever the file holds, at most twelve
+-- blocks of it have changed where the store tells it, no other file has, and memory does not run out.
+pub record StaysInPlace (tells : Bool) (name : List ℕ) (old new : World)
+    (result : Result (Unit {0}) FileFault) : Type 0 where
   pub few : IsTrue tells → ChangesBlocks 12 (file_of old name) (file_of new name)
   pub others : KeepsOthers name old new
   pub no_memory : IfErr result WantsNoMemory

@@ -18,9 +18,9 @@ may_lack_room (Put id rec) = true
 may_lack_room (Remove id) = true
 may_lack_room (SetGrace grace) = false
 
--- An edit of a value: what it makes of the value, or the first field for which the format has no room, with that field's
--- value; by which change of the file; at which values nothing is to be done; and whether the file may lack room for what it
--- makes.
+-- An edit of a value: what it makes of the value, or the first field for which the format has no room, with that
+-- field's value; by which change of the file; at which values nothing is to be done; and whether the file may lack room
+-- for what it makes.
 pub record ValueEdit : Type 0 where
   pub edited : QuotaValue → Result QuotaValue (Field × ℕ)
   pub change : QuotaValue → FileChange
@@ -36,9 +36,10 @@ edit_by change = record {
   needs_room = may_lack_room change;
 }
 
--- What a change that failed left of the named file: there are files that it would have made of the old ones, of which the
--- named one stands for the changed value, and what is left lies between the two.
-pub record IsLeft (made_so : World → World → Type 0) (stands_so : List ℕ → Type 0) (between : (old after left : Option (List ℕ)) → Type 0) (name : List ℕ) (old new : World) : Type 0 where
+-- What a change that failed left of the named file: there are files that it would have made of the old ones, of which
+-- the named one stands for the changed value, and what is left lies between the two.
+pub record IsLeft (made_so : World → World → Type 0) (stands_so : List ℕ → Type 0)
+    (between : (old after left : Option (List ℕ)) → Type 0) (name : List ℕ) (old new : World) : Type 0 where
   pub after : World
   pub made : made_so old after
   pub stands : IsSomeAnd (after name) stands_so

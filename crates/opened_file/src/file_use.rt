@@ -5,8 +5,8 @@ ghost use Rattle.opened_file.specs.QuotaFile.{CountsRefusal, is_store_fault};
 
 use crate::FileFault;
 
-/// What an opened quota file keeps besides its name and its bytes, whatever its format: whether it may still be used, and how
-/// many calls were refused.
+/// What an opened quota file keeps besides its name and its bytes, whatever its format: whether it may still be used,
+/// and how many calls were refused.
 #[derive(Debug, Drop)]
 pub struct FileUse {
     pub(crate) usable: bool,

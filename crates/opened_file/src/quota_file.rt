@@ -1,4 +1,5 @@
-ghost use Rattle.std.specs.Prelude.{◌≡◌, ◌+◌, ◌^◌, ◌<◌, ◌≤◌, ℕ, List, Option, None, Some, IsTrue, IfErr, IfOk, IfSome, IsSomeAnd, []};
+ghost use Rattle.std.specs.Prelude.{◌≡◌, ◌+◌, ◌^◌, ◌<◌, ◌≤◌, ℕ, List, Option, None, Some, IsTrue, IfErr, IfOk, IfSome};
+ghost use Rattle.std.specs.Prelude.{IsSomeAnd, []};
 ghost use Rattle.std.specs.FinMap.{get};
 ghost use Rattle.quota_types.specs.declared.damage.Damage.{Damage};
 ghost use Rattle.quota_types.specs.declared.file_kind.Format.{Format};
@@ -89,11 +90,11 @@ impl From<CheckFault> for OpenFault {
 
 /// An opened quota file, whatever its format. Each call is given the store that the file was opened from.
 ///
-/// A change is made where the bytes lie, in place: it takes no memory, and writes no other file. One for which there is no
-/// room writes nothing, whatever else fails, and one that is refused for anything but a fault of the store has changed
-/// nothing. After one in which the store failed the opened file is not used again, and the named file is as it was, or as
-/// `may_leave` says, between the old file and one that stands for the changed value, since some blocks may have been written.
-/// After a look-up in which the store failed the opened file may be used again.
+/// A change is made where the bytes lie, in place: it takes no memory, and writes no other file. One for which there is
+/// no room writes nothing, whatever else fails, and one that is refused for anything but a fault of the store has
+/// changed nothing. After one in which the store failed the opened file is not used again, and the named file is as it
+/// was, or as `may_leave` says, between the old file and one that stands for the changed value, since some blocks may
+/// have been written. After a look-up in which the store failed the opened file may be used again.
 ///
 /// No refusal is lost: `seen` has a count of them, which each refused call raises and no other call changes.
 pub trait QuotaFile<S: Store> {
@@ -101,11 +102,12 @@ pub trait QuotaFile<S: Store> {
     /// value, and what the opened file keeps agrees with that file.
     ghost holds: { Self → S → QuotaValue → Type 0 };
 
-    /// Its name, its format, whether it may still be used, how many blocks it may have, and how many calls were refused.
+    /// Its name, its format, whether it may still be used, how many blocks it may have, and how many calls were
+    /// refused.
     ghost seen: { Self → FileSeen };
 
-    /// A damage that a look-up answers is one of the named file, as far as the store tells it and what the opened file keeps
-    /// agrees with it.
+    /// A damage that a look-up answers is one of the named file, as far as the store tells it and what the opened file
+    /// keeps agrees with it.
     ghost is_damage: { Self → S → Damage → Type 0 };
 
     /// The faults that a call on a file of this format may answer, whatever the store tells.
@@ -114,12 +116,12 @@ pub trait QuotaFile<S: Store> {
     /// A file of these bytes, as one of this format, stands for the value.
     ghost stands_for: { Format → List ℕ → QuotaValue → Type 0 };
 
-    /// The named file, as it is, has no room for a change of it to the value: it would need the first number of blocks, and
-    /// may have only the second.
+    /// The named file, as it is, has no room for a change of it to the value: it would need the first number of blocks,
+    /// and may have only the second.
     ghost lacks_room: { FileSeen → Option (List ℕ) → FileChange → QuotaValue → ℕ → ℕ → Type 0 };
 
-    /// What a change of a file that is seen so, and has this name, makes of the files, as far as its format says more than which
-    /// value the file stands for.
+    /// What a change of a file that is seen so, and has this name, makes of the files, as far as its format says more
+    /// than which value the file stands for.
     ghost makes: { FileSeen → FileChange → List ℕ → World → World → Type 0 };
 
     /// What a change that failed may leave the file as, between the bytes before and those that it would have made.
@@ -131,8 +133,8 @@ pub trait QuotaFile<S: Store> {
     /// How many calls of `read` one call of `next_after` makes at most, on a file of these bytes.
     ghost next_reads: { FileSeen → Option (List ℕ) → ℕ };
 
-    /// How many calls of `read` one call of `next_after` makes at most where the opened file holds a value, in a file of these bytes,
-    /// by the identifiers that it passes: from one up to another one.
+    /// How many calls of `read` one call of `next_after` makes at most where the opened file holds a value, in a file
+    /// of these bytes, by the identifiers that it passes: from one up to another one.
     ghost passing_reads: { FileSeen → Option (List ℕ) → ℕ → ℕ → ℕ };
 
     /// How many calls of `read` a change makes at most.
@@ -173,7 +175,8 @@ pub trait QuotaFile<S: Store> {
         ensures looks { LooksUp Some (laws_of S.tells stands_for makes may_leave lacks_room may_refuse
             change_reads change_writes done_writes)
             (file_at (holds self.old store.old) (seen self.old) (S.seen store.old))
-            (file_at (holds self.new store.new) (seen self.new) (S.seen store.new)) (get_reads (seen self.old).format) result }
+            (file_at (holds self.new store.new) (seen self.new) (S.seen store.new))
+            (get_reads (seen self.old).format) result }
         ensures commits { S.commits [] store.old store.new };
 
     /// The least identifier after another one, or the least of all, with its record; `None` where there is none.
@@ -211,31 +214,35 @@ pub trait QuotaFile<S: Store> {
         requires usable { IsTrue (seen self.old).usable }
         requires not_null { ¬ (IsNull rec) }
         requires kept { IsKept (seen self.old).format id rec }
-        ensures in_place { StaysInPlace S.tells (seen self.old).name (S.seen store.old).files (S.seen store.new).files result }
+        ensures in_place { StaysInPlace S.tells (seen self.old).name (S.seen store.old).files
+            (S.seen store.new).files result }
         ensures changes { Changes (Put id rec) (laws_of S.tells stands_for makes may_leave lacks_room may_refuse
             change_reads change_writes done_writes)
             (file_at (holds self.old store.old) (seen self.old) (S.seen store.old))
             (file_at (holds self.new store.new) (seen self.new) (S.seen store.new)) result }
         ensures commits { CommitsOnce (λ worlds. S.commits worlds store.old store.new) (StandsChanged (Put id rec)
-            (holds self.old store.old) (stands_for (seen self.old).format) ((S.seen store.new).files (seen self.old).name))
+            (holds self.old store.old) (stands_for (seen self.old).format)
+            ((S.seen store.new).files (seen self.old).name))
             (S.seen store.new).files };
 
-    /// Takes an identifier's record away. All other records stay. Where it has none nothing is written, and nothing but a
-    /// fault of the store refuses it. What was written is synced then. `Full` never comes.
+    /// Takes an identifier's record away. All other records stay. Where it has none nothing is written, and nothing but
+    /// a fault of the store refuses it. What was written is synced then. `Full` never comes.
     ///
     /// # Errors
     ///
     /// The store failed, or the file is damaged.
     fn remove(&mut self, store: &mut S, id: u32) -> Result<(), FileFault>
         requires { IsTrue (seen self.old).usable }
-        ensures in_place { StaysInPlace S.tells (seen self.old).name (S.seen store.old).files (S.seen store.new).files result }
+        ensures in_place { StaysInPlace S.tells (seen self.old).name (S.seen store.old).files
+            (S.seen store.new).files result }
         ensures never_full { IfErr result (λ fault. IfFull fault (λ _ _. ⊥)) }
         ensures changes { Changes (Remove id) (laws_of S.tells stands_for makes may_leave lacks_room may_refuse
             change_reads change_writes done_writes)
             (file_at (holds self.old store.old) (seen self.old) (S.seen store.old))
             (file_at (holds self.new store.new) (seen self.new) (S.seen store.new)) result }
         ensures commits { CommitsOnce (λ worlds. S.commits worlds store.old store.new) (StandsChanged (Remove id)
-            (holds self.old store.old) (stands_for (seen self.old).format) ((S.seen store.new).files (seen self.old).name))
+            (holds self.old store.old) (stands_for (seen self.old).format)
+            ((S.seen store.new).files (seen self.old).name))
             (S.seen store.new).files };
 
     /// Sets both grace periods, for which the format has room. All records stay. What was written is synced then.
@@ -247,13 +254,15 @@ pub trait QuotaFile<S: Store> {
     fn set_grace(&mut self, store: &mut S, grace: Grace) -> Result<(), FileFault>
         requires usable { IsTrue (seen self.old).usable }
         requires fits { grace_unfit (seen self.old).format grace ≡ None }
-        ensures in_place { StaysInPlace S.tells (seen self.old).name (S.seen store.old).files (S.seen store.new).files result }
+        ensures in_place { StaysInPlace S.tells (seen self.old).name (S.seen store.old).files
+            (S.seen store.new).files result }
         ensures changes { Changes (SetGrace grace) (laws_of S.tells stands_for makes may_leave lacks_room may_refuse
             change_reads change_writes done_writes)
             (file_at (holds self.old store.old) (seen self.old) (S.seen store.old))
             (file_at (holds self.new store.new) (seen self.new) (S.seen store.new)) result }
         ensures commits { CommitsOnce (λ worlds. S.commits worlds store.old store.new) (StandsChanged (SetGrace grace)
-            (holds self.old store.old) (stands_for (seen self.old).format) ((S.seen store.new).files (seen self.old).name))
+            (holds self.old store.old) (stands_for (seen self.old).format)
+            ((S.seen store.new).files (seen self.old).name))
             (S.seen store.new).files };
 
     /// What an opened file with its store holds rests on the named file, and on no other file of the store.
@@ -265,7 +274,9 @@ pub trait QuotaFile<S: Store> {
     ghost held_stands: { (file : Self) (store : S) (value : QuotaValue) → holds file store value
         → IsSomeAnd ((S.seen store).files (seen file).name) (λ bytes. stands_for (seen file).format bytes value) };
 
-    /// Two calls of `next_after` in a row read little more than one that passes as much: what one that passes nothing may read.
+    /// Two calls of `next_after` in a row read little more than one that passes as much: what one that passes nothing
+    /// may read.
     ghost passing_adds_up: { (seen : FileSeen) (file : Option (List ℕ)) (from mid to : ℕ) → from ≤ mid → mid ≤ to
-        → passing_reads seen file from mid + passing_reads seen file mid to ≤ passing_reads seen file from to + passing_reads seen file 0 0 };
+        → passing_reads seen file from mid + passing_reads seen file mid to
+        ≤ passing_reads seen file from to + passing_reads seen file 0 0 };
 }

@@ -1,4 +1,5 @@
-ghost use Rattle.std.specs.Prelude.{◌≡◌, ◌+◌, ◌^◌, ◌≤◌, length, false, Some, IsTrue, IfOk, IfErr, OnOk, OnErr, [], ◌∷◌, ℕ, List};
+ghost use Rattle.std.specs.Prelude.{◌≡◌, ◌+◌, ◌^◌, ◌≤◌, length, false, Some, IsTrue, IfOk, IfErr, OnOk, OnErr, [], ◌∷◌};
+ghost use Rattle.std.specs.Prelude.{ℕ, List};
 ghost use Rattle.std.specs.String.{string_bytes};
 ghost use Rattle.outside.specs.Count.{Rose};
 ghost use Rattle.outside.specs.Frame.{ChangesOne};
@@ -52,7 +53,8 @@ impl From<AllocError> for ReplaceFault {
 ///
 /// # Errors
 ///
-/// The store failed, or there is not enough memory. The old file is as before, and the one with `.new` may hold anything.
+/// The store failed, or there is not enough memory. The old file is as before, and the one with `.new` may hold
+/// anything.
 pub fn replace<S: Store>(
     alloc: Global,
     store: &mut S,

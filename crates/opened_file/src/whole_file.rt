@@ -1,4 +1,5 @@
-ghost use Rattle.std.specs.Prelude.{◌≡◌, ◌+◌, ◌≤◌, ◌++◌, length, min, vec_len, Some, IsTrue, IfOk, IfErr, OnOk, is_ok, []};
+ghost use Rattle.std.specs.Prelude.{◌≡◌, ◌+◌, ◌≤◌, ◌++◌, length, min, vec_len, Some, IsTrue, IfOk, IfErr, OnOk, is_ok};
+ghost use Rattle.std.specs.Prelude.{[]};
 ghost use Rattle.outside.specs.Count.{counted};
 ghost use Rattle.outside.specs.Frame.{OnlyReads};
 ghost use Rattle.opened_file.specs.Load.{IsLoadFault, IsReadFault};

@@ -13,7 +13,8 @@ full_keeps kept one other full =
     take-append-le 7 (operands_seen kept) one long ∙ sym (take-append-le 7 (operands_seen kept) other long)
 
 -- one more is kept behind the others
-pub kept_more : (kept after : List OperandWord) (operand : OperandWord) (behind : List Operand) → after ≡ kept ++ operand ∷ []
+pub kept_more : (kept after : List OperandWord) (operand : OperandWord) (behind : List Operand)
+    → after ≡ kept ++ operand ∷ []
     → take 7 (operands_seen after ++ behind) ≡ take 7 (operands_seen kept ++ operand_seen operand ∷ behind)
 kept_more kept after operand behind is =
     ap (λ (os : List OperandWord). take 7 (operands_seen os ++ behind)) is

@@ -1,5 +1,6 @@
 -- What the options of a command line give, and the first fault among them.
-use Rattle.std.specs.Prelude.{ℕ, Bool, true, false, not, ◌&&◌, nat_le, List, [], ◌∷◌, ◌++◌, length, map, Option, Some, None, is_some, Result, Ok, Err, codes}
+use Rattle.std.specs.Prelude.{ℕ, Bool, true, false, not, ◌&&◌, nat_le, List, [], ◌∷◌, ◌++◌, length, map, Option, Some}
+use Rattle.std.specs.Prelude.{None, is_some, Result, Ok, Err, codes}
 use Rattle.std.specs.List.{list_any}
 use Rattle.std.specs.Option.{option_copied}
 use Rattle.std.specs.Str.{bytes_eq}
@@ -7,17 +8,20 @@ use Rattle.quota_types.specs.declared.file_kind.Format.{Format}
 use Rattle.quota_types.specs.declared.file_kind.Kind.{Kind}
 use Rattle.quota_types.specs.declared.file_kind.Kind.TheVariants.{User, Group, Project}
 use Rattle.input_text.specs.Numeral.{number_of}
-use Rattle.refusals.specs.declared.cause.UsageKind.TheVariants.{UnknownOption, MissingValue, Repeated, BadValue, BadFileName}
+use Rattle.refusals.specs.declared.cause.UsageKind.TheVariants.{UnknownOption, MissingValue, Repeated, BadValue}
+use Rattle.refusals.specs.declared.cause.UsageKind.TheVariants.{BadFileName}
 use Rattle.option_words.specs.declared.export_option.ExportOption.{ExportOption}
 use Rattle.option_words.specs.declared.word_fault.Fault.{Fault}
 use Rattle.option_words.specs.declared.given.Conversion.{Conversion}
 use Rattle.option_words.specs.declared.given.ExportWords.{ExportWords}
 use Rattle.option_words.specs.declared.given.Given.{Given}
 use Rattle.option_words.specs.declared.switch.Flag.{Flag}
-use Rattle.option_words.specs.declared.switch.Flag.TheVariants.{Users, Groups, Projects, Verbose, Numeric, Raw, Batch, Grace, Times, Print, Apply, Fresh}
+use Rattle.option_words.specs.declared.switch.Flag.TheVariants.{Users, Groups, Projects, Verbose, Numeric, Raw, Batch}
+use Rattle.option_words.specs.declared.switch.Flag.TheVariants.{Grace, Times, Print, Apply, Fresh}
 use Rattle.option_words.specs.declared.switch.Flags.{Flags}
 use Rattle.option_words.specs.declared.switch.Setting.{Setting}
-use Rattle.option_words.specs.declared.switch.Setting.TheVariants.{QuotaFormat, Names, Proto, Input, Device, Formats, Calls, Port}
+use Rattle.option_words.specs.declared.switch.Setting.TheVariants.{QuotaFormat, Names, Proto, Input, Device, Formats}
+use Rattle.option_words.specs.declared.switch.Setting.TheVariants.{Calls, Port}
 use Rattle.option_words.specs.Fault.{fault, unless, with_value, ◌>>=◌}
 use Rattle.option_words.specs.FileName.{is_file_name}
 use Rattle.option_words.specs.Items.{Item, Raised, Set, Exported, Unknown, Unfinished, Plain}
@@ -118,16 +122,24 @@ has Calls told = is_some told.calls
 has Port told = is_some told.port
 
 -- What is given with the value of a setting, which must be of its form: the name of a file for the names and the input,
--- any word for another identifier, and a number of its range for a device, for how many calls are answered and for a port.
+-- any word for another identifier, and a number of its range for a device, for how many calls are answered and for a
+-- port.
 abbrev pub put : Setting → List ℕ → (word : ℕ) → GivenOptions → Result GivenOptions Fault
-put QuotaFormat value word told = with_value (format_of value) (fault BadValue word) (λ f. Ok (record told { format = Some f }))
-put Names value word told = unless (not (is_file_name value)) (fault BadFileName word) (Ok (record told { names = Some value }))
+put QuotaFormat value word told =
+    with_value (format_of value) (fault BadValue word) (λ f. Ok (record told { format = Some f }))
+put Names value word told =
+    unless (not (is_file_name value)) (fault BadFileName word) (Ok (record told { names = Some value }))
 put Proto value word told = Ok (record told { proto = Some value })
-put Input value word told = unless (not (is_file_name value)) (fault BadFileName word) (Ok (record told { input = Some value }))
-put Device value word told = with_value (number_of value) (fault BadValue word) (λ n. Ok (record told { device = Some n }))
-put Formats value word told = with_value (conversion_of value) (fault BadValue word) (λ c. Ok (record told { conversion = Some c }))
-put Calls value word told = with_value (number_within 1 4294967295 value) (fault BadValue word) (λ n. Ok (record told { calls = Some n }))
-put Port value word told = with_value (number_within 0 65535 value) (fault BadValue word) (λ n. Ok (record told { port = Some n }))
+put Input value word told =
+    unless (not (is_file_name value)) (fault BadFileName word) (Ok (record told { input = Some value }))
+put Device value word told =
+    with_value (number_of value) (fault BadValue word) (λ n. Ok (record told { device = Some n }))
+put Formats value word told =
+    with_value (conversion_of value) (fault BadValue word) (λ c. Ok (record told { conversion = Some c }))
+put Calls value word told =
+    with_value (number_within 1 4294967295 value) (fault BadValue word) (λ n. Ok (record told { calls = Some n }))
+put Port value word told =
+    with_value (number_within 0 65535 value) (fault BadValue word) (λ n. Ok (record told { port = Some n }))
 
 -- the word under which files of a kind are exported
 abbrev pub kind_word : Kind → List ℕ
@@ -137,7 +149,8 @@ kind_word Project = codes "project"
 
 -- a pair of a path and a kind was exported
 abbrev pub is_exported : (path kind : List ℕ) → List ExportOption → Bool
-is_exported path kind exports = list_any (λ (e : ExportOption). bytes_eq e.path path && bytes_eq (kind_word e.kind) kind) exports
+is_exported path kind exports =
+    list_any (λ (e : ExportOption). bytes_eq e.path path && bytes_eq (kind_word e.kind) kind) exports
 
 -- What is given with one more export, of which there may be 16: its path has 1 to 1,024 bytes, its kind is `user`,
 -- `group` or `project`, and its file is the name of a file.

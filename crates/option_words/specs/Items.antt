@@ -1,6 +1,7 @@
 -- How words fall into options with their values and operands. Source: the utility syntax guidelines of POSIX, as far as
 -- letters in one word, values and `--` go; long options are as getopt_long(3) has them, but for their abbreviation.
-use Rattle.std.specs.Prelude.{ℕ, ◌+◌, Bool, ◌&&◌, ◌==◌, nat_lt, if◌then◌else◌, List, [], ◌∷◌, ◌++◌, length, map, slice_index, drop, Option, Some, None, String, codes}
+use Rattle.std.specs.Prelude.{ℕ, ◌+◌, Bool, ◌&&◌, ◌==◌, nat_lt, if◌then◌else◌, List, [], ◌∷◌, ◌++◌, length, map}
+use Rattle.std.specs.Prelude.{slice_index, drop, Option, Some, None, String, codes}
 use Rattle.std.specs.String.{string_bytes}
 use Rattle.std.specs.declared.alloc.Global.{Global}
 use Rattle.std.specs.Str.{bytes_eq}
@@ -27,8 +28,8 @@ pub data Item : Type 0 where
   -- an operand
   Plain : List ℕ → ℕ → Item
 
--- What the next word is: any word, or one behind `--`, or the value of a setting, or the path, the kind or the file of an
--- export, with the number of the word in which the option began.
+-- What the next word is: any word, or one behind `--`, or the value of a setting, or the path, the kind or the file of
+-- an export, with the number of the word in which the option began.
 pub data Next : Type 0 where
   AnyWord : Next
   Operands : Next
@@ -65,7 +66,8 @@ letters_say tool word [] = wants AnyWord
 letters_say tool word (letter ∷ behind) =
     letter_says (letter_switch tool letter) word behind (letters_say tool word behind)
 
--- A long option, and its value where an equals sign stands before one. A flag has none, and an export takes the next words.
+-- A long option, and its value where an equals sign stands before one. A flag has none, and an export takes the next
+-- words.
 abbrev pub long_says : Option Switch → (word : ℕ) → Option (List ℕ) → Said
 long_says (Some (Flagged flag)) word None = says (Raised flag)
 long_says (Some (Setting setting)) word None = wants (ValueOf setting word)

@@ -3,8 +3,10 @@ use Rattle.std.specs.Prelude.{◌≡◌, List, ◌++◌, map, take, Result, Ok, 
 use Rattle.option_words.specs.declared.word_fault.Fault.{Fault}
 use Rattle.option_words.specs.declared.scan.OperandWord.{OperandWord}
 use Rattle.option_words.specs.declared.scan.NextWord.{NextWord}
-use Rattle.option_words.specs.declared.scan.NextWord.TheVariants.{AnyWord as WantsAny, Operand as WantsOperand, Value, Path, KindWord, File}
-use Rattle.option_words.specs.Items.{AnyWord, FileOf, Item, KindOf, Next, Operand, Operands, PathOf, Said, ValueOf, operands_in}
+use Rattle.option_words.specs.declared.scan.NextWord.TheVariants.{AnyWord as WantsAny, Operand as WantsOperand, Value}
+use Rattle.option_words.specs.declared.scan.NextWord.TheVariants.{Path, KindWord, File}
+use Rattle.option_words.specs.Items.{AnyWord, FileOf, Item, KindOf, Next, Operand, Operands, PathOf, Said, ValueOf}
+use Rattle.option_words.specs.Items.{operands_in}
 use Rattle.option_words.specs.Given.{GivenOptions, with_items}
 
 -- what the next word is, without where texts stand

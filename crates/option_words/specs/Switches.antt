@@ -2,26 +2,36 @@
 -- hyphens is this project's own.
 use Rattle.std.specs.Prelude.{ℕ, List, [], ◌∷◌, Option, codes}
 use Rattle.option_words.specs.declared.tool.Tool.{Tool}
-use Rattle.option_words.specs.declared.tool.Tool.TheVariants.{Repquota, Setquota, Edquota, Quotacheck, Convertquota, Rquotad, Script, Generate}
+use Rattle.option_words.specs.declared.tool.Tool.TheVariants.{Repquota, Setquota, Edquota, Quotacheck, Convertquota}
+use Rattle.option_words.specs.declared.tool.Tool.TheVariants.{Rquotad, Script, Generate}
 use Rattle.option_words.specs.declared.switch.Switch.{Switch}
 use Rattle.option_words.specs.declared.switch.Switch.TheVariants.{Flagged, Setting, Export}
-use Rattle.option_words.specs.declared.switch.Flag.TheVariants.{Users, Groups, Projects, Verbose, Numeric, Raw, Batch, Grace, Times, Print, Apply, Fresh}
-use Rattle.option_words.specs.declared.switch.Setting.TheVariants.{QuotaFormat, Names, Proto, Input, Device, Formats, Calls, Port}
+use Rattle.option_words.specs.declared.switch.Flag.TheVariants.{Users, Groups, Projects, Verbose, Numeric, Raw, Batch}
+use Rattle.option_words.specs.declared.switch.Flag.TheVariants.{Grace, Times, Print, Apply, Fresh}
+use Rattle.option_words.specs.declared.switch.Setting.TheVariants.{QuotaFormat, Names, Proto, Input, Device, Formats}
+use Rattle.option_words.specs.declared.switch.Setting.TheVariants.{Calls, Port}
 use Rattle.option_words.specs.Tools.{look_up}
 
 -- The letters of a command's options: flags, which have no value, and settings, which have one.
 abbrev pub letters : Tool → List (List ℕ × Switch)
 letters Repquota =
-    (codes "u", Flagged Users) ∷ (codes "g", Flagged Groups) ∷ (codes "P", Flagged Projects) ∷ (codes "v", Flagged Verbose)
+    (codes "u", Flagged Users) ∷ (codes "g", Flagged Groups) ∷ (codes "P", Flagged Projects)
+    ∷ (codes "v", Flagged Verbose)
     ∷ (codes "n", Flagged Numeric) ∷ (codes "p", Flagged Raw) ∷ (codes "F", Setting QuotaFormat) ∷ []
 letters Setquota =
-    (codes "u", Flagged Users) ∷ (codes "g", Flagged Groups) ∷ (codes "P", Flagged Projects) ∷ (codes "b", Flagged Batch) ∷ (codes "t", Flagged Grace)
+    (codes "u", Flagged Users) ∷ (codes "g", Flagged Groups) ∷ (codes "P", Flagged Projects)
+    ∷ (codes "b", Flagged Batch) ∷ (codes "t", Flagged Grace)
     ∷ (codes "T", Flagged Times) ∷ (codes "F", Setting QuotaFormat) ∷ (codes "p", Setting Proto) ∷ []
-letters Edquota = (codes "u", Flagged Users) ∷ (codes "g", Flagged Groups) ∷ (codes "P", Flagged Projects) ∷ (codes "F", Setting QuotaFormat) ∷ []
-letters Quotacheck =
-    (codes "u", Flagged Users) ∷ (codes "g", Flagged Groups) ∷ (codes "P", Flagged Projects) ∷ (codes "c", Flagged Fresh)
+letters Edquota =
+    (codes "u", Flagged Users) ∷ (codes "g", Flagged Groups) ∷ (codes "P", Flagged Projects)
     ∷ (codes "F", Setting QuotaFormat) ∷ []
-letters Convertquota = (codes "u", Flagged Users) ∷ (codes "g", Flagged Groups) ∷ (codes "P", Flagged Projects) ∷ (codes "f", Setting Formats) ∷ []
+letters Quotacheck =
+    (codes "u", Flagged Users) ∷ (codes "g", Flagged Groups) ∷ (codes "P", Flagged Projects)
+    ∷ (codes "c", Flagged Fresh)
+    ∷ (codes "F", Setting QuotaFormat) ∷ []
+letters Convertquota =
+    (codes "u", Flagged Users) ∷ (codes "g", Flagged Groups) ∷ (codes "P", Flagged Projects)
+    ∷ (codes "f", Setting Formats) ∷ []
 letters Rquotad = []
 letters Script = []
 letters Generate = []

@@ -4,7 +4,8 @@ use Rattle.std.specs.Prelude.{ℕ, List, [], ◌∷◌, Option, codes, find}
 use Rattle.std.specs.Option.{option_map}
 use Rattle.std.specs.Str.{bytes_eq}
 use Rattle.option_words.specs.declared.tool.Tool.{Tool}
-use Rattle.option_words.specs.declared.tool.Tool.TheVariants.{Repquota, Setquota, Edquota, Quotacheck, Convertquota, Rquotad, Script, Generate}
+use Rattle.option_words.specs.declared.tool.Tool.TheVariants.{Repquota, Setquota, Edquota, Quotacheck, Convertquota}
+use Rattle.option_words.specs.declared.tool.Tool.TheVariants.{Rquotad, Script, Generate}
 
 -- what a word stands for in a table of words
 abbrev pub look_up : {V : Type 0} → List (List ℕ × V) → List ℕ → Option V

@@ -13,7 +13,8 @@ use Rattle.option_words.specs.Tools.{look_up}
 
 -- the format of a name
 abbrev pub format_of : List ℕ → Option Format
-format_of word = look_up ((codes "vfsold", V1) ∷ (codes "vfsold32", V1R32) ∷ (codes "vfsv0", V2R0) ∷ (codes "vfsv1", V2R1) ∷ []) word
+format_of word =
+    look_up ((codes "vfsold", V1) ∷ (codes "vfsold32", V1R32) ∷ (codes "vfsv0", V2R0) ∷ (codes "vfsv1", V2R1) ∷ []) word
 
 -- the kind of files that is exported under a word
 abbrev pub kind_of : List ℕ → Option Kind

@@ -1,5 +1,6 @@
 ghost use Rattle.std.specs.Prelude.{◌≡◌, Ok, Err, MatchResult};
-ghost use Rattle.option_words.specs.Given.{exports_given, has, is_exported, kind_word, nothing_given, put, given_options, with_item};
+ghost use Rattle.option_words.specs.Given.{exports_given, has, is_exported, kind_word, nothing_given, put};
+ghost use Rattle.option_words.specs.Given.{given_options, with_item};
 ghost use Rattle.option_words.specs.Items.{Raised, Set, Exported};
 
 use crate::values::{
@@ -101,7 +102,8 @@ impl<'a> Given<'a> {
     ///
     /// The setting was given before, or the value is not of its form or range.
     pub fn set(&mut self, setting: Setting, value: &'a str, word: usize) -> Result<(), Fault>
-        ensures { MatchResult result (λ _. with_item (Set setting value.now word) (given_options self.old) ≡ Ok (given_options self.new))
+        ensures { MatchResult result
+            (λ _. with_item (Set setting value.now word) (given_options self.old) ≡ Ok (given_options self.new))
             (λ met. with_item (Set setting value.now word) (given_options self.old) ≡ Err met) }
     {
         if self.has(setting) {
@@ -112,7 +114,8 @@ impl<'a> Given<'a> {
 
     /// Takes the value of a setting that was not given before.
     fn put(&mut self, setting: Setting, value: &'a str, word: usize) -> Result<(), Fault>
-        ensures { MatchResult result (λ _. put setting value.now word (given_options self.old) ≡ Ok (given_options self.new))
+        ensures { MatchResult result
+            (λ _. put setting value.now word (given_options self.old) ≡ Ok (given_options self.new))
             (λ met. put setting value.now word (given_options self.old) ≡ Err met) }
     {
         match setting {
@@ -163,7 +166,9 @@ impl<'a> Given<'a> {
         file: &'a str,
         word: usize,
     ) -> Result<(), Fault>
-        ensures { MatchResult result (λ _. with_item (Exported path.now kind.now file.now word) (given_options self.old) ≡ Ok (given_options self.new))
+        ensures { MatchResult result
+            (λ _.
+            with_item (Exported path.now kind.now file.now word) (given_options self.old) ≡ Ok (given_options self.new))
             (λ met. with_item (Exported path.now kind.now file.now word) (given_options self.old) ≡ Err met) }
     {
         if is_exported(path, kind, self.exports.as_slice()) {

@@ -4,7 +4,10 @@ ghost use Rattle.option_words.specs.Parts.{parted};
 /// What stands before and behind the first of these bytes, where there is one.
 pub fn parted(text: &str, at: u8) -> Option<(&str, &str)>
     requires { at < 128 }
-    ensures { MatchOption result (parted at text.now ≡ None) (λ parts. parted at text.now ≡ Some (parts.0.now, parts.1.now)) }
+    ensures { MatchOption result (parted at text.now ≡ None) (λ parts. parted at text.now ≡ Some (
+      parts.0.now,
+      parts.1.now,
+    )) }
 {
     match place_of(text.as_bytes(), at) {
         Some(place) => Some((&text[..place], &text[place + 1..])),

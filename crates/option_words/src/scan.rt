@@ -2,7 +2,8 @@ ghost use Rattle.std.specs.Prelude.{◌≡◌, [], ◌∷◌, None, Some, Ok, Er
 ghost use Rattle.option_words.specs.Items.{texts_of};
 ghost use Rattle.option_words.specs.Items.{operands_in};
 ghost use Rattle.option_words.specs.Given.{GivenOptions, nothing_given, given_options, with_items};
-ghost use Rattle.option_words.specs.Items.{AnyWord, Plain, Said, any_word_says, end_says, holds_options, items_of, letter_says, letters_say, long_says, long_word_says, options_say, word_says};
+ghost use Rattle.option_words.specs.Items.{AnyWord, Plain, Said, any_word_says, end_says, holds_options, items_of};
+ghost use Rattle.option_words.specs.Items.{letter_says, letters_say, long_says, long_word_says, options_say, word_says};
 ghost use Rattle.option_words.specs.Reads.{KeepsOperands, Reads, next_of, operands_seen};
 ghost use Rattle.option_words.specs.Parts.{parted};
 
@@ -54,9 +55,13 @@ pub struct Scan<'a> {
 
 /// What the words behind a command's name say, or the first fault among the options.
 pub fn scan_words<'a>(tool: Tool, words: &'a [String]) -> Result<Scan<'a>, Fault>
-    ensures given { MatchResult result (λ scan. with_items (items_of tool AnyWord 1 (texts_of words.now)) nothing_given ≡ Ok (given_options scan.given))
+    ensures given { MatchResult result
+        (λ scan.
+        with_items (items_of tool AnyWord 1 (texts_of words.now)) nothing_given ≡ Ok (given_options scan.given))
         (λ met. with_items (items_of tool AnyWord 1 (texts_of words.now)) nothing_given ≡ Err met) }
-    ensures operands { IfOk result (λ scan. take 7 (operands_seen scan.operands.items) ≡ take 7 (operands_in (items_of tool AnyWord 1 (texts_of words.now)))) }
+    ensures operands { IfOk result
+        (λ scan. take 7 (operands_seen scan.operands.items)
+        ≡ take 7 (operands_in (items_of tool AnyWord 1 (texts_of words.now)))) }
 {
     let mut given = Given::nothing();
     let mut operands = ArrayVec::new();
@@ -87,7 +92,8 @@ fn read_word<'a>(
     given: &mut Given<'a>,
     operands: &mut ArrayVec<OperandWord<'a>, 7>,
 ) -> Result<NextWord<'a>, Fault>
-    ensures reads { Reads (word_says tool (next_of wanted.entry) word text.now) (given_options given.old) (given_options given.new) result }
+    ensures reads { Reads (word_says tool (next_of wanted.entry) word text.now) (given_options given.old)
+        (given_options given.new) result }
     ensures keeps { OnOk result (KeepsOperands (word_says tool (next_of wanted.entry) word text.now).items
         (operands_seen operands.old.items) (operands_seen operands.new.items)) }
 {
@@ -118,7 +124,8 @@ fn read_any_word<'a>(
     given: &mut Given<'a>,
     operands: &mut ArrayVec<OperandWord<'a>, 7>,
 ) -> Result<NextWord<'a>, Fault>
-    ensures reads { Reads (any_word_says tool word text.now) (given_options given.old) (given_options given.new) result }
+    ensures reads { Reads (any_word_says tool word text.now) (given_options given.old)
+        (given_options given.new) result }
     ensures keeps { OnOk result (KeepsOperands (any_word_says tool word text.now).items
         (operands_seen operands.old.items) (operands_seen operands.new.items)) }
 {
@@ -142,7 +149,8 @@ fn holds_options(text: &str) -> bool
 
 /// Keeps an operand, where there are not seven of them already.
 fn keep<'a>(operands: &mut ArrayVec<OperandWord<'a>, 7>, text: &'a str, word: usize)
-    ensures { KeepsOperands (Plain text.now word ∷ []) (operands_seen operands.old.items) (operands_seen operands.new.items) }
+    ensures { KeepsOperands (Plain text.now word ∷ []) (operands_seen operands.old.items)
+        (operands_seen operands.new.items) }
 {
     if operands.is_full() {
         return;
@@ -175,7 +183,8 @@ fn read_long<'a>(
     text: &'a str,
     given: &mut Given<'a>,
 ) -> Result<NextWord<'a>, Fault>
-    ensures { Reads (long_word_says tool word text.now (parted 61 text.now)) (given_options given.old) (given_options given.new) result }
+    ensures { Reads (long_word_says tool word text.now (parted 61 text.now)) (given_options given.old)
+        (given_options given.new) result }
 {
     match parted(text, b'=') {
         Some((written, value)) => take_value(tool.long_switch(written), word, value, given),
@@ -190,7 +199,8 @@ fn take_value<'a>(
     value: &'a str,
     given: &mut Given<'a>,
 ) -> Result<NextWord<'a>, Fault>
-    ensures { Reads (long_says switch word (Some value.now)) (given_options given.old) (given_options given.new) result }
+    ensures { Reads (long_says switch word (Some value.now)) (given_options given.old)
+        (given_options given.new) result }
 {
     match switch {
         Some(Switch::Setting(setting)) => {
@@ -251,7 +261,9 @@ fn take_letters<'a>(
     behind: &'a str,
     given: &mut Given<'a>,
 ) -> Result<NextWord<'a>, Fault>
-    ensures { (more : Said) → Reads (letter_says (Some (Switch.Setting setting)) word behind.now more) (given_options given.old) (given_options given.new) result }
+    ensures { (more : Said)
+        → Reads (letter_says (Some (Switch.Setting setting)) word behind.now more) (given_options given.old)
+        (given_options given.new) result }
 {
     if behind.is_empty() {
         return Ok(NextWord::Value(setting, word));
@@ -262,7 +274,8 @@ fn take_letters<'a>(
 
 /// What the end of the words says: a fault where a value is wanted.
 fn read_end(wanted: NextWord<'_>) -> Result<(), Fault>
-    ensures { (given : GivenOptions) → MatchResult result (λ _. with_items (end_says (next_of wanted.entry)) given ≡ Ok given)
+    ensures { (given : GivenOptions)
+        → MatchResult result (λ _. with_items (end_says (next_of wanted.entry)) given ≡ Ok given)
         (λ met. with_items (end_says (next_of wanted.entry)) given ≡ Err met) }
 {
     match wanted {

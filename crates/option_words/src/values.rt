@@ -1,7 +1,8 @@
 ghost use Rattle.std.specs.Prelude.{◌≡◌, ◌≤◌, IfSome, Ok};
 ghost use Rattle.refusals.specs.declared.cause.UsageKind.TheVariants.{BadValue};
 ghost use Rattle.option_words.specs.Fault.{fault, with_value};
-ghost use Rattle.option_words.specs.Values.{conversion, conversion_of, format_of, is_export_path, kind_of, number_within};
+ghost use Rattle.option_words.specs.Values.{conversion, conversion_of, format_of, is_export_path, kind_of};
+ghost use Rattle.option_words.specs.Values.{number_within};
 
 use crate::parts::parted;
 use crate::{Conversion, Fault};

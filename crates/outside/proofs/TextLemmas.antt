@@ -13,7 +13,8 @@ appends_more old new bytes more p = record {
 }
 
 -- what stands in front was written too
-pub appends_front : (old front new bytes : List ℕ) → AppendsPrefix (old ++ front) new bytes → AppendsPrefix old new (front ++ bytes)
+pub appends_front : (old front new bytes : List ℕ) → AppendsPrefix (old ++ front) new bytes
+    → AppendsPrefix old new (front ++ bytes)
 appends_front old front new bytes p = record {
   done = front ++ p.done;
   rest = p.rest;
@@ -22,7 +23,8 @@ appends_front old front new bytes p = record {
 }
 
 -- what was gathered, and then a prefix of what followed
-pub appends_gathered : (start before written buffered new bytes : List ℕ) → IsGathered start before written buffered → AppendsPrefix written new (buffered ++ bytes) → AppendsPrefix start new (before ++ bytes)
+pub appends_gathered : (start before written buffered new bytes : List ℕ) → IsGathered start before written buffered
+    → AppendsPrefix written new (buffered ++ bytes) → AppendsPrefix start new (before ++ bytes)
 appends_gathered start before written buffered new bytes g p = record {
   done = g.sent ++ p.done;
   rest = p.rest;
@@ -32,12 +34,15 @@ appends_gathered start before written buffered new bytes g p = record {
 }
 
 -- a fault while what was gathered is written
-pub appends_at_flush : (start before written buffered new bytes : List ℕ) → IsGathered start before written buffered → AppendsPrefix written new buffered → AppendsPrefix start new (before ++ bytes)
+pub appends_at_flush : (start before written buffered new bytes : List ℕ) → IsGathered start before written buffered
+    → AppendsPrefix written new buffered → AppendsPrefix start new (before ++ bytes)
 appends_at_flush start before written buffered new bytes g p =
     appends_gathered start before written buffered new bytes g (appends_more written new buffered bytes p)
 
 -- a fault while bytes are written that stand behind what was gathered
-pub appends_at_write : (start before written buffered flushed new bytes : List ℕ) → IsGathered start before written buffered → flushed ≡ written ++ buffered → AppendsPrefix flushed new bytes → AppendsPrefix start new (before ++ bytes)
+pub appends_at_write : (start before written buffered flushed new bytes : List ℕ)
+    → IsGathered start before written buffered → flushed ≡ written ++ buffered → AppendsPrefix flushed new bytes
+    → AppendsPrefix start new (before ++ bytes)
 appends_at_write start before written buffered flushed new bytes g is p =
     appends_gathered start before written buffered new bytes g
     (appends_front written buffered new bytes (let Q : List ℕ → Type 0 = λ w. AppendsPrefix w new bytes in rw is at p))

@@ -33,7 +33,8 @@ pub record Start : Type 0 where
   pub port : ℕ
   pub left : List Datagram
 
--- How a link was started: how often, up to the last value of a counter of 64 bits, and how the last time, if ever it was.
+-- How a link was started: how often, up to the last value of a counter of 64 bits, and how the last time, if ever it
+-- was.
 pub record Started : Type 0 where
   pub times : ℕ
   pub last : Option Start
@@ -42,7 +43,8 @@ pub record Started : Type 0 where
 abbrev pub started_at : Started → (port : ℕ) → List Datagram → Started
 started_at before port left = record { times = counted before.times; last = Some (record { port = port; left = left }) }
 
--- A link: the datagrams that are left, the answers that were sent, how it was started, and how many of its calls have failed.
+-- A link: the datagrams that are left, the answers that were sent, how it was started, and how many of its calls have
+-- failed.
 pub record LinkSeen : Type 0 where
   pub left : List Datagram
   pub answers : List (List ℕ)

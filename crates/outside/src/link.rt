@@ -22,8 +22,8 @@ pub trait Link {
     /// Whether links of this type tell the datagrams, the answers and how they were started.
     ghost tells: { Bool };
 
-    /// The datagrams that are left, the answers that were sent and how the link was started, which count only where the link
-    /// tells them, and the count of faults.
+    /// The datagrams that are left, the answers that were sent and how the link was started, which count only where the
+    /// link tells them, and the count of faults.
     ghost seen: { Self → LinkSeen };
 
     /// Begins to take datagrams that are sent to this port; 0 stands for a port that the system chooses.

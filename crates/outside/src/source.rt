@@ -1,4 +1,5 @@
-ghost use Rattle.std.specs.Prelude.{◌≡◌, ◌≤◌, ◌++◌, ◌⊎◌, ◌&&◌, Bool, false, true, is_ok, [], length, take, IsTrue, IfOk, OnErr};
+ghost use Rattle.std.specs.Prelude.{◌≡◌, ◌≤◌, ◌++◌, ◌⊎◌, ◌&&◌, Bool, false, true, is_ok, [], length, take, IsTrue};
+ghost use Rattle.std.specs.Prelude.{IfOk, OnErr};
 ghost use Rattle.outside.specs.Behind.{IsBehind};
 ghost use Rattle.outside.specs.Count.{Rose};
 ghost use Rattle.outside.specs.Seen.{SourceSeen};
@@ -18,8 +19,8 @@ pub trait Source {
     /// The bytes that are left, which count only where the source tells them, and the count of faults.
     ghost seen: { Self → SourceSeen };
 
-    /// What a source keeps along its calls, such as the files of the store that it reads from: `true` where each of them
-    /// answered Ok, and `false` whether they did or not.
+    /// What a source keeps along its calls, such as the files of the store that it reads from: `true` where each of
+    /// them answered Ok, and `false` whether they did or not.
     ghost keeps: { Bool → Self → Self → Type 0 };
 
     /// Takes bytes from the front into `buf`, and answers how many: at least one where `buf` has room for one and bytes
@@ -48,11 +49,13 @@ pub trait Source {
         → keeps (one && two) first last };
 
     /// What is kept along calls that all answered Ok, and then along others, is kept as along the others alone.
-    ghost keeps_after_ok: { (ok : Bool) (first between last : Self) → keeps true first between → keeps ok between last → keeps ok first last } = { λ ok. keeps_on true ok };
+    ghost keeps_after_ok: { (ok : Bool) (first between last : Self) → keeps true first between → keeps ok between last
+        → keeps ok first last } = { λ ok. keeps_on true ok };
 
     /// What is kept where each call answered Ok is kept whether they did or not.
     ghost keeps_any: { (old new : Self) → keeps true old new → keeps false old new };
 
     /// Along what is kept, bytes are taken from the front and no others.
-    ghost keeps_behind: { (ok : Bool) (old new : Self) → keeps ok old new → IsTrue tells → IsBehind (seen old).left (seen new).left };
+    ghost keeps_behind: { (ok : Bool) (old new : Self) → keeps ok old new → IsTrue tells
+        → IsBehind (seen old).left (seen new).left };
 }

@@ -1,4 +1,5 @@
-ghost use Rattle.std.specs.Prelude.{◌≡◌, ◌≢◌, ◌≤◌, ◌^◌, ◌⊎◌, ℕ, Bool, List, [], ◌∷◌, ◌++◌, length, take, true, false, None, Some, IsSome, IsTrue, IfOk, OnOk, OnErr, is_ok};
+ghost use Rattle.std.specs.Prelude.{◌≡◌, ◌≢◌, ◌≤◌, ◌^◌, ◌⊎◌, ℕ, Bool, List, [], ◌∷◌, ◌++◌, length, take, true, false};
+ghost use Rattle.std.specs.Prelude.{None, Some, IsSome, IsTrue, IfOk, OnOk, OnErr, is_ok};
 ghost use Rattle.std.specs.Option.{option_map};
 ghost use Rattle.std.proofs.Common.{subst, sym};
 ghost use Rattle.outside.specs.Count.{Rose, counted};
@@ -18,9 +19,9 @@ pub struct StoreFault;
 /// a call answers fits the buffer.
 ///
 /// A store says besides which files its calls may have put where a stop of the machine leaves them. What only looks or
-/// writes puts none there, `sync` the files as they are told then, and `rename` of a file that is synced those that have the
-/// new name; of `rename` of another file, and of `create` but for a name in `.new`, nothing is said. So how often a change of
-/// a file is put there, and at which of its moments, is told by what it commits.
+/// writes puts none there, `sync` the files as they are told then, and `rename` of a file that is synced those that
+/// have the new name; of `rename` of another file, and of `create` but for a name in `.new`, nothing is said. So how
+/// often a change of a file is put there, and at which of its moments, is told by what it commits.
 pub trait Store {
     /// Whether stores of this type tell their files.
     ghost tells: { Bool };
@@ -29,14 +30,15 @@ pub trait Store {
     /// names count only where the store tells them.
     ghost seen: { Self → StoreSeen };
 
-    /// Along calls that led from one store to another, all that was put where a stop of the machine leaves it were the files
-    /// of these worlds, in this order, or of some of them.
+    /// Along calls that led from one store to another, all that was put where a stop of the machine leaves it were the
+    /// files of these worlds, in this order, or of some of them.
     ghost commits: { List World → Self → Self → Type 0 };
 
     /// Where no call was made nothing was put there.
     ghost commits_nothing: { (worlds : List World) (store : Self) → commits worlds store store };
 
-    /// Along some calls and those that follow it was what it was along the former, and then what it was along the latter.
+    /// Along some calls and those that follow it was what it was along the former, and then what it was along the
+    /// latter.
     ghost commits_on: { (one two : List World) (first between last : Self) → commits one first between
         → commits two between last → commits (one ++ two) first last };
 
@@ -150,11 +152,14 @@ pub trait Store {
         → commits worlds between last → commits worlds first last } = { λ worlds. commits_on [] worlds };
 
     /// What put nothing there put there no more than the files of any worlds.
-    ghost commits_more: { (worlds : List World) (old new : Self) → commits [] old new → commits worlds old new } = { λ worlds old new none. commits_on [] worlds old new new none (commits_nothing worlds new) };
+    ghost commits_more: { (worlds : List World) (old new : Self) → commits [] old new
+        → commits worlds old new } = { λ worlds old new none.
+            commits_on [] worlds old new new none (commits_nothing worlds new) };
 
     /// A look behind calls that put the files of one world there, as they are then, leaves it so.
     ghost commits_look: { (first between last : Self) → commits ((seen between).files ∷ []) first between
         → commits [] between last → (seen last).files ≡ (seen between).files
-        → commits ((seen last).files ∷ []) first last } = { λ first between last once none same. subst (λ (world : World). commits (world ∷ []) first last) (sym same)
+        → commits ((seen last).files ∷ []) first last } = { λ first between last once none same.
+            subst (λ (world : World). commits (world ∷ []) first last) (sym same)
             (commits_on ((seen between).files ∷ []) [] first between last once none) };
 }

@@ -1,7 +1,8 @@
 -- What a program says about itself, and which words ask for it. Source: the GNU coding standards, on `--help` and
 -- `--version`; that such a word stands alone, or behind the name of a command alone, is this project's own.
-use Rattle.std.specs.Prelude.{ℕ, if◌then◌else◌, List, [], ◌∷◌, ◌++◌, Option, Some, None, codes}
+use Rattle.std.specs.Prelude.{◌≡◌, ◌⊎◌, ℕ, if◌then◌else◌, List, [], ◌∷◌, ◌++◌, Option, Some, None, codes}
 use Rattle.std.specs.Str.{bytes_eq}
+use Rattle.outside.specs.Text.{AppendsPrefix}
 use Rattle.program_help.specs.declared.about.About.{About}
 use Rattle.program_help.specs.declared.about.About.TheVariants.{Help, Version, Command}
 
@@ -37,3 +38,26 @@ abbrev pub asked : List (List ℕ) → Option Question
 asked (word ∷ []) = asked_alone word
 asked (name ∷ word ∷ []) = asked_of name word
 asked _ = None
+
+-- A text has the line of a commit behind it.
+pub record HasCommit (text told : List ℕ) : Type 0 where
+  pub commit : List ℕ
+  pub behind : told ≡ with_commit text commit
+
+-- What is told where a program has a text for a question: that text, or, of its version, that text with the line of a
+-- commit behind it.
+abbrev pub Answers : Option Question → (text told : List ℕ) → Type 0
+Answers (Some OfVersion) text told = (told ≡ text) ⊎ HasCommit text told
+Answers _ text told = told ≡ text
+
+-- an answer is appended to what was written
+pub record IsAnswered (question : Option Question) (text old new : List ℕ) : Type 0 where
+  pub told : List ℕ
+  pub answers : Answers question text told
+  pub appended : new ≡ old ++ told
+
+-- a first part of an answer is
+pub record IsAnsweredInPart (question : Option Question) (text old new : List ℕ) : Type 0 where
+  pub told : List ℕ
+  pub answers : Answers question text told
+  pub begun : AppendsPrefix old new told

@@ -92,8 +92,8 @@ fn lines_of(
 }
 
 /// Writes, where that is asked for and there is memory for it, why an undo file was not believed, where that is
-/// what a call on the disk failed for, a line for each file that was recovered, and one for each undo file with an open gate
-/// that did not fit its file.
+/// what a call on the disk failed for, a line for each file that was recovered, and one for each undo file with an open
+/// gate that did not fit its file.
 pub fn tell_undo_files<E: Sink>(
     err: &mut E,
     is_asked: bool,

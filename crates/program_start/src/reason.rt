@@ -1,7 +1,9 @@
-ghost use Rattle.std.specs.Prelude.{◌≡◌, ◌≤◌, ◌⊎◌, ◌++◌, codes, List, None, IfOk, IfSome, IsTrue, false, is_some};
+ghost use Rattle.std.specs.Prelude.{◌≡◌, ◌≢◌, ◌≤◌, ◌⊎◌, ◌++◌, codes, List, None, Some, IfOk, IfSome, IsTrue, false};
+ghost use Rattle.std.specs.Prelude.{is_some};
 ghost use Rattle.std.specs.Prelude.{string_bytes, ℕ};
 ghost use Rattle.outside.specs.Text.{AppendsPrefix};
 ghost use Rattle.program_start.specs.Reason.{IsNameIn, IsReasonLine, TellsOf, failed_name, is_unreadable};
+ghost use Rattle.program_start.specs.declared.reason.Reason.TheVariants.{Text as TextOf};
 
 use outside::Sink;
 use std::alloc::{AllocError, Global};
@@ -28,7 +30,11 @@ pub fn run_reason<'a>(
     status: u8,
     text: Option<&'a str>,
     refused: Option<Reason<'a>>,
-) -> Option<Reason<'a>> {
+) -> Option<Reason<'a>>
+    ensures told { IfSome text.entry (λ told. result ≡ Some (TextOf told)) }
+    ensures refused { text.entry ≡ None → status ≡ 4 → result ≡ refused.entry }
+    ensures other { text.entry ≡ None → status ≢ 4 → result ≡ None }
+{
     match text {
         Some(text) => Some(Reason::Text(text)),
         None if status == 4 => refused,

@@ -1,8 +1,8 @@
-//! What a quota program stands on, under one name: the outside and its objects in memory, the lines and words of inputs,
-//! whole files, blocks and pages of files, and what an opened quota file offers.
+//! What a quota program stands on, under one name: the outside and its objects in memory, the lines and words of
+//! inputs, whole files, blocks and pages of files, and what an opened quota file offers.
 //!
-//! It is for those who take the library, has nothing of its own, and each line hands on what stands in the crate that it
-//! names. No crate of the program uses it: each names the crate where the thing is.
+//! It is for those who take the library, has nothing of its own, and each line hands on what stands in the crate that
+//! it names. No crate of the program uses it: each names the crate where the thing is.
 //!
 //! It has no function, and so promises nothing: a name here is what it is there.
 #![tactic(auto)]

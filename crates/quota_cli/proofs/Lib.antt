@@ -1,7 +1,9 @@
 mod AskedLemmas
 mod CommittedLemmas
 mod EffectLemmas
+mod EndStatusLemmas
 mod RunLemmas
 mod RowLemmas
 mod ScriptFullLemmas
+mod ScriptLineLemmas
 mod ScriptLemmas

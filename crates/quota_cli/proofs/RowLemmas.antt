@@ -12,14 +12,16 @@ use Rattle.script_lines.specs.Script.{LineSaid, script_said}
 -- lines of a script that is not refused itself are commands in a row
 pub lines_in_a_row : (now : ℕ) (lines : List LineSaid) → LinesSteps now lines None ≡ InARow (map (LineSteps now) lines)
 lines_in_a_row now [] = refl
-lines_in_a_row now (line ∷ lines) = ap (λ (others : Steps). Before (LineSteps now line) others) (lines_in_a_row now lines)
+lines_in_a_row now (line ∷ lines) =
+    ap (λ (others : Steps). Before (LineSteps now line) others) (lines_in_a_row now lines)
 
 -- an input is read to its end where no line is refused
 lines_read_on : (now : ℕ) (lines : List LineSaid) (refusal : Refusal) → ReadsToEnd (LinesSteps now lines (Some refusal))
 lines_read_on now [] refusal = tt
 lines_read_on now (line ∷ lines) refusal = inr (lines_read_on now lines refusal)
 
-read_by : (now : ℕ) (lines : List LineSaid) (refusal : Option Refusal) → IsTrue (is_none refusal) ⊎ ReadsToEnd (LinesSteps now lines refusal)
+read_by : (now : ℕ) (lines : List LineSaid) (refusal : Option Refusal)
+    → IsTrue (is_none refusal) ⊎ ReadsToEnd (LinesSteps now lines refusal)
 read_by now lines None = inl refl
 read_by now lines (Some refusal) = inr (lines_read_on now lines refusal)
 

@@ -1,6 +1,7 @@
 -- Lines of a script that were carried out, one after another, and the script that they stand in.
-use Rattle.std.proofs.Common.{◌≡◌, ◌≤◌, ◌<◌, ◌+◌, ℕ, Bool, true, false, cond, IsTrue, List, [], ◌∷◌, Option, None, Some, Ok, Err, Result, inl, inr, refl, sym, ap, subst, ◌∙◌, arith, ◌≢◌}
-use Rattle.std.specs.Prelude.{⊤, ◌&&◌, IfErr, IfSome, IsSome, is_none, is_ok}
+use Rattle.std.proofs.Common.{◌≡◌, ◌≤◌, ◌<◌, ◌+◌, ℕ, Bool, true, false, cond, IsTrue, List, [], ◌∷◌, Option, None, Some}
+use Rattle.std.proofs.Common.{Ok, Err, Result, inl, inr, refl, sym, ap, subst, ◌∙◌, arith, ◌≢◌}
+use Rattle.std.specs.Prelude.{◌&&◌, IfErr, IsSome, is_none}
 use Rattle.std.specs.Result.{result_err}
 use Rattle.std.specs.Str.{is_utf8}
 use Rattle.std.proofs.lemmas.Bool.{false≢true, le-leb, or_parts}
@@ -8,47 +9,48 @@ use Rattle.std.proofs.lemmas.Option.{none-some}
 use Rattle.std.proofs.lemmas.Result.{IfErr-weaker}
 use Rattle.outside.specs.Behind.{IsBehind}
 use Rattle.outside.specs.Count.{Rose}
-use Rattle.outside.specs.ManyCalls.{Syncs}
 use Rattle.input_text.specs.InputLines.{InputLines, NoLine, LineThen, LongNext, PastNext, input_lines}
 use Rattle.outside.specs.Seen.{SourceSeen}
 use Rattle.input_text.specs.Words.{words_of}
 use Rattle.outside.proofs.FrameLemmas.{only_reads-none, syncs-none, syncs-then}
 use Rattle.refusals.specs.declared.cause.Cause.{Cause}
-use Rattle.refusals.specs.declared.cause.Cause.TheVariants.{LinkFault, SourceFault, TooLarge, LongLine, BadLine, Memory, SinkFault}
+use Rattle.refusals.specs.declared.cause.Cause.TheVariants.{LinkFault, SourceFault, TooLarge, LongLine, BadLine}
+use Rattle.refusals.specs.declared.cause.Cause.TheVariants.{SinkFault}
 use Rattle.refusals.specs.declared.reason.Place.{Place}
 use Rattle.refusals.specs.declared.reason.Refusal.{Refusal}
 use Rattle.refusals.specs.Outcome.{Passed, Refused}
-use Rattle.refusals.specs.Refusals.{in_line, nowhere, refusal_of}
-use Rattle.run_steps.specs.Done.{Outside, RunSeen, RunTells, outside_of, IsWorldTold}
+use Rattle.refusals.specs.Refusals.{nowhere, refusal_of}
+use Rattle.run_steps.specs.Done.{Outside, RunSeen, RunTells, outside_of}
 use Rattle.run_steps.specs.Meaning.{IsSure, IsTaken}
-use Rattle.run_steps.specs.Run.{HasReason, Uses, IsDoneInPart}
-use Rattle.run_steps.specs.Carrying.{cause_in}
+use Rattle.run_steps.specs.Run.{HasReason}
 use Rattle.run_steps.specs.declared.invocation.Invocation.{Invocation}
-use Rattle.run_steps.proofs.CarryingLemmas.{MayUseAll, carried_before, carried_in_line, carried_stopped, finish_carried, lined}
+use Rattle.run_steps.proofs.CarryingLemmas.{carried_before, carried_stopped, finish_carried}
 use Rattle.run_steps.proofs.OpeningLemmas.{with_input}
 use Rattle.run_steps.proofs.PartLemmas.{nothing_begun}
-use Rattle.run_steps.proofs.ReasonLemmas.{reason_but_stated}
-use Rattle.run_steps.proofs.PhaseLemmas.{LeadsTo, carries_more, carries_since, leads_reading, nothing_carried, placed_nowhere, stop_carried}
-use Rattle.script_lines.specs.Script.{LineSaid, ScriptMayRefuse, ScriptSaid, lines_say, says_then, script_refusal, script_said}
+use Rattle.run_steps.proofs.PhaseLemmas.{LeadsTo, carries_since, leads_reading}
+use Rattle.run_steps.proofs.PhaseLemmas.{placed_nowhere, stop_carried}
+use Rattle.script_lines.specs.Script.{LineSaid, ScriptMayRefuse, ScriptSaid, lines_say, says_then, script_refusal}
+use Rattle.script_lines.specs.Script.{script_said}
 use Rattle.script_lines.specs.ScriptReading.{IsOfScript}
 use Rattle.run_steps.specs.InputLine.{says_nothing}
 use Rattle.command_words.specs.Asked.{command_of}
 use Rattle.script_lines.specs.declared.script.ScriptFault.{ScriptFault}
 use Rattle.script_lines.specs.declared.script.ScriptFault.TheVariants.{Source, Memory as NoMemory}
 use Rattle.command_table.specs.CarriedOut.{IsCarriedOut, StopsIt}
-use Rattle.command_table.specs.Table.{asked_by, described}
-use Rattle.command_table.proofs.CommandLemmas.{of_done, only_itself}
+use Rattle.command_table.specs.Table.{described}
+use Rattle.command_table.proofs.CommandLemmas.{of_done}
 use Rattle.command_table.proofs.AskedLemmas.{asked_sure, spares_input}
 use Rattle.command_table.proofs.SoundLemmas.{sound}
 use Rattle.quota_cli.specs.Carrying.{AreCarried, Ascends, IsLineCarried, unread_cause}
-use Rattle.quota_cli.specs.Script.{ReachesLine, IsLeftUnfinished, IsLineUnfinished, IsOfLine, IsOfLines, StandsInScript, LineSteps, LinesSteps, LinesSuffice, RunningMayRefuse, ScriptSteps, asked_in_script, comes_to_link, is_come_to, is_up_to, line_invocation, script_uses, scripting}
-use Rattle.run_steps.specs.Steps.{Steps}
-use Rattle.run_steps.proofs.RowLemmas.{part_in_line}
+use Rattle.quota_cli.specs.Script.{ReachesLine, IsLeftUnfinished, IsLineUnfinished, IsOfLine, IsOfLines, StandsInScript}
+use Rattle.quota_cli.specs.Script.{LineSteps, LinesSteps, LinesSuffice, RunningMayRefuse, ScriptSteps, asked_in_script}
+use Rattle.quota_cli.specs.Script.{comes_to_link, is_come_to, is_up_to, line_invocation, script_uses, scripting}
 
 -- The numbers of lines.
 
 -- a refusal in a line of lines whose numbers ascend from above one names a number above it
-above : (now least number : ℕ) (lines : List LineSaid) (tells : RunTells) (old new : RunSeen) (refusal : Refusal) → refusal.place.line ≡ Some number → Ascends least lines
+above : (now least number : ℕ) (lines : List LineSaid) (tells : RunTells) (old new : RunSeen) (refusal : Refusal)
+    → refusal.place.line ≡ Some number → Ascends least lines
     → IsOfLines now lines tells old new refusal → least < number
 above now least number [] tells old new refusal named ascends one = absurd one
 above now least number (line ∷ lines) tells old new refusal named ascends (inl one) =
@@ -56,10 +58,15 @@ above now least number (line ∷ lines) tells old new refusal named ascends (inl
     let same : number ≡ line.number = cc (both) in
     omega (arith, ascends.0, same)
 above now least number (line ∷ lines) tells old new refusal named ascends (inr (middle, done, one)) =
-    let more = above now line.number number lines tells middle new refusal named ascends.1 one in omega (arith, ascends.0, more)
+    let more = above now line.number number lines tells middle new refusal named ascends.1 one in
+    omega (arith, ascends.0, more)
 
-ascends_then : (nothing utf8 : Bool) (least number : ℕ) (line : List ℕ) (more : ScriptSaid) → least < number → Ascends number more.lines → Ascends least more.lines
-    → Ascends least (says_then (cond nothing (Passed None) (cond utf8 (Passed (Some (record { number = number; text = line }))) (Refused (script_refusal (BadLine number))))) more).lines
+ascends_then : (nothing utf8 : Bool) (least number : ℕ) (line : List ℕ) (more : ScriptSaid) → least < number
+    → Ascends number more.lines → Ascends least more.lines
+    → Ascends least (says_then
+    (cond nothing (Passed None)
+    (cond utf8 (Passed (Some (record { number = number; text = line }))) (Refused (script_refusal (BadLine number)))))
+    more).lines
 ascends_then true utf8 least number line more is one other = other
 ascends_then false true least number line more is one other = (is, one)
 ascends_then false false least number line more is one other = tt
@@ -78,17 +85,22 @@ script_ascends bytes = lines_ascend (input_lines 4096 16777216 bytes) 0 1 (omega
 
 -- The lines that were reached.
 
-up_to : (place : Option ℕ) (now : ℕ) (line : LineSaid) (lines : List LineSaid) (tells : RunTells) (old new : RunSeen) (refusal : Refusal) → refusal.place.line ≡ place → Ascends line.number lines
+up_to : (place : Option ℕ) (now : ℕ) (line : LineSaid) (lines : List LineSaid) (tells : RunTells) (old new : RunSeen)
+    (refusal : Refusal) → refusal.place.line ≡ place → Ascends line.number lines
     → (IsSome place → IsOfLines now lines tells old new refusal) → is_up_to place line.number ≡ true
 up_to None now line lines tells old new refusal named ascends one = refl
 up_to (Some number) now line lines tells old new refusal named ascends one =
-    let more = above now line.number number lines tells old new refusal named ascends (one refl) in le-leb line.number number (omega (arith, more))
+    let more = above now line.number number lines tells old new refusal named ascends (one refl) in
+    le-leb line.number number (omega (arith, more))
 
 -- a line is reached where the ones behind it were carried out
-come_to : (now : ℕ) (line : LineSaid) (lines : List LineSaid) (tells : RunTells) (old new : RunSeen) (result : Result (Unit {0}) Refusal) → Ascends line.number lines
-    → IfErr result (λ (refusal : Refusal). IsSome refusal.place.line → IsOfLines now lines tells old new refusal) → is_come_to (result_err result) line ≡ true
+come_to : (now : ℕ) (line : LineSaid) (lines : List LineSaid) (tells : RunTells) (old new : RunSeen)
+    (result : Result (Unit {0}) Refusal) → Ascends line.number lines
+    → IfErr result (λ (refusal : Refusal). IsSome refusal.place.line → IsOfLines now lines tells old new refusal)
+    → is_come_to (result_err result) line ≡ true
 come_to now line lines tells old new (Ok value) ascends one = refl
-come_to now line lines tells old new (Err refusal) ascends one = up_to refusal.place.line now line lines tells old new refusal refl ascends one
+come_to now line lines tells old new (Err refusal) ascends one =
+    up_to refusal.place.line now line lines tells old new refusal refl ascends one
 
 own_number : (place : Option ℕ) (number : ℕ) → place ≡ Some number → is_up_to place number ≡ true
 own_number None number is = absurd (cc)
@@ -101,33 +113,54 @@ second_false false b is none = absurd (cc)
 -- Lines that were carried out.
 
 -- a line was refused, and the ones behind it did not come
-pub lines_stopped : (now : ℕ) (line : LineSaid) (lines : List LineSaid) (ended : Option Refusal) (tells : RunTells) (old new : RunSeen) (refusal : Refusal)
-    → IsLineCarried now line tells old new (Err refusal) → AreCarried now (line ∷ lines) ended tells old new (Err refusal)
+pub lines_stopped : (now : ℕ) (line : LineSaid) (lines : List LineSaid) (ended : Option Refusal) (tells : RunTells)
+    (old new : RunSeen) (refusal : Refusal)
+    → IsLineCarried now line tells old new (Err refusal)
+    → AreCarried now (line ∷ lines) ended tells old new (Err refusal)
 lines_stopped now line lines ended tells old new refusal carried = record {
-  carries = carried_stopped (LineSteps now line) (LinesSteps now lines ended) script_uses RunningMayRefuse tells old new refusal carried.carries;
+  carries = carried_stopped (LineSteps now line) (LinesSteps now lines ended) script_uses RunningMayRefuse tells old new
+      refusal carried.carries;
   synced = carried.synced;
   own = λ none. absurd (none-some line.number (sym none ∙ carried.of_line.named));
   within = λ some. inl carried.of_line;
   unlinked = λ least ascends none.
-      carried.unlinked (second_false _ _ (own_number refusal.place.line line.number carried.of_line.named) (or_parts _ _ none).0);
+      carried.unlinked
+      (second_false _ _ (own_number refusal.place.line line.number carried.of_line.named) (or_parts _ _ none).0);
 }
 
 -- a line was carried out, and then the ones behind it
-pub lines_passed : (now : ℕ) (line : LineSaid) (lines : List LineSaid) (ended : Option Refusal) (tells : RunTells) (old middle new : RunSeen) (passed : Unit {0}) (result : Result (Unit {0}) Refusal)
-    → IsLineCarried now line tells old middle (Ok passed) → AreCarried now lines ended tells middle new result → AreCarried now (line ∷ lines) ended tells old new result
+pub lines_passed : (now : ℕ) (line : LineSaid) (lines : List LineSaid) (ended : Option Refusal) (tells : RunTells)
+    (old middle new : RunSeen) (passed : Unit {0}) (result : Result (Unit {0}) Refusal)
+    → IsLineCarried now line tells old middle (Ok passed) → AreCarried now lines ended tells middle new result
+    → AreCarried now (line ∷ lines) ended tells old new result
 lines_passed now line lines ended tells old middle new passed result first then = record {
-  carries = carried_before (LineSteps now line) (LinesSteps now lines ended) script_uses RunningMayRefuse tells old middle new passed result refl first.carries then.carries;
+  carries = carried_before (LineSteps now line) (LinesSteps now lines ended) script_uses RunningMayRefuse tells old
+      middle new passed result refl first.carries then.carries;
   synced = λ told. syncs-then old.store middle.store new.store (first.synced told) (then.synced told);
   own = then.own;
-  within = IfErr-weaker result _ _ (λ refusal one some. inr (middle, record { done = first.carries.done; synced = λ told. (first.synced told).synced (inl refl); unlinked = first.unlinked; later = first.carries.later }, one some)) then.within;
+  within = IfErr-weaker result _ _
+      (λ refusal one some. inr (
+        middle,
+        record {
+          done = first.carries.done;
+          synced = λ told. (first.synced told).synced (inl refl);
+          unlinked = first.unlinked;
+          later = first.carries.later;
+        },
+        one some,
+      )) then.within;
   unlinked = λ least ascends none.
-      let parts = or_parts (is_come_to (result_err result) line && (asked_in_script line.text).uses.link) (comes_to_link lines (result_err result)) none in
+      let parts = or_parts (is_come_to (result_err result) line && (asked_in_script line.text).uses.link)
+      (comes_to_link lines (result_err result)) none in
       then.unlinked line.number ascends.1 parts.1
-      ∙ first.unlinked (second_false (is_come_to (result_err result) line) _ (come_to now line lines tells middle new result ascends.1 then.within) parts.0);
+      ∙ first.unlinked
+      (second_false (is_come_to (result_err result) line) _
+      (come_to now line lines tells middle new result ascends.1 then.within) parts.0);
 }
 
 -- no line is left, and the script is not refused itself
-pub lines_done : (now : ℕ) (tells : RunTells) (old : RunSeen) (passed : Unit {0}) → AreCarried now [] None tells old old (Ok passed)
+pub lines_done : (now : ℕ) (tells : RunTells) (old : RunSeen) (passed : Unit {0})
+    → AreCarried now [] None tells old old (Ok passed)
 lines_done now tells old passed = record {
   carries = finish_carried script_uses RunningMayRefuse tells old passed;
   synced = λ told. syncs-none old.store;
@@ -137,7 +170,8 @@ lines_done now tells old passed = record {
 }
 
 -- a cause for which a script itself is refused is no fault, and belongs to what is stated
-own_reason : (cause : Cause) (name : List ℕ) (tells : RunTells) (old : RunSeen) → ScriptMayRefuse cause name → (stated : Type 0) → stated → HasReason script_uses old old stated cause
+own_reason : (cause : Cause) (name : List ℕ) (tells : RunTells) (old : RunSeen) → ScriptMayRefuse cause name
+    → (stated : Type 0) → stated → HasReason script_uses old old stated cause
 own_reason (BadLine line) name tells old may stated fact = fact
 own_reason (LongLine line) name tells old may stated fact = fact
 own_reason TooLarge name tells old may stated fact = fact
@@ -160,139 +194,49 @@ own_no_stop TooLarge name may (inr is) = omega (arith, is)
 own_no_stop _ name may stopped = absurd may
 
 -- no line is left, and the script is refused itself
-pub lines_refused : (now : ℕ) (tells : RunTells) (old : RunSeen) (refusal : Refusal) → IsOfScript refusal → AreCarried now [] (Some refusal) tells old old (Err refusal)
+pub lines_refused : (now : ℕ) (tells : RunTells) (old : RunSeen) (refusal : Refusal) → IsOfScript refusal
+    → AreCarried now [] (Some refusal) tells old old (Err refusal)
 lines_refused now tells old refusal own = record {
-  carries = stop_carried script_uses RunningMayRefuse tells old refusal (own_no_output refusal.cause refusal.name own.may) (own_reason refusal.cause refusal.name tells old own.may) (inr (inr (inl own.may))) (placed_nowhere script_uses refusal own.place);
+  carries = stop_carried script_uses RunningMayRefuse tells old refusal
+      (own_no_output refusal.cause refusal.name own.may) (own_reason refusal.cause refusal.name tells old own.may)
+      (inr (inr (inl own.may))) (placed_nowhere script_uses refusal own.place);
   synced = λ told. syncs-none old.store;
   own = λ none. own.may;
-  within = λ some. let none : IsSome nowhere.line = subst (λ (p : Place). IsSome p.line) own.place some in absurd (false≢true none);
+  within = λ some. let none : IsSome nowhere.line = subst (λ (p : Place). IsSome p.line) own.place some in
+      absurd (false≢true none);
   unlinked = λ least ascends none. refl;
 }
-
--- What a line asks for.
-
--- a script may do all that a line does
-widest : MayUseAll script_uses
-widest = record { link = refl; changes = refl; whole = refl; warns = refl; commands = refl; edits = refl }
-
--- a line ended well where what it asks for did
-same_in_line : (line : ℕ) (done result : Result (Unit {0}) Refusal) → result_err result ≡ in_line line (result_err done) → is_ok result ≡ is_ok done
-same_in_line line (Ok passed) (Ok value) is = refl
-same_in_line line (Err refused) (Ok value) is = absurd (none-some _ is)
-same_in_line line (Ok passed) (Err refusal) is = absurd (none-some _ (sym is))
-same_in_line line (Err refused) (Err refusal) is = refl
-
--- what facts say of a refusal holds of it in a line
-err_in_line : (line : ℕ) (first second third fourth holds : Refusal → Type 0) (done result : Result (Unit {0}) Refusal) → result_err result ≡ in_line line (result_err done)
-    → ((refusal : Refusal) → first refusal → second refusal → third refusal → fourth refusal → holds (lined line refusal)) → IfErr done first → IfErr done second → IfErr done third → IfErr done fourth
-    → IfErr result holds
-err_in_line line first second third fourth holds (Ok passed) (Ok value) is so one two three four = tt
-err_in_line line first second third fourth holds (Ok passed) (Err refusal) is so one two three four = absurd (none-some refusal (sym is))
-err_in_line line first second third fourth holds (Err refusal) (Ok value) is so one two three four = tt
-err_in_line line first second third fourth holds (Err refusal) (Err said) is so one two three four =
-    let same : said ≡ lined line refusal = cc in
-    subst holds (sym same) (so refusal one two three four)
-
--- what was done in part of steps that were refused
-part_of_err : (steps : Steps) (tells : RunTells) (old new : RunSeen) (result : Result (Unit {0}) Refusal) → (IsWorldTold tells → IsDoneInPart steps tells (cause_in result) old new)
-    → IfErr result (λ (refusal : Refusal). IsWorldTold tells → IsDoneInPart steps tells (Some refusal.cause) old new)
-part_of_err steps tells old new (Ok passed) part = tt
-part_of_err steps tells old new (Err refusal) part = part
-
--- the link fails only for a command that uses it
-link_used : (uses : Uses) (old new : RunSeen) (stated : Type 0) (cause : Cause) → HasReason uses old new stated cause → cause ≡ LinkFault → IsTrue uses.link
-link_used uses old new stated cause reason is = (subst (λ (c : Cause). HasReason uses old new stated c) is reason).0
-
--- what a line asks for was carried out, and so was the line
-pub line_carried : (now : ℕ) (line : LineSaid) (tells : RunTells) (old new : RunSeen) (done result : Result (Unit {0}) Refusal) → result_err result ≡ in_line line.number (result_err done)
-    → ((asked_in_script line.text).uses.link ≡ false → new.link ≡ old.link) → IsCarriedOut (asked_in_script line.text) (line_invocation now line) tells old new done → IsLineCarried now line tells old new result
-line_carried now line tells old new done result is unlinked carried =
-    let asked = asked_in_script line.text in
-    let carries = carried_in_line line.number (asked.steps (line_invocation now line)) asked.uses script_uses RunningMayRefuse tells old new done result widest is
-    (carries_more (asked.steps (line_invocation now line)) asked.uses asked.may RunningMayRefuse tells old new done (λ cause name may. inr (inr (inr (line.text, may)))) carried.carries) in
-    record {
-      carries = carries;
-      synced = λ told. subst (λ (d : Bool). Syncs d old.store new.store) (sym (same_in_line line.number done result is)) (carried.synced told);
-      unlinked = unlinked;
-      of_line = err_in_line line.number _ _ _ _ _ done result is
-          (λ refusal reason may left begun. record {
-            named = refl;
-            may = may;
-            reason = reason_but_stated asked.uses old new _ ⊤ refusal.cause (λ stated. tt) reason;
-            unfinished = λ failed. (link_used asked.uses old new _ refusal.cause reason failed, left failed);
-            part = λ told. part_in_line line.number (asked.steps (line_invocation now line)) tells old new (begun told);
-          })
-          carried.carries.refused carried.carries.may_refuse carried.unfinished (part_of_err (asked.steps (line_invocation now line)) tells old new done carried.carries.part);
-    }
-
--- words of a line were carried out
-pub text_carried : (text : List ℕ) (invocation : Invocation) (tells : RunTells) (old new : RunSeen) (result : Result (Unit {0}) Refusal)
-    → IsCarriedOut (asked_by described (command_of true (words_of text))) invocation tells old new result → IsCarriedOut (asked_in_script text) invocation tells old new result
-text_carried text invocation tells old new result carried = record {
-  carries = carries_more _ _ _ (asked_in_script text).may tells old new result (λ cause name may. inr may) carried.carries;
-  named = carried.named;
-  edited = carried.edited;
-  unwritten = carried.unwritten;
-  within = record { files = record { alone = carried.within.files.alone; anew = carried.within.files.anew }; few = carried.within.few };
-  reads = carried.reads;
-  made = carried.made;
-  synced = carried.synced;
-  unfinished = carried.unfinished;
-  untaken = carried.untaken;
-  unlinked = carried.unlinked;
-  unbegun = carried.unbegun;
-}
-
-every_file : (file : Option (List ℕ)) (holds : List ℕ → Type 0) → ((one : List ℕ) → holds one) → IfSome file holds
-every_file None holds all = tt
-every_file (Some one) holds all = all one
-
--- as many calls as there were are no more than others
-as_many : (most : Option ℕ) (writes : ℕ) → IfSome most (λ (m : ℕ). writes ≤ writes + m)
-as_many None writes = tt
-as_many (Some m) writes = omega arith
-
--- there was not enough memory for the words of a line
-pub text_wanting : (text : List ℕ) (invocation : Invocation) (tells : RunTells) (old : RunSeen) → IsCarriedOut (asked_in_script text) invocation tells old old (Err (refusal_of Memory []))
-text_wanting text invocation tells old =
-    let asked = asked_in_script text in
-    record {
-      carries = nothing_carried (asked.steps invocation) asked.uses asked.may tells old (refusal_of Memory []) (λ is. cc) tt (inl refl) (placed_nowhere asked.uses (refusal_of Memory []) refl);
-      named = every_file asked.replaces _ (λ file told. refl);
-      edited = every_file asked.edits _ (λ file told other. inl refl);
-      unwritten = λ said memory. record { files = refl; writes = refl };
-      within = record { files = only_itself asked old.store.files; few = as_many asked.most_writes old.store.writes };
-      reads = tt;
-      made = tt;
-      synced = λ told. syncs-none old.store;
-      unfinished = λ failed. absurd (cc);
-      untaken = λ one five. refl;
-      unlinked = λ told none. refl;
-      unbegun = λ reads stopped none. record { store = refl; out = refl; err = refl; link = refl };
-    }
 
 -- A script.
 
 -- lines that were said are those of the script
-lines_lead : (invocation : Invocation) (old : RunSeen) (input : SourceSeen) (said : ScriptSaid) → script_said old.input.left ≡ said → IsTaken (is_none said.refusal) old.input.left input.left
-    → LeadsTo (LinesSteps invocation.now said.lines said.refusal) (record (outside_of old) { input = input.left }) (ScriptSteps invocation) (outside_of old)
+lines_lead : (invocation : Invocation) (old : RunSeen) (input : SourceSeen) (said : ScriptSaid)
+    → script_said old.input.left ≡ said → IsTaken (is_none said.refusal) old.input.left input.left
+    → LeadsTo (LinesSteps invocation.now said.lines said.refusal) (record (outside_of old) { input = input.left })
+    (ScriptSteps invocation) (outside_of old)
 lines_lead invocation old input said is taken =
     let whole = λ (bytes : List ℕ). is_none (script_said bytes).refusal in
     let next = λ (bytes : List ℕ). LinesSteps invocation.now (script_said bytes).lines (script_said bytes).refusal in
-    subst (λ (s : ScriptSaid). LeadsTo (LinesSteps invocation.now s.lines s.refusal) (record (outside_of old) { input = input.left }) (ScriptSteps invocation) (outside_of old)) is
-    (leads_reading whole next (outside_of old) input.left (subst (λ (s : ScriptSaid). IsTaken (is_none s.refusal) old.input.left input.left) (sym is) taken))
+    subst (λ (s : ScriptSaid). LeadsTo (LinesSteps invocation.now s.lines s.refusal)
+    (record (outside_of old) { input = input.left }) (ScriptSteps invocation) (outside_of old)) is
+    (leads_reading whole next (outside_of old) input.left
+    (subst (λ (s : ScriptSaid). IsTaken (is_none s.refusal) old.input.left input.left) (sym is) taken))
 
 -- the input is read to its end where the script is not refused itself
-pub script_taken : (refusal : Option Refusal) (old left : List ℕ) → IsBehind old left → (refusal ≡ None → left ≡ []) → IsTaken (is_none refusal) old left
+pub script_taken : (refusal : Option Refusal) (old left : List ℕ) → IsBehind old left → (refusal ≡ None → left ≡ [])
+    → IsTaken (is_none refusal) old left
 script_taken None old left behind ended = record { taken = behind.0; behind = behind.1; all = λ all. ended refl }
-script_taken (Some refusal) old left behind ended = record { taken = behind.0; behind = behind.1; all = λ all. absurd (false≢true all) }
+script_taken (Some refusal) old left behind ended =
+    record { taken = behind.0; behind = behind.1; all = λ all. absurd (false≢true all) }
 
 -- what follows for each line follows for the one that was reached
-comes_to_weaker : (one other : LineSaid → RunSeen → Type 0) (now : ℕ) (lines : List LineSaid) (tells : RunTells) (old : RunSeen) → ((line : LineSaid) (before : RunSeen) → one line before → other line before)
+comes_to_weaker : (one other : LineSaid → RunSeen → Type 0) (now : ℕ) (lines : List LineSaid) (tells : RunTells)
+    (old : RunSeen) → ((line : LineSaid) (before : RunSeen) → one line before → other line before)
     → ReachesLine one now lines tells old → ReachesLine other now lines tells old
 comes_to_weaker one other now [] tells old so at = absurd at
 comes_to_weaker one other now (line ∷ lines) tells old so (inl held) = inl (so line old held)
-comes_to_weaker one other now (line ∷ lines) tells old so (inr (middle, done, at)) = inr (middle, done, comes_to_weaker one other now lines tells middle so at)
+comes_to_weaker one other now (line ∷ lines) tells old so (inr (middle, done, at)) =
+    inr (middle, done, comes_to_weaker one other now lines tells middle so at)
 
 no_link_fault : (cause : Cause) (name : List ℕ) → ScriptMayRefuse cause name → cause ≡ LinkFault → ⊥
 no_link_fault LinkFault name may is = may
@@ -302,26 +246,39 @@ no_link_fault TooLarge name may is = absurd (cc)
 no_link_fault _ name may is = may
 
 -- a line was left unfinished where a fault of the link is said of lines
-left_unfinished : (place : Option ℕ) (now : ℕ) (lines : List LineSaid) (tells : RunTells) (old new : RunSeen) (refusal : Refusal) → (place ≡ None → ScriptMayRefuse refusal.cause refusal.name)
-    → (IsSome place → IsOfLines now lines tells old new refusal) → refusal.cause ≡ LinkFault → IsLeftUnfinished now lines tells old new
-left_unfinished None now lines tells old new refusal own one failed = absurd (no_link_fault refusal.cause refusal.name (own refl) failed)
+left_unfinished : (place : Option ℕ) (now : ℕ) (lines : List LineSaid) (tells : RunTells) (old new : RunSeen)
+    (refusal : Refusal) → (place ≡ None → ScriptMayRefuse refusal.cause refusal.name)
+    → (IsSome place → IsOfLines now lines tells old new refusal) → refusal.cause ≡ LinkFault
+    → IsLeftUnfinished now lines tells old new
+left_unfinished None now lines tells old new refusal own one failed =
+    absurd (no_link_fault refusal.cause refusal.name (own refl) failed)
 left_unfinished (Some number) now lines tells old new refusal own one failed =
-    comes_to_weaker (λ (line : LineSaid) (before : RunSeen). IsOfLine now line tells before new refusal) (λ (line : LineSaid) (before : RunSeen). IsLineUnfinished now line tells before new) now lines tells old
+    comes_to_weaker (λ (line : LineSaid) (before : RunSeen). IsOfLine now line tells before new refusal)
+    (λ (line : LineSaid) (before : RunSeen). IsLineUnfinished now line tells before new) now lines tells old
     (λ line before of_line. of_line.unfinished failed) (one refl)
 
-lines_unfinished : (now : ℕ) (lines : List LineSaid) (ended : Option Refusal) (tells : RunTells) (old new : RunSeen) (result : Result (Unit {0}) Refusal) → AreCarried now lines ended tells old new result
+lines_unfinished : (now : ℕ) (lines : List LineSaid) (ended : Option Refusal) (tells : RunTells) (old new : RunSeen)
+    (result : Result (Unit {0}) Refusal) → AreCarried now lines ended tells old new result
     → IfErr result (λ (refusal : Refusal). refusal.cause ≡ LinkFault → IsLeftUnfinished now lines tells old new)
 lines_unfinished now lines ended tells old new (Ok value) carried = tt
-lines_unfinished now lines ended tells old new (Err refusal) carried = left_unfinished refusal.place.line now lines tells old new refusal carried.own carried.within
+lines_unfinished now lines ended tells old new (Err refusal) carried =
+    left_unfinished refusal.place.line now lines tells old new refusal carried.own carried.within
 
 -- a script was read, and its lines were carried out
-pub script_carried : (invocation : Invocation) (tells : RunTells) (old : RunSeen) (input : SourceSeen) (new : RunSeen) (result : Result (Unit {0}) Refusal) (said : ScriptSaid)
-    → old.input.faults ≤ input.faults → (IsTrue tells.input → script_said old.input.left ≡ said) → (IsTrue tells.input → IsBehind old.input.left input.left)
-    → (said.refusal ≡ None → IsTrue tells.input → input.left ≡ []) → AreCarried invocation.now said.lines said.refusal tells (with_input old input) new result → IsCarriedOut scripting invocation tells old new result
+pub script_carried : (invocation : Invocation) (tells : RunTells) (old : RunSeen) (input : SourceSeen) (new : RunSeen)
+    (result : Result (Unit {0}) Refusal) (said : ScriptSaid)
+    → old.input.faults ≤ input.faults → (IsTrue tells.input → script_said old.input.left ≡ said)
+    → (IsTrue tells.input → IsBehind old.input.left input.left)
+    → (said.refusal ≡ None → IsTrue tells.input → input.left ≡ [])
+    → AreCarried invocation.now said.lines said.refusal tells (with_input old input) new result
+    → IsCarriedOut scripting invocation tells old new result
 script_carried invocation tells old input new result said later is behind ended carried = record {
-  carries = carries_since {done = true} [] (LinesSteps invocation.now said.lines said.refusal) (ScriptSteps invocation) script_uses true RunningMayRefuse RunningMayRefuse tells old old.store input new result
+  carries =
+      carries_since {done = true} [] (LinesSteps invocation.now said.lines said.refusal) (ScriptSteps invocation)
+      script_uses true RunningMayRefuse RunningMayRefuse tells old old.store input new result
       (only_reads-none [] old.store) later (λ told. lines_lead invocation old input said (is told.input)
-      (script_taken said.refusal old.input.left input.left (behind told.input) (λ none. ended none told.input))) (λ cause name may. may) carried.carries;
+      (script_taken said.refusal old.input.left input.left (behind told.input) (λ none. ended none told.input)))
+      (λ cause name may. may) carried.carries;
   named = tt;
   edited = tt;
   unwritten = λ said. absurd (false≢true said);
@@ -331,11 +288,15 @@ script_carried invocation tells old input new result said later is behind ended 
   synced = carried.synced;
   unfinished = IfErr-weaker result _ _ (λ refusal left failed told. (
     input,
-    subst (λ (s : ScriptSaid). IsLeftUnfinished invocation.now s.lines tells (with_input old input) new) (sym (is told)) (left failed),
+    subst (λ (s : ScriptSaid). IsLeftUnfinished invocation.now s.lines tells (with_input old input) new)
+        (sym (is told)) (left failed),
   )) (lines_unfinished invocation.now said.lines said.refusal tells (with_input old input) new result carried);
   untaken = λ one. absurd (false≢true (sym one));
-  unbegun = λ reads. IfErr-weaker result _ _ (λ refusal own stopped none. absurd (own_no_stop refusal.cause refusal.name (own none) stopped)) carried.own;
-  unlinked = λ told none. carried.unlinked 0 (subst (λ (s : ScriptSaid). Ascends 0 s.lines) (is told) (script_ascends old.input.left))
+  unbegun = λ reads. IfErr-weaker result _ _
+      (λ refusal own stopped none. absurd (own_no_stop refusal.cause refusal.name (own none) stopped)) carried.own;
+  unlinked =
+      λ told none.
+      carried.unlinked 0 (subst (λ (s : ScriptSaid). Ascends 0 s.lines) (is told) (script_ascends old.input.left))
       (subst (λ (s : ScriptSaid). comes_to_link s.lines (result_err result) ≡ false) (is told) none);
 }
 
@@ -344,36 +305,62 @@ not_in_line text name (inl is) = cc
 not_in_line text name (inr may) = spares_input (words_of text) name may
 
 -- a refusal in a line is no fault of the input
-not_of_input : (now : ℕ) (lines : List LineSaid) (tells : RunTells) (old new : RunSeen) (refusal : Refusal) → refusal.cause ≡ SourceFault → IsOfLines now lines tells old new refusal → ⊥
+not_of_input : (now : ℕ) (lines : List LineSaid) (tells : RunTells) (old new : RunSeen) (refusal : Refusal)
+    → refusal.cause ≡ SourceFault → IsOfLines now lines tells old new refusal → ⊥
 not_of_input now [] tells old new refusal is at = at
 not_of_input now (line ∷ lines) tells old new refusal is (inl of_line) =
-    not_in_line line.text refusal.name (subst (λ (c : Cause). (asked_in_script line.text).may c refusal.name) is of_line.may)
-not_of_input now (line ∷ lines) tells old new refusal is (inr (middle, done, at)) = not_of_input now lines tells middle new refusal is at
+    not_in_line line.text refusal.name
+    (subst (λ (c : Cause). (asked_in_script line.text).may c refusal.name) is of_line.may)
+not_of_input now (line ∷ lines) tells old new refusal is (inr (middle, done, at)) =
+    not_of_input now lines tells middle new refusal is at
 
-in_no_line : (place : Option ℕ) (now : ℕ) (lines : List LineSaid) (tells : RunTells) (old new : RunSeen) (refusal : Refusal) → refusal.cause ≡ SourceFault
+in_no_line : (place : Option ℕ) (now : ℕ) (lines : List LineSaid) (tells : RunTells) (old new : RunSeen)
+    (refusal : Refusal) → refusal.cause ≡ SourceFault
     → (IsSome place → IsOfLines now lines tells old new refusal) → place ≡ None
 in_no_line None now lines tells old new refusal is one = refl
-in_no_line (Some number) now lines tells old new refusal is one = absurd (not_of_input now lines tells old new refusal is (one refl))
+in_no_line (Some number) now lines tells old new refusal is one =
+    absurd (not_of_input now lines tells old new refusal is (one refl))
 
 -- the refusal of a script that was read stands in it
-pub script_stands : (now : ℕ) (tells : RunTells) (old : RunSeen) (input : SourceSeen) (new : RunSeen) (result : Result (Unit {0}) Refusal) (said : ScriptSaid)
-    → (IsTrue tells.input → script_said old.input.left ≡ said) → (said.refusal ≡ None → IsTrue tells.input → input.left ≡ [])
-    → new.input ≡ input → AreCarried now said.lines said.refusal tells (with_input old input) new result → IfErr result (StandsInScript now tells old new)
+pub script_stands : (now : ℕ) (tells : RunTells) (old : RunSeen) (input : SourceSeen) (new : RunSeen)
+    (result : Result (Unit {0}) Refusal) (said : ScriptSaid)
+    → (IsTrue tells.input → script_said old.input.left ≡ said)
+    → (said.refusal ≡ None → IsTrue tells.input → input.left ≡ [])
+    → new.input ≡ input → AreCarried now said.lines said.refusal tells (with_input old input) new result
+    → IfErr result (StandsInScript now tells old new)
 script_stands now tells old input new (Ok value) said is ended same carried = tt
 script_stands now tells old input new (Err refusal) said is ended same carried = record {
   own = λ none. inr (inr (carried.own none));
-  unread = λ fault. in_no_line refusal.place.line now said.lines tells (with_input old input) new refusal fault carried.within;
-  line = λ told some. subst (λ (s : ScriptSaid). IsOfLines now s.lines tells (record old { input = new.input }) new refusal) (sym (is told))
-      (subst (λ (i : SourceSeen). IsOfLines now said.lines tells (with_input old i) new refusal) (sym same) (carried.within some));
-  read = λ told none some. ap (λ (i : SourceSeen). i.left) same ∙ ended (subst (λ (s : ScriptSaid). s.refusal ≡ None) (is told) none) told;
+  unread = λ fault.
+      in_no_line refusal.place.line now said.lines tells (with_input old input) new refusal fault carried.within;
+  line =
+      λ told some. subst
+      (λ (s : ScriptSaid). IsOfLines now s.lines tells (record old { input = new.input }) new refusal) (sym (is told))
+      (subst (λ (i : SourceSeen). IsOfLines now said.lines tells (with_input old i) new refusal) (sym same)
+      (carried.within some));
+  read = λ told none some.
+      ap (λ (i : SourceSeen). i.left) same ∙ ended (subst (λ (s : ScriptSaid). s.refusal ≡ None) (is told) none) told;
 }
 
 -- what is said of a script that was not read stands in none of its lines
-pub unread_stands : (now : ℕ) (tells : RunTells) (old new : RunSeen) (fault : ScriptFault) → StandsInScript now tells old new (refusal_of (unread_cause fault) [])
-unread_stands now tells old new Source = record { own = λ none. inl refl; unread = λ is. refl; line = λ told some. absurd (false≢true some); read = λ told none some. absurd (false≢true some) }
-unread_stands now tells old new NoMemory = record { own = λ none. inr (inl refl); unread = λ is. refl; line = λ told some. absurd (false≢true some); read = λ told none some. absurd (false≢true some) }
+pub unread_stands : (now : ℕ) (tells : RunTells) (old new : RunSeen) (fault : ScriptFault)
+    → StandsInScript now tells old new (refusal_of (unread_cause fault) [])
+unread_stands now tells old new Source = record {
+  own = λ none. inl refl;
+  unread = λ is. refl;
+  line = λ told some. absurd (false≢true some);
+  read = λ told none some. absurd (false≢true some);
+}
+unread_stands now tells old new NoMemory = record {
+  own = λ none. inr (inl refl);
+  unread = λ is. refl;
+  line = λ told some. absurd (false≢true some);
+  read = λ told none some. absurd (false≢true some);
+}
 
-unread_reason : (fault : ScriptFault) (old new : RunSeen) (stated : Type 0) → (fault ≡ Source → Rose old.input.faults new.input.faults) → HasReason script_uses old new stated (unread_cause fault)
+unread_reason : (fault : ScriptFault) (old new : RunSeen) (stated : Type 0)
+    → (fault ≡ Source → Rose old.input.faults new.input.faults)
+    → HasReason script_uses old new stated (unread_cause fault)
 unread_reason Source old new stated rose = rose refl
 unread_reason NoMemory old new stated rose = tt
 
@@ -390,13 +377,15 @@ unread_no_output Source is = cc
 unread_no_output NoMemory is = cc
 
 -- a script was not read
-pub script_unread : (invocation : Invocation) (tells : RunTells) (old : RunSeen) (input : SourceSeen) (fault : ScriptFault) → old.input.faults ≤ input.faults → (fault ≡ Source → Rose old.input.faults input.faults)
+pub script_unread : (invocation : Invocation) (tells : RunTells) (old : RunSeen) (input : SourceSeen)
+    (fault : ScriptFault) → old.input.faults ≤ input.faults → (fault ≡ Source → Rose old.input.faults input.faults)
     → IsCarriedOut scripting invocation tells old (with_input old input) (Err (refusal_of (unread_cause fault) []))
 script_unread invocation tells old input fault later rose = record {
   carries = record {
     done = tt;
     refused = unread_reason fault old (with_input old input) _ rose;
-    part = λ told. nothing_begun (ScriptSteps invocation) tells old (with_input old input) (unread_no_output fault) refl (λ is. refl) (λ is. refl) refl refl refl refl;
+    part = λ told. nothing_begun (ScriptSteps invocation) tells old (with_input old input) (unread_no_output fault) refl
+        (λ is. refl) (λ is. refl) refl refl refl refl;
     may_refuse = unread_may fault;
     placed = record { line = λ none. refl; input_line = λ none. refl };
     only_reads = λ only. record { files = refl; writes = refl };
@@ -419,16 +408,21 @@ script_unread invocation tells old input fault later rose = record {
 
 -- It reads the input to its end, and is sure.
 
-lines_are_sure : (now : ℕ) (lines : List LineSaid) (old : Outside) → LinesSuffice now lines old → IsSure (LinesSteps now lines None) old
+lines_are_sure : (now : ℕ) (lines : List LineSaid) (old : Outside) → LinesSuffice now lines old
+    → IsSure (LinesSteps now lines None) old
 lines_are_sure now [] old can = refl
 lines_are_sure now (line ∷ lines) old can = (
-  asked_sure described (command_of true (words_of line.text)) (line_invocation now line) old (λ command. (sound command).sure (line_invocation now line) old) can.0,
+  asked_sure described (command_of true (words_of line.text)) (line_invocation now line) old
+      (λ command. (sound command).sure (line_invocation now line) old) can.0,
   λ acts middle ends. lines_are_sure now lines middle (can.1 acts middle ends),
 )
 
-pub script_sure : (invocation : Invocation) (old : Outside) → scripting.suffices invocation old → IsSure (ScriptSteps invocation) old
+pub script_sure : (invocation : Invocation) (old : Outside) → scripting.suffices invocation old
+    → IsSure (ScriptSteps invocation) old
 script_sure invocation old can = λ left taken.
     let said = script_said old.input in
     let none : left ≡ [] = taken.all (subst (λ (r : Option Refusal). IsTrue (is_none r)) (sym can.0) refl) in
-    subst (λ (r : Option Refusal). IsSure (LinesSteps invocation.now said.lines r) (record old { input = left })) (sym can.0)
-    (subst (λ (l : List ℕ). IsSure (LinesSteps invocation.now said.lines None) (record old { input = l })) (sym none) (lines_are_sure invocation.now said.lines (record old { input = [] }) can.1))
+    subst
+    (λ (r : Option Refusal). IsSure (LinesSteps invocation.now said.lines r) (record old { input = left })) (sym can.0)
+    (subst (λ (l : List ℕ). IsSure (LinesSteps invocation.now said.lines None) (record old { input = l })) (sym none)
+    (lines_are_sure invocation.now said.lines (record old { input = [] }) can.1))

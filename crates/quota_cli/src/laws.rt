@@ -1,6 +1,7 @@
-//! Laws of what words mean: what holds of every effect of them, and which conditions make no step refused. For a list of commands
-//! nothing is said of every effect: another choice of bytes for a changed file may give a later command another answer. Of a command
-//! that reads edits, each of which is made in the file as the ones before it left it, that is so as far as room counts.
+//! Laws of what words mean: what holds of every effect of them, and which conditions make no step refused. For a list
+//! of commands nothing is said of every effect: another choice of bytes for a changed file may give a later command
+//! another answer. Of a command that reads edits, each of which is made in the file as the ones before it left it, that
+//! is so as far as room counts.
 
 ghost use Rattle.std.specs.Prelude.{◌≡◌, false, map, List, None, Ok, Option, ℕ};
 ghost use Rattle.command_table.specs.Views.{AreAlike, SameUnlessFull, edits_records};
@@ -18,21 +19,27 @@ ghost use Rattle.run_steps.specs.Meaning.{EndsBy, IsSure};
 ghost use Rattle.run_steps.specs.OneCommand.{UnlessFull};
 ghost use Rattle.run_steps.specs.Run.{IsDoneInPart};
 
-/// What a run of one command has done in part is a first part of the acts of every effect of its words, whatever such an effect
-/// chooses, and of every way in which its steps end, the error line left out. Where the command reads edits, that is said of all but
-/// those that are refused for lack of room.
+/// What a run of one command has done in part is a first part of the acts of every effect of its words, whatever such
+/// an effect chooses, and of every way in which its steps end, the error line left out. Where the command reads edits,
+/// that is said of all but those that are refused for lack of room.
 pub fn a_run_does_a_first_part_of_every_effect()
-    ensures steps { (typed : CommandLine) (tells : RunTells) (why : Option Cause) (old new : RunSeen) (acts : List Act) (to : Outside) (refusal : Option Refusal)
-        → (uses_asked typed).reads_commands ≡ false → IsDoneInPart (steps_asked typed) tells why old new → EndsBy (steps_asked typed) (outside_of old) acts to refusal
+    ensures steps { (typed : CommandLine) (tells : RunTells) (why : Option Cause) (old new : RunSeen) (acts : List Act)
+        (to : Outside) (refusal : Option Refusal)
+        → (uses_asked typed).reads_commands ≡ false → IsDoneInPart (steps_asked typed) tells why old new
+        → EndsBy (steps_asked typed) (outside_of old) acts to refusal
         → UnlessFull (uses_asked typed).reads_edits refusal (AreDoneInPart tells acts old new) }
-    ensures effect { (typed : CommandLine) (tells : RunTells) (why : Option Cause) (old new : RunSeen) (acts : List Act) (to : Outside) (status : ℕ)
-        → (uses_asked typed).reads_commands ≡ false → IsDoneInPart (steps_asked typed) tells why old new → (effect : Effect typed (outside_of old) acts to status)
+    ensures effect { (typed : CommandLine) (tells : RunTells) (why : Option Cause) (old new : RunSeen) (acts : List Act)
+        (to : Outside) (status : ℕ)
+        → (uses_asked typed).reads_commands ≡ false → IsDoneInPart (steps_asked typed) tells why old new
+        → (effect : Effect typed (outside_of old) acts to status)
         → UnlessFull (uses_asked typed).reads_edits effect.refusal (AreDoneInPart tells acts old new) }
 {}
 
-/// Where one effect of words that ask for one command, which reads no edits, has status 0, no step is refused, whatever is chosen.
+/// Where one effect of words that ask for one command, which reads no edits, has status 0, no step is refused, whatever
+/// is chosen.
 pub fn one_effect_with_status_0_is_enough()
-    ensures { (typed : CommandLine) (old to : Outside) (acts : List Act) → (uses_asked typed).reads_commands ≡ false → (uses_asked typed).reads_edits ≡ false
+    ensures { (typed : CommandLine) (old to : Outside) (acts : List Act) → (uses_asked typed).reads_commands ≡ false
+        → (uses_asked typed).reads_edits ≡ false
         → Effect typed old acts to 0
         → IsSure (steps_asked typed) old }
 {}
@@ -55,12 +62,15 @@ pub fn the_lines_of_a_script_are_commands_in_a_row()
 
 /// The same views give the same effects of words that ask for one command, as they do of the command itself.
 pub fn the_same_views_give_the_same_effects()
-    ensures acts { (typed : CommandLine) (command : Command) (one other new to : Outside) (acts more : List Act) (status code : ℕ)
-        → command_of false typed.words ≡ Ok command → is_script command ≡ false → AreAlike command typed.invocation one other
+    ensures acts { (typed : CommandLine) (command : Command) (one other new to : Outside) (acts more : List Act)
+        (status code : ℕ)
+        → command_of false typed.words ≡ Ok command → is_script command ≡ false
+        → AreAlike command typed.invocation one other
         → (effect : Effect typed one acts new status) → (also : Effect typed other more to code)
         → SameUnlessFull command effect.refusal also.refusal ((acts ≡ more) × (status ≡ code)) }
     ensures other { (typed : CommandLine) (command : Command) (one other new : Outside) (acts : List Act) (status : ℕ)
-        → command_of false typed.words ≡ Ok command → is_script command ≡ false → AreAlike command typed.invocation one other
+        → command_of false typed.words ≡ Ok command → is_script command ≡ false
+        → AreAlike command typed.invocation one other
         → (effect : Effect typed one acts new status)
         → UnlessFull (edits_records command) effect.refusal
         ((more : List Act) × (to : Outside) × (code : ℕ) × (also : Effect typed other more to code)

@@ -1,4 +1,5 @@
-ghost use Rattle.std.specs.Prelude.{◌≡◌, ◌≢◌, ◌≤◌, ◌⊎◌, ◌↔◌, false, None, Some, Err, Ok, IsTrue, IsErr, IsErrAnd, IfErr, is_ok, nat_eq};
+ghost use Rattle.std.specs.Prelude.{◌≡◌, ◌≢◌, ◌≤◌, ◌⊎◌, ◌↔◌, false, None, Some, Err, Ok, IsTrue, IsErr, IsErrAnd};
+ghost use Rattle.std.specs.Prelude.{IfErr, is_ok, nat_eq};
 ghost use Rattle.std.specs.Result.{result_err};
 ghost use Rattle.outside.specs.Count.{Rose};
 ghost use Rattle.run_steps.specs.Done.{IsAllTold, NoFault, outside_of, seen_of, tells_of};
@@ -25,9 +26,9 @@ use std::alloc::Global;
 pub use command_words::{UsageFault, read_words};
 
 /// Carries out the command that the words ask for, and answers the status with which the program ends: 0 done,
-/// 1 refused by the command, 2 the words are outside the grammar, 3 the file is no quota file of the kind and format, or
-/// damaged, 4 a fault of the store, the input, the output or the link, 5 not enough memory. With a status other than 0
-/// one error line goes to `err`.
+/// 1 refused by the command, 2 the words are outside the grammar, 3 the file is no quota file of the kind and format,
+/// or damaged, 4 a fault of the store, the input, the output or the link, 5 not enough memory. With a status other than
+/// 0 one error line goes to `err`.
 ///
 /// `words` are the words of the command line without the program's own name, and `now` is in seconds since 1970.
 pub fn run<S: Store, I: Source, O: Sink, E: Sink, L: Link>(
@@ -44,22 +45,28 @@ pub fn run<S: Store, I: Source, O: Sink, E: Sink, L: Link>(
     ensures headline { let tells = tells_of S.tells I.tells O.tells E.tells L.tells in
         let old = seen_of (S.seen store.old) (I.seen input.old) (O.seen out.old) (E.seen err.old) (L.seen link.old) in
         let new = seen_of (S.seen store.new) (I.seen input.new) (O.seen out.new) (E.seen err.new) (L.seen link.new) in
-        IsAllTold tells → NoFault old new → result ≢ 5 → HasEffect (command_line (texts_of words.now) now) tells old new result }
-    // What else it keeps, whatever is told: what was done and said, which status it has, what stays, and what has begun.
+        IsAllTold tells → NoFault old new → result ≢ 5
+        → HasEffect (command_line (texts_of words.now) now) tells old new result }
+    // What else it keeps, whatever is told: what was done and said, which status it has, what stays, and what has
+    // begun.
     ensures keeps { Keeps (command_line (texts_of words.now) now) (tells_of S.tells I.tells O.tells E.tells L.tells)
         (seen_of (S.seen store.old) (I.seen input.old) (O.seen out.old) (E.seen err.old) (L.seen link.old))
         (seen_of (S.seen store.new) (I.seen input.new) (O.seen out.new) (E.seen err.new) (L.seen link.new)) result }
     // Refused words leave the store alone, and a command leaves alone what it does not use, whatever is told.
-    ensures store { (refusal : Refusal) → (asked (command_line (texts_of words.now) now)).faulty ≡ Some refusal → store.new ≡ store.old }
+    ensures store { (refusal : Refusal) → (asked (command_line (texts_of words.now) now)).faulty ≡ Some refusal
+        → store.new ≡ store.old }
     ensures input { (uses_asked (command_line (texts_of words.now) now)).input ≡ false → input.new ≡ input.old }
     ensures out { (uses_asked (command_line (texts_of words.now) now)).out ≡ false → out.new ≡ out.old }
     ensures link { (uses_asked (command_line (texts_of words.now) now)).link ≡ false → link.new ≡ link.old }
     // What the input keeps along its calls is kept, such as the files of a store that it reads from.
     ensures source { I.keeps false input.old input.new }
-    // All that the run put where a stop of the machine leaves it are files that the steps come to, each behind some first part of their
-    // acts; and where the command changes files at one moment, those of one moment alone: of the end, with status 0.
-    ensures commits { IsToldAsUsed (uses_asked (command_line (texts_of words.now) now)) (tells_of S.tells I.tells O.tells E.tells L.tells)
-        → CommandCommits (asked (command_line (texts_of words.now) now)) (record { now = now; line = None }) (nat_eq result 0)
+    // All that the run put where a stop of the machine leaves it are files that the steps come to, each behind some
+    // first part of their acts; and where the command changes files at one moment, those of one moment alone: of the
+    // end, with status 0.
+    ensures commits { IsToldAsUsed (uses_asked (command_line (texts_of words.now) now))
+        (tells_of S.tells I.tells O.tells E.tells L.tells)
+        → CommandCommits (asked (command_line (texts_of words.now) now)) (record { now = now; line = None })
+        (nat_eq result 0)
         (outside_of (seen_of (S.seen store.old) (I.seen input.old) (O.seen out.old) (E.seen err.old) (L.seen link.old)))
         (S.seen store.new).files (λ worlds. S.commits worlds store.old store.new) }
 {
@@ -90,14 +97,18 @@ fn carry_out_words<S: Store, I: Source, O: Sink, E: Sink, L: Link>(
         → IsErrAnd result (λ said. status_of said.cause ≡ 2) ↔ IsErr (command_of false (texts_of words.now)) }
     ensures word { (refusal : Refusal) → (asked (command_line (texts_of words.now) now)).faulty ≡ Some refusal
         → IsErrAnd result (λ said. (said ≡ refusal) ⊎ (said.cause ≡ Memory)) }
-    ensures quiet { (refusal : Refusal) → (asked (command_line (texts_of words.now) now)).faulty ≡ Some refusal → err.new ≡ err.old }
-    ensures store { (refusal : Refusal) → (asked (command_line (texts_of words.now) now)).faulty ≡ Some refusal → store.new ≡ store.old }
+    ensures quiet { (refusal : Refusal) → (asked (command_line (texts_of words.now) now)).faulty ≡ Some refusal
+        → err.new ≡ err.old }
+    ensures store { (refusal : Refusal) → (asked (command_line (texts_of words.now) now)).faulty ≡ Some refusal
+        → store.new ≡ store.old }
     ensures input { (uses_asked (command_line (texts_of words.now) now)).input ≡ false → input.new ≡ input.old }
     ensures source { I.keeps false input.old input.new }
     ensures out { (uses_asked (command_line (texts_of words.now) now)).out ≡ false → out.new ≡ out.old }
     ensures link { (uses_asked (command_line (texts_of words.now) now)).link ≡ false → link.new ≡ link.old }
-    ensures commits { IsToldAsUsed (uses_asked (command_line (texts_of words.now) now)) (tells_of S.tells I.tells O.tells E.tells L.tells)
-        → CommandCommits (asked (command_line (texts_of words.now) now)) (record { now = now; line = None }) (is_ok result)
+    ensures commits { IsToldAsUsed (uses_asked (command_line (texts_of words.now) now))
+        (tells_of S.tells I.tells O.tells E.tells L.tells)
+        → CommandCommits (asked (command_line (texts_of words.now) now))
+        (record { now = now; line = None }) (is_ok result)
         (outside_of (seen_of (S.seen store.old) (I.seen input.old) (O.seen out.old) (E.seen err.old) (L.seen link.old)))
         (S.seen store.new).files (λ worlds. S.commits worlds store.old store.new) }
 {
@@ -130,7 +141,8 @@ fn carry_command<S: Store, I: Source, O: Sink, E: Sink, L: Link>(
     ensures carries { IsCarriedOut (commanded command) invocation (tells_of S.tells I.tells O.tells E.tells L.tells)
         (seen_of (S.seen store.old) (I.seen input.old) (O.seen out.old) (E.seen err.old) (L.seen link.old))
         (seen_of (S.seen store.new) (I.seen input.new) (O.seen out.new) (E.seen err.new) (L.seen link.new)) result }
-    ensures stands { IsTrue (commanded command).uses.reads_commands → IfErr result (StandsInScript invocation.now (tells_of S.tells I.tells O.tells E.tells L.tells)
+    ensures stands { IsTrue (commanded command).uses.reads_commands
+        → IfErr result (StandsInScript invocation.now (tells_of S.tells I.tells O.tells E.tells L.tells)
         (seen_of (S.seen store.old) (I.seen input.old) (O.seen out.old) (E.seen err.old) (L.seen link.old))
         (seen_of (S.seen store.new) (I.seen input.new) (O.seen out.new) (E.seen err.new) (L.seen link.new))) }
     ensures word { (refusal : Refusal) → (commanded command).faulty ≡ Some refusal → result ≡ Err refusal }

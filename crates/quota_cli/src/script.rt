@@ -21,13 +21,13 @@ use run_steps::Invocation;
 use script_lines::{Script, ScriptFault, ScriptLine, read_script, words_of_line};
 use std::alloc::Global;
 
-/// Reads a script from the standard input, up to its first line that is refused or to the end of the input, and then carries
-/// out the commands that its lines ask for, one after another.
+/// Reads a script from the standard input, up to its first line that is refused or to the end of the input, and then
+/// carries out the commands that its lines ask for, one after another.
 ///
 /// # Errors
 ///
-/// The script itself is refused, or a command in one of its lines; or there is not enough memory. The commands in the lines
-/// before were carried out.
+/// The script itself is refused, or a command in one of its lines; or there is not enough memory. The commands in the
+/// lines before were carried out.
 pub fn run_script<S: Store, I: Source, O: Sink, E: Sink, L: Link>(
     alloc: Global,
     store: &mut S,
@@ -82,7 +82,8 @@ fn unread(alloc: Global, fault: ScriptFault) -> Refusal
     Refusal::of(cause, Word::empty(alloc))
 }
 
-/// Carries out the commands that lines ask for, one after another, and then refuses the script, where it is refused itself.
+/// Carries out the commands that lines ask for, one after another, and then refuses the script, where it is refused
+/// itself.
 fn carry_lines<S: Store, I: Source, O: Sink, E: Sink, L: Link>(
     alloc: Global,
     lines: &[ScriptLine],
@@ -95,7 +96,8 @@ fn carry_lines<S: Store, I: Source, O: Sink, E: Sink, L: Link>(
     now: u64,
 ) -> Result<(), Refusal>
     requires { IfSome refusal IsOfScript }
-    ensures carries { AreCarried now (map line_read lines.now) refusal (tells_of S.tells I.tells O.tells E.tells L.tells)
+    ensures carries { AreCarried now (map line_read lines.now) refusal
+        (tells_of S.tells I.tells O.tells E.tells L.tells)
         (seen_of (S.seen store.old) (I.seen input.old) (O.seen out.old) (E.seen err.old) (L.seen link.old))
         (seen_of (S.seen store.new) (I.seen input.new) (O.seen out.new) (E.seen err.new) (L.seen link.new)) result }
     ensures input { input.new ≡ input.old }
@@ -177,7 +179,8 @@ fn carry_text<S: Store, I: Source, O: Sink, E: Sink, L: Link>(
     link: &mut L,
     invocation: Invocation,
 ) -> Result<(), Refusal>
-    ensures carries { IsCarriedOut (asked_in_script text.now) invocation (tells_of S.tells I.tells O.tells E.tells L.tells)
+    ensures carries { IsCarriedOut (asked_in_script text.now) invocation
+        (tells_of S.tells I.tells O.tells E.tells L.tells)
         (seen_of (S.seen store.old) (I.seen input.old) (O.seen out.old) (E.seen err.old) (L.seen link.old))
         (seen_of (S.seen store.new) (I.seen input.new) (O.seen out.new) (E.seen err.new) (L.seen link.new)) result }
     ensures link { (asked_in_script text.now).uses.link ≡ false → link.new ≡ link.old }
@@ -219,7 +222,8 @@ fn carry_words<S: Store, I: Source, O: Sink, E: Sink, L: Link>(
         (seen_of (S.seen store.new) (I.seen input.new) (O.seen out.new) (E.seen err.new) (L.seen link.new)) result }
     ensures link { (asked_by described (command_of true (texts_of words.now))).uses.link ≡ false → link.new ≡ link.old }
     ensures input { input.new ≡ input.old }
-    ensures commits { IsToldAsUsed (asked_by described (command_of true (texts_of words.now))).uses (tells_of S.tells I.tells O.tells E.tells L.tells)
+    ensures commits { IsToldAsUsed (asked_by described (command_of true (texts_of words.now))).uses
+        (tells_of S.tells I.tells O.tells E.tells L.tells)
         → CommandCommits (asked_by described (command_of true (texts_of words.now))) invocation (is_ok result)
         (outside_of (seen_of (S.seen store.old) (I.seen input.old) (O.seen out.old) (E.seen err.old) (L.seen link.old)))
         (S.seen store.new).files (λ worlds. S.commits worlds store.old store.new) }

@@ -1,5 +1,6 @@
 -- The call for limits, as it is written piece by piece.
-use Rattle.std.proofs.Common.{◌≡◌, ℕ, ◌+◌, ◌-◌, ◌*◌, ◌^◌, ◌<◌, ◌≤◌, List, [], ◌∷◌, ◌++◌, length, take, refl, ap, ◌∙◌, arith, length-append}
+use Rattle.std.proofs.Common.{◌≡◌, ℕ, ◌+◌, ◌-◌, ◌*◌, ◌^◌, ◌<◌, ◌≤◌, List, [], ◌∷◌, ◌++◌, length, take, refl, ap, ◌∙◌}
+use Rattle.std.proofs.Common.{arith, length-append}
 use Rattle.std.specs.Prelude.{replicate}
 use Rattle.std.proofs.lemmas.List.{length-replicate, length-take}
 use Rattle.rquota_xdr.specs.Units.{padded}
@@ -10,8 +11,10 @@ use Rattle.rquota_xdr.proofs.QuestionLemmas.{question_asks}
 use Rattle.quota_client.specs.Asking.{limits_call, limits_question, no_bytes, path_field}
 
 -- its units, the path, the padding, and the identifier
-pub call_pieces : (xid uid gid : ℕ) (path zeros : List ℕ) (id : ℕ) → zeros ≡ replicate (padded (length path) - length path) 0
-    → ((bytes_of (xid ∷ 0 ∷ 2 ∷ 100011 ∷ 1 ∷ 1 ∷ 1 ∷ 20 ∷ 0 ∷ 0 ∷ uid ∷ gid ∷ 0 ∷ 0 ∷ 0 ∷ length path ∷ []) ++ path) ++ zeros) ++ bytes_of (id ∷ []) ≡ limits_call xid uid gid path id
+pub call_pieces : (xid uid gid : ℕ) (path zeros : List ℕ) (id : ℕ)
+    → zeros ≡ replicate (padded (length path) - length path) 0
+    → ((bytes_of (xid ∷ 0 ∷ 2 ∷ 100011 ∷ 1 ∷ 1 ∷ 1 ∷ 20 ∷ 0 ∷ 0 ∷ uid ∷ gid ∷ 0 ∷ 0 ∷ 0 ∷ length path ∷ []) ++ path)
+    ++ zeros) ++ bytes_of (id ∷ []) ≡ limits_call xid uid gid path id
 call_pieces xid uid gid path zeros id is = rw is refl
 
 -- no bytes are padded
@@ -28,7 +31,8 @@ path_padded path few = record {
   whole = let zeros = length-zeros (padded (length path) - length path) in omega arith;
 }
 
-pub call_asks : (xid uid gid : ℕ) (path : List ℕ) (id : ℕ) → xid < 2 ^ 32 → uid < 2 ^ 32 → gid < 2 ^ 32 → id < 2 ^ 32 → length path ≤ 1024
+pub call_asks : (xid uid gid : ℕ) (path : List ℕ) (id : ℕ) → xid < 2 ^ 32 → uid < 2 ^ 32 → gid < 2 ^ 32 → id < 2 ^ 32
+    → length path ≤ 1024
     → Asks (limits_call xid uid gid path id) (limits_question xid uid gid path id)
 call_asks xid uid gid path id xid_fits uid_fits gid_fits id_fits few =
     question_asks (limits_question xid uid gid path id) (record {
@@ -44,7 +48,8 @@ call_asks xid uid gid path id xid_fits uid_fits gid_fits id_fits few =
     })
 
 -- the first units have few bytes
-pub units_fit : (before units call : List ℕ) (count : ℕ) → count < length units → call ≡ before ++ bytes_of (take count units) → length call + 4 ≤ length before + 4 * length units
+pub units_fit : (before units call : List ℕ) (count : ℕ) → count < length units
+    → call ≡ before ++ bytes_of (take count units) → length call + 4 ≤ length before + 4 * length units
 units_fit before units call count some is =
     let one = ap length is ∙ length-append before (bytes_of (take count units)) in
     let two = length-bytes_of (take count units) in

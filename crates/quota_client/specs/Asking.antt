@@ -12,8 +12,8 @@ no_bytes = record { text = []; padding = [] }
 abbrev pub path_field : List ℕ → Padded
 path_field path = record { text = path; padding = replicate (padded (length path) - length path) 0 }
 
--- A call of GETQUOTA, procedure 1, in version 1, which names no type: a caller of the system without a stamp, a machine's
--- name or further groups, and an empty verifier of flavor 0.
+-- A call of GETQUOTA, procedure 1, in version 1, which names no type: a caller of the system without a stamp, a
+-- machine's name or further groups, and an empty verifier of flavor 0.
 abbrev pub limits_question : (xid uid gid : ℕ) → (path : List ℕ) → (id : ℕ) → Question
 limits_question xid uid gid path id = record {
   xid = xid;

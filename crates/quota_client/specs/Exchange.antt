@@ -1,5 +1,5 @@
--- How a client asks a server by datagrams, any of which may be lost, late, doubled or somebody else's. Sources: RFC 5531,
--- section 9, for the xid; how often a call is sent, and how long a reply is waited for, is this project's own.
+-- How a client asks a server by datagrams, any of which may be lost, late, doubled or somebody else's. Sources: RFC
+-- 5531, section 9, for the xid; how often a call is sent, and how long a reply is waited for, is this project's own.
 use Rattle.std.specs.Prelude.{◌≡◌, ℕ, ◌+◌, ◌<◌, ◌⊎◌, List, [], ◌∷◌, ◌++◌, length, replicate, take, Option, None, Some}
 use Rattle.std.specs.List.{All, flat_map}
 use Rattle.network.specs.Events.{Event, PeerSeen}
@@ -32,9 +32,11 @@ pub record EndsBy (holds : Event → Type 0) (others taken : List Event) : Type 
 -- An attempt ends with the first reply. Without one it ends with the first quiet, or with the 64th other datagram.
 abbrev pub EndsAttempt : ℕ → (others taken : List Event) → Option Reply → Type 0
 EndsAttempt xid others taken (Some reply) = EndsBy (λ event. Answers xid event reply) others taken
-EndsAttempt xid others taken None = EndsBy (λ event. event ≡ None) others taken ⊎ ((length others ≡ 64) × (taken ≡ others))
+EndsAttempt xid others taken None =
+    EndsBy (λ event. event ≡ None) others taken ⊎ ((length others ≡ 64) × (taken ≡ others))
 
--- the events that an attempt takes behind its call, in which it passes other datagrams over, and its reply, if there is one
+-- the events that an attempt takes behind its call, in which it passes other datagrams over, and its reply, if there is
+-- one
 pub record IsAttempt (xid : ℕ) (taken : List Event) (reply : Option Reply) : Type 0 where
   pub others : List Event
   pub each : All (IsOther xid) others
@@ -49,7 +51,8 @@ abbrev pub AreUnanswered : ℕ → List (List Event) → Type 0
 AreUnanswered xid attempts = All (λ attempt. IsAttempt xid attempt None) attempts
 
 -- behind fewer than three attempts without an answer one had this reply
-pub record EndsAnswered (xid : ℕ) (unanswered : List (List Event)) (taken : List Event) (calls : ℕ) (reply : Reply) : Type 0 where
+pub record EndsAnswered (xid : ℕ) (unanswered : List (List Event)) (taken : List Event) (calls : ℕ)
+    (reply : Reply) : Type 0 where
   pub few : length unanswered < 3
   pub last : List Event
   pub attempt : IsAttempt xid last (Some reply)
@@ -63,18 +66,20 @@ pub record EndsUnanswered (unanswered : List (List Event)) (taken : List Event) 
   pub calls_sent : calls ≡ 3
 
 -- an exchange ends with the first answer, or with the third attempt
-abbrev pub EndsExchange : ℕ → (unanswered : List (List Event)) → (taken : List Event) → (calls : ℕ) → Option Reply → Type 0
+abbrev pub EndsExchange : ℕ → (unanswered : List (List Event)) → (taken : List Event) → (calls : ℕ)
+    → Option Reply → Type 0
 EndsExchange xid unanswered taken calls (Some reply) = EndsAnswered xid unanswered taken calls reply
 EndsExchange xid unanswered taken calls None = EndsUnanswered unanswered taken calls
 
--- The exchange: the events that it takes, how many calls it sends, one for each attempt, and its reply, if there is one.
+-- The exchange: the events that it takes, how many calls it sends, one for each attempt, and its reply, if there is
+-- one.
 pub record IsExchange (xid : ℕ) (taken : List Event) (calls : ℕ) (reply : Option Reply) : Type 0 where
   pub unanswered : List (List Event)
   pub each : AreUnanswered xid unanswered
   pub ends : EndsExchange xid unanswered taken calls reply
 
--- An exchange that was begun and is not over: behind fewer than three attempts without an answer nothing more was done, or
--- one more call was sent and fewer than 64 other datagrams were taken.
+-- An exchange that was begun and is not over: behind fewer than three attempts without an answer nothing more was done,
+-- or one more call was sent and fewer than 64 other datagrams were taken.
 pub record IsBegun (xid : ℕ) (taken : List Event) (calls : ℕ) : Type 0 where
   pub unanswered : List (List Event)
   pub each : AreUnanswered xid unanswered

@@ -1,6 +1,7 @@
--- What a client prints of a path. Source: this project's own; what a grace period and its texts are is as repquota(8) has
--- them.
-use Rattle.std.specs.Prelude.{ℕ, ◌-◌, ◌*◌, ◌/◌, Bool, true, false, ◌==◌, if◌then◌else◌, List, [], ◌∷◌, ◌++◌, Option, Some, None, codes, decimal}
+-- What a client prints of a path. Source: this project's own; what a grace period and its texts are is as repquota(8)
+-- has them.
+use Rattle.std.specs.Prelude.{ℕ, ◌-◌, ◌*◌, ◌/◌, Bool, true, false, ◌==◌, if◌then◌else◌, List, [], ◌∷◌, ◌++◌, Option}
+use Rattle.std.specs.Prelude.{Some, None, codes, decimal}
 use Rattle.std.specs.List.{concat}
 use Rattle.quota_types.specs.Timers.{is_exceeded}
 use Rattle.report_text.specs.Period.{period_of}
@@ -45,23 +46,27 @@ grace_of usage =
 -- the line with all numbers
 abbrev pub quota_line : List ℕ → (blocks files : Usage) → List ℕ
 quota_line path blocks files = concat (
-    path ∷ codes ": " ∷ decimal blocks.used ∷ codes " KiB, soft " ∷ decimal blocks.soft ∷ codes ", hard " ∷ decimal blocks.hard
+    path ∷ codes ": " ∷ decimal blocks.used ∷ codes " KiB, soft " ∷ decimal blocks.soft ∷ codes ", hard "
+    ∷ decimal blocks.hard
     ∷ codes ", grace " ∷ grace_of blocks
-    ∷ codes ", files " ∷ decimal files.used ∷ codes ", soft " ∷ decimal files.soft ∷ codes ", hard " ∷ decimal files.hard
+    ∷ codes ", files " ∷ decimal files.used ∷ codes ", soft " ∷ decimal files.soft ∷ codes ", hard "
+    ∷ decimal files.hard
     ∷ codes ", grace " ∷ grace_of files ∷ codes "\n" ∷ [])
 
 -- the line on blocks where their soft limit is exceeded
 abbrev pub block_warning : List ℕ → Usage → List ℕ
 block_warning path blocks =
     if blocks.exceeded
-    then concat (path ∷ codes ": over block limit by " ∷ decimal (blocks.used - blocks.soft) ∷ codes " KiB, grace " ∷ grace_of blocks ∷ codes "\n" ∷ [])
+    then concat (path ∷ codes ": over block limit by " ∷ decimal (blocks.used - blocks.soft) ∷ codes " KiB, grace "
+    ∷ grace_of blocks ∷ codes "\n" ∷ [])
     else []
 
 -- the line on files where their soft limit is exceeded
 abbrev pub file_warning : List ℕ → Usage → List ℕ
 file_warning path files =
     if files.exceeded
-    then concat (path ∷ codes ": over file limit by " ∷ decimal (files.used - files.soft) ∷ codes ", grace " ∷ grace_of files ∷ codes "\n" ∷ [])
+    then concat (path ∷ codes ": over file limit by " ∷ decimal (files.used - files.soft) ∷ codes ", grace "
+    ∷ grace_of files ∷ codes "\n" ∷ [])
     else []
 
 -- what is printed of a quota

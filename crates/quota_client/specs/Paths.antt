@@ -16,7 +16,8 @@ pub record PathCall : Type 0 where
 
 -- Path k, counted from 0, is asked for with the xid that is k above the first one, modulo 2^32.
 abbrev pub path_calls : (first : ℕ) → List (List ℕ) → List PathCall
-path_calls first paths = map (λ (entry : ℕ × List ℕ). record { xid = (first + entry.0) % 2 ^ 32; path = entry.1 }) (enumerate_from 0 paths)
+path_calls first paths =
+    map (λ (entry : ℕ × List ℕ). record { xid = (first + entry.0) % 2 ^ 32; path = entry.1 }) (enumerate_from 0 paths)
 
 -- the call for a path: the client asks for the limits of its own user
 abbrev pub call_bytes : Client → PathCall → List ℕ
@@ -50,7 +51,8 @@ abbrev pub status_by_answers : List PathAsked → ℕ
 status_by_answers done = if list_all (λ (one : PathAsked). is_answered one.reply) done then 0 else 1
 
 -- The first paths were asked for by these calls, one after another, each on the events that the one before left.
-pub record AreAsked (client : Client) (calls : List PathCall) (done : List PathAsked) (old new : PeerSeen) : Type 0 where
+pub record AreAsked (client : Client) (calls : List PathCall) (done : List PathAsked)
+    (old new : PeerSeen) : Type 0 where
   pub in_order : map (λ (one : PathAsked). one.call) done ≡ take (length done) calls
   pub each : All IsExchanged done
   pub left : old.left ≡ events_taken done ++ new.left

@@ -12,7 +12,8 @@ use Rattle.refusals.specs.declared.cause.Cause.TheVariants.{LinkFault, SinkFault
 use Rattle.option_words.specs.declared.word_fault.Fault.{Fault}
 use Rattle.quota_client.specs.Exchange.{Begins}
 use Rattle.quota_client.specs.Line.{lines_of}
-use Rattle.quota_client.specs.Paths.{AreAsked, PathAsked, PathCall, call_bytes, path_calls, printed_of, status_by_answers}
+use Rattle.quota_client.specs.Paths.{AreAsked, PathAsked, PathCall, call_bytes, path_calls, printed_of}
+use Rattle.quota_client.specs.Paths.{status_by_answers}
 use Rattle.quota_client.specs.Served.{HaveOwnReplies}
 use Rattle.quota_client.specs.Words.{Asked}
 
@@ -49,7 +50,8 @@ tells_of peer out err = record { asking = asking_tells peer out; err = err }
 
 -- the error output got the error line of this cause, or, where it failed, a prefix of it
 abbrev pub Says : Cause → Bool → (old new : SinkSeen) → Type 0
-Says cause tells old new = IsTrue tells → AppendsUnless (Rose old.faults new.faults) old.written new.written (error_line (refusal_of cause []))
+Says cause tells old new =
+    IsTrue tells → AppendsUnless (Rose old.faults new.faults) old.written new.written (error_line (refusal_of cause []))
 
 -- The peer was started once, at the port, before anything was sent, and then the first paths were asked for, one after
 -- another, each on the events that the one before left. A reply for a path is one to its own call.
@@ -59,7 +61,8 @@ pub record AsksPaths (asked : Asked) (first : ℕ) (done : List PathAsked) (old 
   pub own : HaveOwnReplies asked.client (path_calls first asked.paths) done
 
 -- every path was asked for, the output has what is printed of each, and nothing else, and the status is by the answers
-pub record HasAnswers (asked : Asked) (first : ℕ) (tells : AskingTells) (old new : AskingSeen) (status : ℕ) : Type 0 where
+pub record HasAnswers (asked : Asked) (first : ℕ) (tells : AskingTells) (old new : AskingSeen)
+    (status : ℕ) : Type 0 where
   pub done : List PathAsked
   pub all : length done ≡ length asked.paths
   pub asks : AsksPaths asked first done old.peer new.peer
@@ -73,8 +76,8 @@ pub record IsUnstarted (old new : AskingSeen) : Type 0 where
   pub sent : new.peer.sent ≡ old.peer.sent
   pub out : new.out ≡ old.out
 
--- The paths before one were asked for, the output has what is printed of them, and nothing else, and the exchange of that path
--- was begun and is not over.
+-- The paths before one were asked for, the output has what is printed of them, and nothing else, and the exchange of
+-- that path was begun and is not over.
 pub record StopsAsking (asked : Asked) (first : ℕ) (tells : AskingTells) (old new : AskingSeen) : Type 0 where
   pub done : List PathAsked
   pub between : PeerSeen
@@ -110,7 +113,8 @@ pub record IsDone (asked : Asked) (first : ℕ) (tells : ClientTells) (old new :
   pub answers : IsTrue tells.asking.peer → HasAnswers asked first tells.asking old.asking new.asking status
 
 -- The peer failed.
-pub record PeerFails (asked : Asked) (first : ℕ) (tells : ClientTells) (old new : ClientSeen) (status : ℕ) : Type 0 where
+pub record PeerFails (asked : Asked) (first : ℕ) (tells : ClientTells) (old new : ClientSeen)
+    (status : ℕ) : Type 0 where
   pub ended : status ≡ 4
   pub failed : Rose old.asking.peer.faults new.asking.peer.faults
   pub err : Says LinkFault tells.err old.err new.err
@@ -129,7 +133,8 @@ pub record OutFails (asked : Asked) (first : ℕ) (tells : ClientTells) (old new
 abbrev pub Runs : Result Asked Fault → (first : ℕ) → ClientTells → (old new : ClientSeen) → (status : ℕ) → Type 0
 Runs (Err fault) first tells old new status = IsRefused fault tells old new status
 Runs (Ok asked) first tells old new status =
-    IsDone asked first tells old new status ⊎ (PeerFails asked first tells old new status ⊎ OutFails asked first tells old new status)
+    IsDone asked first tells old new status
+    ⊎ (PeerFails asked first tells old new status ⊎ OutFails asked first tells old new status)
 
 -- no count of faults has fallen
 pub record IsLater (old new : ClientSeen) : Type 0 where

@@ -21,14 +21,16 @@ pub record AsksPath (client : Client) (call : PathCall) (one : PathAsked) (old n
   pub sent : new.sent ≡ old.sent ++ replicate one.calls (call_bytes client call)
 
 -- a path was asked for, and what is printed of it was written
-pub record PrintsPath (client : Client) (call : PathCall) (tells : AskingTells) (old new : AskingSeen) (answered : Bool) : Type 0 where
+pub record PrintsPath (client : Client) (call : PathCall) (tells : AskingTells) (old new : AskingSeen)
+    (answered : Bool) : Type 0 where
   pub one : PathAsked
   pub asks : AsksPath client call one old.peer new.peer
   pub out : IsTrue tells.out → new.out.written ≡ old.out.written ++ lines_of client.mode call.path one.reply
   pub is_answered : answered ≡ is_answered one.reply
 
 -- a path was asked for, and a part of what is printed of it was written
-pub record PrintsPathInPart (client : Client) (call : PathCall) (tells : AskingTells) (old new : AskingSeen) : Type 0 where
+pub record PrintsPathInPart (client : Client) (call : PathCall) (tells : AskingTells)
+    (old new : AskingSeen) : Type 0 where
   pub one : PathAsked
   pub asks : AsksPath client call one old.peer new.peer
   pub out : IsTrue tells.out → AppendsPrefix old.out.written new.out.written (lines_of client.mode call.path one.reply)
@@ -51,7 +53,8 @@ StopsAtPath client call tells old new Asking = BeginsPath client call tells old 
 StopsAtPath client call tells old new Printing = FailsPath client call tells old new
 
 -- this many paths, the first ones, were asked for and printed
-pub record PrintsFirst (asked : Asked) (first : ℕ) (tells : AskingTells) (old new : AskingSeen) (count : ℕ) (answered : Bool) : Type 0 where
+pub record PrintsFirst (asked : Asked) (first : ℕ) (tells : AskingTells) (old new : AskingSeen) (count : ℕ)
+    (answered : Bool) : Type 0 where
   pub done : List PathAsked
   pub number : length done ≡ count
   pub asks : AsksPaths asked first done old.peer new.peer

@@ -1,6 +1,7 @@
--- The words of a client: MODE PORT UID GID and 1 to 16 paths. Source: this project's own; a port is one of RFC 768, and a
--- path has as many bytes as `RQ_PATHLEN` of `rquota.x`.
-use Rattle.std.specs.Prelude.{ℕ, ◌+◌, Bool, not, ◌&&◌, nat_lt, List, [], ◌∷◌, length, position, Option, Some, None, Result, Ok, Err, codes}
+-- The words of a client: MODE PORT UID GID and 1 to 16 paths. Source: this project's own; a port is one of RFC 768, and
+-- a path has as many bytes as `RQ_PATHLEN` of `rquota.x`.
+use Rattle.std.specs.Prelude.{ℕ, ◌+◌, Bool, not, ◌&&◌, nat_lt, List, [], ◌∷◌, length, position, Option, Some, None}
+use Rattle.std.specs.Prelude.{Result, Ok, Err, codes}
 use Rattle.std.specs.List.{list_all}
 use Rattle.refusals.specs.declared.cause.UsageKind.TheVariants.{BadValue, WrongOperands}
 use Rattle.option_words.specs.Fault.{fault, unless, with_value, ◌>>=◌}

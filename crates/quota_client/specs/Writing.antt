@@ -18,4 +18,5 @@ pub record FailsToAppend (tells : Bool) (text : List ℕ) (old new : SinkSeen) :
 
 -- the text was appended, or the sink failed
 abbrev pub Writes : Bool → (text : List ℕ) → (old new : SinkSeen) → Result (Unit {0}) SinkFault → Type 0
-Writes tells text old new result = MatchResult result (λ _. Appends tells text old new) (λ _. FailsToAppend tells text old new)
+Writes tells text old new result =
+    MatchResult result (λ _. Appends tells text old new) (λ _. FailsToAppend tells text old new)

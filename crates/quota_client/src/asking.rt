@@ -36,7 +36,8 @@ pub(crate) fn ask_paths<P: Peer, O: Sink>(
     ensures stopped { IfErr result (StopsAtPaths (record { client = client.now; paths = texts_of paths.now }) xid
         (asking_tells P.tells O.tells)
         (asking_of (P.seen peer.old) (O.seen out.old)) (asking_of (P.seen peer.new) (O.seen out.new))) }
-    ensures later { AreLater (asking_of (P.seen peer.old) (O.seen out.old)) (asking_of (P.seen peer.new) (O.seen out.new)) }
+    ensures later { AreLater (asking_of (P.seen peer.old) (O.seen out.old))
+        (asking_of (P.seen peer.new) (O.seen out.new)) }
 {
     peer.start(client.port)?;
     let mut answered = true;
@@ -69,7 +70,8 @@ fn print_path<P: Peer, O: Sink>(
         (asking_tells P.tells O.tells)
         (asking_of (P.seen peer.old) (O.seen out.old)) (asking_of (P.seen peer.new) (O.seen out.new))) }
     ensures leaves { KeepsStart (P.seen peer.old) (P.seen peer.new) }
-    ensures later { AreLater (asking_of (P.seen peer.old) (O.seen out.old)) (asking_of (P.seen peer.new) (O.seen out.new)) }
+    ensures later { AreLater (asking_of (P.seen peer.old) (O.seen out.old))
+        (asking_of (P.seen peer.new) (O.seen out.new)) }
 {
     let path = path.as_bytes();
     let mut call = [0; 1092];

@@ -15,8 +15,8 @@ const ZEROS: [u8; 3] = [0; 3];
 /// Writes the call by which a client asks for the limits of a user at the start of the buffer, and answers how many
 /// bytes it has. The rest of the buffer stays.
 ///
-/// `path` has 1 to 1,024 bytes, of any values. `xid` and the identifiers are any numbers of 32 bits. So a call has 72 to
-/// 1,092 bytes, in units of 4.
+/// `path` has 1 to 1,024 bytes, of any values. `xid` and the identifiers are any numbers of 32 bits. So a call has 72
+/// to 1,092 bytes, in units of 4.
 ///
 /// It is a call of GETQUOTA in version 1 of rquota (`rquota.x`) by a caller of the system (AUTH_SYS of RFC 5531,
 /// appendix A), with stamp 0, an empty machine name, no further groups, and an empty verifier of flavor 0.

@@ -32,8 +32,8 @@ pub(crate) enum Received {
 /// were 64 others. So replies to other calls are passed over, whether they come late, twice or out of order, and so is
 /// whatever is no reply. No memory of the heap is taken.
 ///
-/// `call` has at most 1,092 bytes, as `write_call` makes them, and `xid` is the number that it begins with: what is sent is
-/// not looked at here.
+/// `call` has at most 1,092 bytes, as `write_call` makes them, and `xid` is the number that it begins with: what is
+/// sent is not looked at here.
 ///
 /// # Errors
 ///
@@ -58,8 +58,8 @@ pub fn ask<P: Peer>(peer: &mut P, xid: u32, call: &[u8]) -> Result<Option<Reply>
     Ok(None)
 }
 
-/// What one attempt receives behind its call: the first reply with this xid, or none where a quiet or 64 other datagrams
-/// come before.
+/// What one attempt receives behind its call: the first reply with this xid, or none where a quiet or 64 other
+/// datagrams come before.
 fn await_reply<P: Peer>(peer: &mut P, xid: u32) -> Result<Option<Reply>, PeerFault>
     ensures attempted { IfOk result (λ reply. IsTrue P.tells
         → Attempts xid (P.seen peer.old) (P.seen peer.new) reply) }

@@ -1,6 +1,7 @@
 ghost use Rattle.std.specs.Prelude.{◌≡◌};
 ghost use Rattle.refusals.specs.Piece.{joined};
-ghost use Rattle.quota_client.specs.Line.{block_warning, file_warning, grace_of, is_answered, lines_of, none_lines, quota_line, quota_lines};
+ghost use Rattle.quota_client.specs.Line.{block_warning, file_warning, grace_of, is_answered, lines_of, none_lines};
+ghost use Rattle.quota_client.specs.Line.{quota_line, quota_lines};
 ghost use Rattle.quota_client.specs.Writing.{Writes};
 
 use crate::mode::Mode;

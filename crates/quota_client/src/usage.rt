@@ -22,8 +22,8 @@ pub(crate) struct Usage {
 }
 
 impl Usage {
-    /// What a quota says of blocks. Whether the soft limit is exceeded is told by the numbers as they were sent, and not
-    /// by their KiB.
+    /// What a quota says of blocks. Whether the soft limit is exceeded is told by the numbers as they were sent, and
+    /// not by their KiB.
     pub(crate) fn of_blocks(quota: &Quota) -> Self
         ensures { result ≡ blocks_of quota.now }
     {

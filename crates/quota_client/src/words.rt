@@ -1,4 +1,5 @@
-ghost use Rattle.std.specs.Prelude.{◌≡◌, ◌≤◌, not, length, position, string_bytes, None, Some, Ok, Err, IfOk, MatchResult};
+ghost use Rattle.std.specs.Prelude.{◌≡◌, ◌≤◌, not, length, position, string_bytes, None, Some, Ok, Err, IfOk};
+ghost use Rattle.std.specs.Prelude.{MatchResult};
 ghost use Rattle.std.specs.List.{AllPass};
 ghost use Rattle.refusals.specs.declared.cause.UsageKind.TheVariants.{WrongOperands};
 ghost use Rattle.option_words.specs.Fault.{fault};

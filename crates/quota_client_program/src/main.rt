@@ -28,7 +28,8 @@ fn first_xid(seconds: u64) -> u32
     (seconds % 4_294_967_296) as u32
 }
 
-/// What the system refused, and why, of the output or of the peer. A run ends with the first one, so there is one at most.
+/// What the system refused, and why, of the output or of the peer. A run ends with the first one, so there is one at
+/// most.
 fn system_reason<'a>(output: Option<io::Error>, peer: Option<LinkFailure>) -> Option<Reason<'a>> {
     if let Some(error) = output {
         return Some(Reason::Refused {
@@ -46,8 +47,8 @@ fn system_reason<'a>(output: Option<io::Error>, peer: Option<LinkFailure>) -> Op
 }
 
 /// The text of the reason of a status behind this error line; none where it is not asked for, where the system refused
-/// something, where no more is known than the error line has, or where there is no memory for it. With status 1 the output
-/// says which path it is of.
+/// something, where no more is known than the error line has, or where there is no memory for it. With status 1 the
+/// output says which path it is of.
 fn text_of(
     alloc: Global,
     is_asked: bool,

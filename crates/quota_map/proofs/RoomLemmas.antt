@@ -1,5 +1,6 @@
 -- Whether an opened file of any format has room for a value.
-use Rattle.std.proofs.Common.{◌≡◌, ℕ, List, Option, Bool, refl, sym, ap, subst, ◌∙◌, arith, ◌+◌, ◌*◌, ◌<◌, ◌≤◌, true, false, if◌then◌else◌, length, None, Some, IsTrue, Ok}
+use Rattle.std.proofs.Common.{◌≡◌, ℕ, List, Option, Bool, refl, sym, ap, subst, ◌∙◌, arith, ◌+◌, ◌*◌, ◌<◌, ◌≤◌, true}
+use Rattle.std.proofs.Common.{false, if◌then◌else◌, length, None, Some, IsTrue, Ok}
 use Rattle.std.proofs.lemmas.Bool.{false≢true}
 use Rattle.std.specs.Prelude.{◌==◌, ◌-◌, find, nat_lt}
 use Rattle.quota_value.specs.QuotaValue.{QuotaValue}
@@ -35,27 +36,39 @@ abbrev pub HasNoRoom : AnyFile → Option (List ℕ) → QuotaValue → ℕ → 
 HasNoRoom file bytes value blocks limit = LacksRoom (any_seen file) bytes value blocks limit
 
 -- a flat file needs no blocks
-pub flat_blocks : (bytes : Option (List ℕ)) (new : QuotaValue) (format : Format) → new.format ≡ format → is_flat format ≡ true → blocks_after bytes new ≡ 0
+pub flat_blocks : (bytes : Option (List ℕ)) (new : QuotaValue) (format : Format) → new.format ≡ format
+    → is_flat format ≡ true → blocks_after bytes new ≡ 0
 flat_blocks bytes new format is flat = no_blocks new.format bytes (ids_in new.records) (ap is_flat is ∙ flat)
   where
-    no_blocks : (format : Format) (bytes : Option (List ℕ)) (ids : List ℕ) → is_flat format ≡ true → blocks_wanted format bytes ids ≡ 0
+    no_blocks : (format : Format) (bytes : Option (List ℕ)) (ids : List ℕ) → is_flat format ≡ true
+        → blocks_wanted format bytes ids ≡ 0
     no_blocks V2R0 bytes ids flat = absurd (false≢true flat)
     no_blocks V2R1 bytes ids flat = absurd (false≢true flat)
     no_blocks _ bytes ids flat = refl
 
 -- what an opened file that has no room tells of the value, whatever bytes are in its place
-pub lacking : (tells : Bool) (files : World) (file : AnyFile) (bytes : Option (List ℕ)) (value new : QuotaValue) (name : List ℕ) (format : Format) (blocks limit : ℕ) → any_seen file ≡ fresh_seen name format
-    → HoldsAny tells files file value → new.format ≡ value.format → HasNoRoom file bytes new blocks limit → IsLacking bytes new blocks limit
+pub lacking : (tells : Bool) (files : World) (file : AnyFile) (bytes : Option (List ℕ)) (value new : QuotaValue)
+    (name : List ℕ) (format : Format) (blocks limit : ℕ) → any_seen file ≡ fresh_seen name format
+    → HoldsAny tells files file value → new.format ≡ value.format → HasNoRoom file bytes new blocks limit
+    → IsLacking bytes new blocks limit
 lacking tells files (FlatFile file) bytes value new name format blocks limit seen held same lacks =
-    absurd (omega (arith, lacks.passes, lacks.needs, flat_blocks bytes new value.format same (ap is_flat held.stands.format ∙ file.flat)))
+    absurd (omega (
+      arith,
+      lacks.passes,
+      lacks.needs,
+      flat_blocks bytes new value.format same (ap is_flat held.stands.format ∙ file.flat),
+    ))
 lacking tells files (TreeFile file) bytes value new name format blocks limit seen held same lacks =
     let most = lacks.may ∙ tree_limit tells _ _ _ file.limit value format (ap (λ (s : FileSeen). s.limit) seen) held in
     (lacks.needs, most, subst (λ (l : ℕ). l < blocks) most lacks.passes)
 
 -- an opened file has no room for a value with which it would have more than the most blocks
-pub lacks_most : (tells : Bool) (files : World) (file : AnyFile) (bytes : Option (List ℕ)) (value new : QuotaValue) (name : List ℕ) (format : Format) → any_seen file ≡ fresh_seen name format
-    → HoldsAny tells files file value → new.format ≡ value.format → most_blocks < blocks_after bytes new → HasNoRoom file bytes new (blocks_after bytes new) most_blocks
-lacks_most tells files (FlatFile file) bytes value new name format seen held same more = absurd (omega (arith, more, flat_blocks bytes new value.format same (ap is_flat held.stands.format ∙ file.flat)))
+pub lacks_most : (tells : Bool) (files : World) (file : AnyFile) (bytes : Option (List ℕ)) (value new : QuotaValue)
+    (name : List ℕ) (format : Format) → any_seen file ≡ fresh_seen name format
+    → HoldsAny tells files file value → new.format ≡ value.format → most_blocks < blocks_after bytes new
+    → HasNoRoom file bytes new (blocks_after bytes new) most_blocks
+lacks_most tells files (FlatFile file) bytes value new name format seen held same more =
+    absurd (omega (arith, more, flat_blocks bytes new value.format same (ap is_flat held.stands.format ∙ file.flat)))
 lacks_most tells files (TreeFile file) bytes value new name format seen held same more = record {
   needs = refl;
   may = sym (tree_limit tells _ _ _ file.limit value format (ap (λ (s : FileSeen). s.limit) seen) held);
@@ -83,9 +96,11 @@ with_few file heads (Some id) =
     let few = taken_few file heads id in
     omega (arith, few)
 
-tree_few : (format : Format) (file ids : List ℕ) → tree_blocks_wanted format (Some file) ids ≤ (header_of file).blocks + 5
+tree_few : (format : Format) (file ids : List ℕ)
+    → tree_blocks_wanted format (Some file) ids ≤ (header_of file).blocks + 5
 unfolding tree_blocks_wanted
-tree_few format file ids = with_few file (heads_of (header_of file)) (find (has_no_leaf file (header_of file).blocks) ids)
+tree_few format file ids =
+    with_few file (heads_of (header_of file)) (find (has_no_leaf file (header_of file).blocks) ids)
 
 wanted_few : (format : Format) (file ids : List ℕ) → blocks_wanted format (Some file) ids ≤ (header_of file).blocks + 5
 wanted_few V2R0 file ids = tree_few V2R0 file ids
@@ -93,7 +108,8 @@ wanted_few V2R1 file ids = tree_few V2R1 file ids
 wanted_few _ file ids = omega arith
 
 -- a tree file with so many blocks is long
-tree_long : (file : List ℕ) (value : QuotaValue) (blocks limit wanted : ℕ) → TreeStandsFor file value → wanted ≤ (header_of file).blocks + 5 → blocks ≡ wanted → limit ≡ most_blocks → limit < blocks
+tree_long : (file : List ℕ) (value : QuotaValue) (blocks limit wanted : ℕ) → TreeStandsFor file value
+    → wanted ≤ (header_of file).blocks + 5 → blocks ≡ wanted → limit ≡ most_blocks → limit < blocks
     → 1024 * most_blocks ≤ length file + 4096
 tree_long file value blocks limit wanted stands few needs allowed passes =
     let many : 2 < (header_of file).blocks = omega (arith, few, needs, allowed, passes) in
@@ -101,8 +117,10 @@ tree_long file value blocks limit wanted stands few needs allowed passes =
     omega (arith, long, few, needs, allowed, passes)
 
 -- a tree file that would have more blocks than the most with an edited value is long
-pub tree_full : (kind : Kind) (asked : Asked) (file : List ℕ) (value new : QuotaValue) (blocks limit : ℕ) → IsTrue (asks_tree asked) → IsView (Some file) kind asked (Ok value)
-    → blocks ≡ blocks_after (Some file) new → limit ≡ most_blocks → limit < blocks → 1024 * most_blocks ≤ length file + 4096
+pub tree_full : (kind : Kind) (asked : Asked) (file : List ℕ) (value new : QuotaValue) (blocks limit : ℕ)
+    → IsTrue (asks_tree asked) → IsView (Some file) kind asked (Ok value)
+    → blocks ≡ blocks_after (Some file) new → limit ≡ most_blocks → limit < blocks
+    → 1024 * most_blocks ≤ length file + 4096
 tree_full kind AnyTree file value new blocks limit tree seen needs allowed passes =
     tree_long file value blocks limit _ seen.0.1 (wanted_few new.format file (ids_in new.records)) needs allowed passes
 tree_full kind (InFormat V2R0) file value new blocks limit tree seen needs allowed passes =

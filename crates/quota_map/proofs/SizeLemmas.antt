@@ -16,7 +16,8 @@ few_once (number ∷ numbers) =
     omega (arith, few_once numbers, length-filter_both apart (λ x. not (apart x)) (λ x. refl) (each_once numbers))
 
 few_beginnings : (left_out : ℕ) (ids : List ℕ) → beginnings left_out ids ≤ length ids
-few_beginnings left_out ids = omega (arith, few_once (map (λ id. id / 256 ^ left_out) ids), length-map ids (λ (id : ℕ). id / 256 ^ left_out))
+few_beginnings left_out ids =
+    omega (arith, few_once (map (λ id. id / 256 ^ left_out) ids), length-map ids (λ (id : ℕ). id / 256 ^ left_out))
 
 -- a vfsv1 file of few identifiers has room for them
 pub few_blocks : (ids : List ℕ) → length ids ≤ 5000 → blocks_needed V2R1 ids ≤ most_blocks

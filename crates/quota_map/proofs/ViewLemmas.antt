@@ -1,7 +1,8 @@
 -- What is seen of a file as one of its format is what is seen of it.
-use Rattle.std.proofs.Common.{◌≡◌, ℕ, Bool, true, false, if◌then◌else◌, List, Option, Some, None, IfSome, Result, Ok, sym, subst, ◌+◌, ◌*◌, ◌≤◌, inl, inr, [], ◌∷◌, length, refl, arith}
+use Rattle.std.proofs.Common.{◌≡◌, ℕ, Bool, true, false, if◌then◌else◌, List, Option, Some, None, Result, Ok, sym}
+use Rattle.std.proofs.Common.{subst, ◌+◌, ◌*◌, ◌≤◌, inl, inr, [], ◌∷◌, length, refl, arith}
 use Rattle.std.specs.Prelude.{MatchBool}
-use Rattle.quota_types.specs.Format.{IsTreeFormat, is_flat}
+use Rattle.quota_types.specs.Format.{is_flat}
 use Rattle.quota_types.specs.declared.file_kind.Format.{Format}
 use Rattle.quota_types.specs.declared.file_kind.Kind.{Kind}
 use Rattle.quota_value.specs.QuotaValue.{QuotaValue}
@@ -17,32 +18,35 @@ use Rattle.entry_codec.specs.Header.{header_of, magic_of}
 use Rattle.tree_meaning.specs.TreeFile.{TreeStandsFor}
 use Rattle.opened_file.specs.Replace.{pieces_of}
 
-pub seen_flat : (named : Option (List ℕ)) (kind : Kind) (format : Format) (result : Result QuotaValue OpenFault) → is_flat format ≡ true → IsFlatView format named kind result
+pub seen_flat : (named : Option (List ℕ)) (kind : Kind) (format : Format) (result : Result QuotaValue OpenFault)
+    → is_flat format ≡ true → IsFlatView format named kind result
     → IsView named kind (InFormat format) result
 seen_flat named kind format result flat seen =
-    subst (λ (b : Bool). MatchBool b (IsFlatView format named kind result) (IsTreeView named kind (Some format) most_blocks result)) (sym flat) seen
+    subst (λ (b : Bool). MatchBool b (IsFlatView format named kind result)
+    (IsTreeView named kind (Some format) most_blocks result)) (sym flat) seen
 
-pub flat_seen : (named : Option (List ℕ)) (kind : Kind) (format : Format) (result : Result QuotaValue OpenFault) → is_flat format ≡ true → IsView named kind (InFormat format) result
+pub flat_seen : (named : Option (List ℕ)) (kind : Kind) (format : Format) (result : Result QuotaValue OpenFault)
+    → is_flat format ≡ true → IsView named kind (InFormat format) result
     → IsFlatView format named kind result
 flat_seen named kind format result flat seen =
-    subst (λ (b : Bool). MatchBool b (IsFlatView format named kind result) (IsTreeView named kind (Some format) most_blocks result)) flat seen
+    subst (λ (b : Bool). MatchBool b (IsFlatView format named kind result)
+    (IsTreeView named kind (Some format) most_blocks result)) flat seen
 
-pub seen_tree : (named : Option (List ℕ)) (kind : Kind) (asked : Option Format) (result : Result QuotaValue OpenFault) → asks_flat (asked_of asked) ≡ false → IsTreeView named kind asked most_blocks result
+pub seen_tree : (named : Option (List ℕ)) (kind : Kind) (asked : Option Format) (result : Result QuotaValue OpenFault)
+    → asks_flat (asked_of asked) ≡ false → IsTreeView named kind asked most_blocks result
     → IsView named kind (asked_of asked) result
 seen_tree named kind None result other seen = seen
 seen_tree named kind (Some format) result other seen =
-    subst (λ (b : Bool). MatchBool b (IsFlatView format named kind result) (IsTreeView named kind (Some format) most_blocks result)) (sym other) seen
+    subst (λ (b : Bool). MatchBool b (IsFlatView format named kind result)
+    (IsTreeView named kind (Some format) most_blocks result)) (sym other) seen
 
-pub tree_seen : (named : Option (List ℕ)) (kind : Kind) (asked : Option Format) (result : Result QuotaValue OpenFault) → asks_flat (asked_of asked) ≡ false → IsView named kind (asked_of asked) result
+pub tree_seen : (named : Option (List ℕ)) (kind : Kind) (asked : Option Format) (result : Result QuotaValue OpenFault)
+    → asks_flat (asked_of asked) ≡ false → IsView named kind (asked_of asked) result
     → IsTreeView named kind asked most_blocks result
 tree_seen named kind None result other seen = seen
 tree_seen named kind (Some format) result other seen =
-    subst (λ (b : Bool). MatchBool b (IsFlatView format named kind result) (IsTreeView named kind (Some format) most_blocks result)) other seen
-
--- where no flat file is asked for, and a format is, it is that of a tree file
-pub tree_asked : (asked : Option Format) → asks_flat (asked_of asked) ≡ false → IfSome asked IsTreeFormat
-tree_asked None other = tt
-tree_asked (Some format) other = other
+    subst (λ (b : Bool). MatchBool b (IsFlatView format named kind result)
+    (IsTreeView named kind (Some format) most_blocks result)) other seen
 
 empty_number : number_at 4 [] 0 ≡ 0
 unfolding number_at
@@ -55,7 +59,8 @@ has_bytes User [] magic = absurd (omega (arith, magic, empty_number))
 has_bytes Group [] magic = absurd (omega (arith, magic, empty_number))
 has_bytes Project [] magic = absurd (omega (arith, magic, empty_number))
 
-tree_opening : (file : List ℕ) (value : QuotaValue) → TreeStandsFor file value → 1 + 2 * (header_of file).blocks ≤ 4 + 3 * pieces_of (length file)
+tree_opening : (file : List ℕ) (value : QuotaValue) → TreeStandsFor file value
+    → 1 + 2 * (header_of file).blocks ≤ 4 + 3 * pieces_of (length file)
 tree_opening file value stands =
     let some = has_bytes value.kind file stands.magic in
     elim (cases_lt 2 (header_of file).blocks) [
@@ -64,12 +69,14 @@ tree_opening file value stands =
     ]
 
 -- the opening of a file that is accepted makes few calls of `read`
-pub opening_few : (kind : Kind) (asked : Asked) (file : List ℕ) (value : QuotaValue) → IsView (Some file) kind asked (Ok value) → opening_reads asked file ≤ 4 + 3 * pieces_of (length file)
+pub opening_few : (kind : Kind) (asked : Asked) (file : List ℕ) (value : QuotaValue)
+    → IsView (Some file) kind asked (Ok value) → opening_reads asked file ≤ 4 + 3 * pieces_of (length file)
 opening_few kind AnyTree file value view = tree_opening file value view.0.1
 opening_few kind (InFormat format) file value view = few_if (is_flat format) format kind file value view
   where
     few_if : (flat : Bool) (format : Format) (kind : Kind) (file : List ℕ) (value : QuotaValue)
-        → MatchBool flat (IsFlatView format (Some file) kind (Ok value)) (IsTreeView (Some file) kind (Some format) most_blocks (Ok value))
+        → MatchBool flat (IsFlatView format (Some file) kind (Ok value))
+        (IsTreeView (Some file) kind (Some format) most_blocks (Ok value))
         → (if flat then 1 else 1 + 2 * (header_of file).blocks) ≤ 4 + 3 * pieces_of (length file)
     few_if true format kind file value view = omega arith
     few_if false format kind file value view = tree_opening file value view.0.1

@@ -13,7 +13,7 @@ pub record AnyMakes (seen : FileSeen) (change : FileChange) (name : List ℕ) (o
   pub flat : is_flat seen.format ≡ true → FlatMakes seen.format change name old new
   pub tree : IsTreeFormat seen.format → TreeMakes seen.limit change name old new
 
--- what a change of a file of this format that failed may leave it as, between the bytes before and those that it would have made:
--- of a flat file one of the two
+-- what a change of a file of this format that failed may leave it as, between the bytes before and those that it would
+-- have made: of a flat file one of the two
 abbrev pub AnyLeaves : Format → (old after left : Option (List ℕ)) → Type 0
 AnyLeaves format old after left = MatchBool (is_flat format) (FlatLeaves old after left) (TreeLeaves old after left)

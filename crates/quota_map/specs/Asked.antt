@@ -1,5 +1,5 @@
--- What is asked where a quota file is opened. Source: quotaon(8) and setquota(8) on formats: a file whose format is not given is a tree
--- file, and its own version tells which of the tree formats it has.
+-- What is asked where a quota file is opened. Source: quotaon(8) and setquota(8) on formats: a file whose format is not
+-- given is a tree file, and its own version tells which of the tree formats it has.
 use Rattle.std.specs.Prelude.{Bool, true, false, Option, None, Some}
 use Rattle.quota_types.specs.declared.file_kind.Format.{Format}
 

@@ -17,6 +17,8 @@ adds_up_if false format file from mid to first second = omega arith
 
 -- two calls in a row read little more than one
 pub any_adds_up : (seen : FileSeen) (file : Option (List ℕ)) (from mid to : ℕ) → from ≤ mid → mid ≤ to
-    → any_passing_reads seen file from mid + any_passing_reads seen file mid to ≤ any_passing_reads seen file from to + any_passing_reads seen file 0 0
+    → any_passing_reads seen file from mid + any_passing_reads seen file mid to
+    ≤ any_passing_reads seen file from to + any_passing_reads seen file 0 0
 unfolding any_passing_reads
-any_adds_up seen file from mid to first second = adds_up_if (is_flat seen.format) seen.format (bytes_of file) from mid to first second
+any_adds_up seen file from mid to first second =
+    adds_up_if (is_flat seen.format) seen.format (bytes_of file) from mid to first second

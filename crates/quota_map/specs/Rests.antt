@@ -17,23 +17,31 @@ use Rattle.quota_map.specs.AnyFile.{HoldsAny, any_seen}
 use Rattle.quota_map.specs.StandsFor.{StandsForAs}
 
 -- another store with the same named file
-pub rests_on_named : (tells : Bool) (files files' : World) (file : AnyFile) (value : QuotaValue) → files' (any_seen file).name ≡ files (any_seen file).name
+pub rests_on_named : (tells : Bool) (files files' : World) (file : AnyFile) (value : QuotaValue)
+    → files' (any_seen file).name ≡ files (any_seen file).name
     → HoldsAny tells files file value → HoldsAny tells files' file value
-rests_on_named tells files files' (V1 file) value named held = flat_rests tells (files (string_bytes file.name)) (files' (string_bytes file.name)) file.format file.len file.times file.window value named held
+rests_on_named tells files files' (V1 file) value named held =
+    flat_rests tells (files (string_bytes file.name)) (files' (string_bytes file.name)) file.format file.len file.times
+    file.window value named held
 rests_on_named tells files files' (Tree file) value named held =
-    tree_rests tells (files (name_of file.pages)) (files' (name_of file.pages)) file.header file.coming file.limit value named held
+    tree_rests tells (files (name_of file.pages)) (files' (name_of file.pages)) file.header file.coming file.limit
+    value named held
 
 -- a tree file stands for a value as one of its format does
-pub stands_as_tree : (format : Format) (file : Option (List ℕ)) (value : QuotaValue) → IsTreeFormat format → IsSomeAnd file (λ bytes. TreeStandsFor bytes value)
+pub stands_as_tree : (format : Format) (file : Option (List ℕ)) (value : QuotaValue) → IsTreeFormat format
+    → IsSomeAnd file (λ bytes. TreeStandsFor bytes value)
     → IsSomeAnd file (λ bytes. StandsForAs format bytes value)
 stands_as_tree format file value other stands =
-    subst (λ (b : Bool). IsSomeAnd file (λ bytes. MatchBool b (FlatStandsFor format bytes value) (TreeStandsFor bytes value))) (sym other) stands
+    subst (λ (b : Bool). IsSomeAnd file
+    (λ bytes. MatchBool b (FlatStandsFor format bytes value) (TreeStandsFor bytes value))) (sym other) stands
 
 -- and a flat file does
-pub stands_as_flat : (format : Format) (file : Option (List ℕ)) (value : QuotaValue) → is_flat format ≡ true → IsSomeAnd file (λ bytes. FlatStandsFor format bytes value)
+pub stands_as_flat : (format : Format) (file : Option (List ℕ)) (value : QuotaValue) → is_flat format ≡ true
+    → IsSomeAnd file (λ bytes. FlatStandsFor format bytes value)
     → IsSomeAnd file (λ bytes. StandsForAs format bytes value)
 stands_as_flat format file value flat stands =
-    subst (λ (b : Bool). IsSomeAnd file (λ bytes. MatchBool b (FlatStandsFor format bytes value) (TreeStandsFor bytes value))) (sym flat) stands
+    subst (λ (b : Bool). IsSomeAnd file
+    (λ bytes. MatchBool b (FlatStandsFor format bytes value) (TreeStandsFor bytes value))) (sym flat) stands
 
 -- the named file stands for what is held
 pub held_stands : (tells : Bool) (files : World) (file : AnyFile) (value : QuotaValue) → HoldsAny tells files file value

@@ -3,7 +3,8 @@ use Rattle.std.specs.Prelude.{ℕ, List, Option}
 use Rattle.quota_value.specs.QuotaValue.{QuotaValue}
 use Rattle.tree_file.specs.BlocksWanted.{blocks_wanted}
 use Rattle.quota_map.specs.Replacing.{built_size}
--- The clauses of `replace_file` say by these how many blocks a file of a list needs; so whoever calls it takes them from here.
+-- The clauses of `replace_file` say by these how many blocks a file of a list needs; so whoever calls it takes them
+-- from here.
 pub use Rattle.tree_build.specs.Size.{blocks_needed}
 pub use Rattle.tree_meaning.specs.Ids.{ids_in}
 

@@ -34,7 +34,9 @@ impl AnyFile {
 
 impl<S: Store> QuotaFile<S> for AnyFile {
     ghost use Rattle.tree_file.specs.Opened.{LacksRoom};
-    ghost use Rattle.quota_map.specs.AnyFile.{HoldsAny, IsAnyDamage, MayRefuse, any_change_reads, any_change_writes, any_done_writes, any_next_reads, any_passing_reads, any_seen, reads_of_get};
+    ghost use Rattle.quota_map.specs.AnyFile.{HoldsAny, IsAnyDamage, MayRefuse, any_change_reads, any_change_writes};
+    ghost use Rattle.quota_map.specs.AnyFile.{any_done_writes, any_next_reads, any_passing_reads, any_seen};
+    ghost use Rattle.quota_map.specs.AnyFile.{reads_of_get};
     ghost use Rattle.quota_map.specs.AnyChange.{AnyLeaves, AnyMakes};
     ghost use Rattle.quota_map.specs.Passing.{any_adds_up};
     ghost use Rattle.quota_map.specs.Rests.{held_stands, rests_on_named};

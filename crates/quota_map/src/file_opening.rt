@@ -1,4 +1,5 @@
-ghost use Rattle.std.specs.Prelude.{◌≡◌, ◌+◌, ◌≤◌, None, Some, true, false, Ok, IfSome, IsTrue, IfOk, IfErr, OnOk, is_ok, []};
+ghost use Rattle.std.specs.Prelude.{◌≡◌, ◌+◌, ◌≤◌, None, Some, true, false, Ok, IfSome, IsTrue, IfOk, IfErr, OnOk};
+ghost use Rattle.std.specs.Prelude.{is_ok, []};
 ghost use Rattle.outside.specs.Frame.{OnlyReads};
 ghost use Rattle.quota_value.specs.QuotaValue.{QuotaValue};
 ghost use Rattle.file_blocks.specs.Block.{file_of};
@@ -17,13 +18,14 @@ use tree_file::open_tree;
 /// How many blocks a tree file may have, of 1,024 bytes each.
 pub const MOST_BLOCKS: u32 = 4_194_304;
 
-/// Opens a quota file of the kind: as a flat file, which has no mark of its kind, exactly where a flat format is asked for, and
-/// otherwise as a tree file of the format that is asked for, where one is. Of a flat file its length and the times of record
-/// 0 are kept; of a tree file its header, once each block was read and the whole found sound.
+/// Opens a quota file of the kind: as a flat file, which has no mark of its kind, exactly where a flat format is asked
+/// for, and otherwise as a tree file of the format that is asked for, where one is. Of a flat file its length and the
+/// times of record 0 are kept; of a tree file its header, once each block was read and the whole found sound.
 ///
 /// # Errors
 ///
-/// It is refused where it cannot be opened as one of its format: by `open_v1`, or by `open_tree` with at most 4,194,304 blocks.
+/// It is refused where it cannot be opened as one of its format: by `open_v1`, or by `open_tree` with at most 4,194,304
+/// blocks.
 pub fn open_file<S: Store>(
     alloc: Global,
     store: &mut S,

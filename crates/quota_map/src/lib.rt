@@ -1,7 +1,7 @@
 //! One map from identifiers to records, over the formats vfsold, vfsold32, vfsv0 and vfsv1.
 //!
-//! The one promise: a file of any format is opened, read whole and written whole as the value that it stands for, and what
-//! is told of one format is told of all.
+//! The one promise: a file of any format is opened, read whole and written whole as the value that it stands for, and
+//! what is told of one format is told of all.
 #![tactic(auto)]
 
 mod any_file;

@@ -15,8 +15,8 @@ use outside::Store;
 use quota_types::Entry;
 use std::alloc::Global;
 
-/// Reads all records of an opened quota file, ascending, with its null records. Whatever the store tells, the identifiers
-/// ascend strictly and are below 2^32, and the format has room for each record, and keeps it as it is.
+/// Reads all records of an opened quota file, ascending, with its null records. Whatever the store tells, the
+/// identifiers ascend strictly and are below 2^32, and the format has room for each record, and keeps it as it is.
 ///
 /// # Errors
 ///
@@ -27,20 +27,25 @@ pub fn read_all<S: Store>(
     store: &mut S,
 ) -> Result<Vec<Entry>, FileFault>
     requires { IsTrue (⟦<AnyFile as QuotaFile<S>>⟧.seen file.old).usable }
-    ensures records { IfOk result (λ list. (value : QuotaValue) → ⟦<AnyFile as QuotaFile<S>>⟧.holds file.old store.old value
+    ensures records { IfOk result
+        (λ list. (value : QuotaValue) → ⟦<AnyFile as QuotaFile<S>>⟧.holds file.old store.old value
         → records_of list.items ≡ value.records) }
     ensures ascends { IfOk result (λ list. IsStrictlyIncreasing (ids_of list.items)) }
     ensures narrow { IfOk result (λ list. All (λ entry. entry.id < 2 ^ 32) list.items) }
-    ensures kept { IfOk result (λ list. All (λ entry. IsKept (⟦<AnyFile as QuotaFile<S>>⟧.seen file.old).format entry.id entry.rec) list.items) }
+    ensures kept { IfOk result
+        (λ list.
+        All (λ entry. IsKept (⟦<AnyFile as QuotaFile<S>>⟧.seen file.old).format entry.id entry.rec) list.items) }
     ensures looks { LooksUp file_refusal (any_laws S.tells) (any_at S.tells (S.seen store.old) file.old)
         (any_at S.tells (S.seen store.new) file.new)
         (any_next_reads (any_seen file.old) ((S.seen store.old).files (any_seen file.old).name) * (2 ^ 32 + 1)) result }
     // There is one look-up for each record, and one that finds no more.
     ensures reads { IfOk result (λ list. (S.seen store.new).reads ≤ (S.seen store.old).reads
-        + any_next_reads (any_seen file.old) ((S.seen store.old).files (any_seen file.old).name) * (length list.items + 1)) }
+        + any_next_reads (any_seen file.old) ((S.seen store.old).files (any_seen file.old).name)
+        * (length list.items + 1)) }
     ensures few { (value : QuotaValue) → HoldsAny S.tells (S.seen store.old).files file.old value
         → (S.seen store.new).reads ≤ (S.seen store.old).reads
-        + reads_over (any_passing_reads (any_seen file.old) ((S.seen store.old).files (any_seen file.old).name)) (length (entries value.records)) }
+        + reads_over (any_passing_reads (any_seen file.old) ((S.seen store.old).files (any_seen file.old).name))
+        (length (entries value.records)) }
     ensures commits { S.commits [] store.old store.new }
 {
     let mut list = Vec::new(alloc);

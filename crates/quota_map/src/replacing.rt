@@ -1,4 +1,5 @@
-ghost use Rattle.std.specs.Prelude.{◌≡◌, ◌^◌, ◌≤◌, true, false, None, Ok, Some, All, vec_len, IsTrue, IfOk, IfErr, OnOk, OnErr, is_ok};
+ghost use Rattle.std.specs.Prelude.{◌≡◌, ◌^◌, ◌≤◌, true, false, None, Ok, Some, All, vec_len, IsTrue, IfOk, IfErr};
+ghost use Rattle.std.specs.Prelude.{OnOk, OnErr, is_ok};
 ghost use Rattle.std.specs.List.Sorted.{IsStrictlyIncreasing};
 ghost use Rattle.quota_types.specs.Format.{is_flat};
 ghost use Rattle.quota_types.specs.Kept.{kept_of};
@@ -11,7 +12,8 @@ ghost use Rattle.outside.specs.World.{KeepsOthers};
 ghost use Rattle.tree_build.specs.Build.{IsBuildFault};
 ghost use Rattle.tree_build.specs.Size.{blocks_needed};
 ghost use Rattle.quota_map.specs.Asked.{InFormat};
-ghost use Rattle.quota_map.specs.Replacing.{CommitsReplaced, IsPlain, IsReplaceFileFault, IsReplacedBy, UnlessStore, built_size, flags_in};
+ghost use Rattle.quota_map.specs.Replacing.{CommitsReplaced, IsPlain, IsReplaceFileFault, IsReplacedBy, UnlessStore};
+ghost use Rattle.quota_map.specs.Replacing.{built_size, flags_in};
 ghost use Rattle.quota_map.specs.StandsFor.{StandsFor};
 ghost use Rattle.quota_map.specs.View.{IsView, most_blocks};
 
@@ -22,14 +24,14 @@ use quota_v1::build_v1;
 use std::alloc::Global;
 use tree_build::{BuildFault, build};
 
-/// Builds a file of the format from its grace periods, in seconds, its flags and its entries, and puts it in the place of the
-/// one of this name, or makes it. A flat file has no flags. Nothing is written before the file is built.
+/// Builds a file of the format from its grace periods, in seconds, its flags and its entries, and puts it in the place
+/// of the one of this name, or makes it. A flat file has no flags. Nothing is written before the file is built.
 ///
 /// # Errors
 ///
-/// `Full` exactly where the file needs more blocks than `limit`, which a flat file never does; `Store` where the store failed;
-/// and `Memory` where there was not enough memory. The old file is as before, and the one with `.new` may hold anything where
-/// the store failed.
+/// `Full` exactly where the file needs more blocks than `limit`, which a flat file never does; `Store` where the store
+/// failed; and `Memory` where there was not enough memory. The old file is as before, and the one with `.new` may hold
+/// anything where the store failed.
 pub fn replace_file<S: Store>(
     alloc: Global,
     store: &mut S,
@@ -51,7 +53,8 @@ pub fn replace_file<S: Store>(
         (built_size format (ids_of list.now)) (S.seen store.old).files (S.seen store.new).files) }
     // Whoever opens it then sees the value, unless it has more blocks than an opened file may have.
     ensures seen { OnOk result (IsTrue S.tells → limit ≤ most_blocks
-        → IsView ((S.seen store.new).files name.now) kind (InFormat format) (Ok (value_of kind format grace (flags_in format flags) list.now))) }
+        → IsView ((S.seen store.new).files name.now) kind (InFormat format)
+        (Ok (value_of kind format grace (flags_in format flags) list.now))) }
     ensures few { OnOk result (blocks_needed format (ids_of list.now) ≤ limit) }
     ensures synced { OnOk result (IsTrue S.tells
         → (S.seen store.new).unsynced ≡ replaced_names (S.seen store.old).unsynced name.now) }
@@ -65,7 +68,8 @@ pub fn replace_file<S: Store>(
     // Nothing is committed, or once the files with the new one in its place, whether or not it got its name then.
     ensures commits { IsTrue S.tells → CommitsReplaced (is_ok result) name.now
         (λ bytes. (blocks_needed format (ids_of list.now) ≤ limit) × (limit ≤ most_blocks
-        → IsView (Some bytes) kind (InFormat format) (Ok (value_of kind format grace (flags_in format flags) list.now))))
+        → IsView (Some bytes) kind (InFormat format)
+        (Ok (value_of kind format grace (flags_in format flags) list.now))))
         (S.seen store.old).files (S.seen store.new).files (λ worlds. S.commits worlds store.old store.new) }
 {
     match built(alloc, format, kind, grace, flags, list, limit) {
@@ -95,7 +99,8 @@ fn built(
     ensures plain { IfOk result (λ file. IsPlain format grace (ids_of list.now) file.items) }
     ensures size { IfOk result (λ file. vec_len file ≡ built_size format (ids_of list.now)) }
     ensures seen { IfOk result (λ file. limit ≤ most_blocks
-        → IsView (Some file.items) kind (InFormat format) (Ok (value_of kind format grace (flags_in format flags) list.now))) }
+        → IsView (Some file.items) kind (InFormat format)
+        (Ok (value_of kind format grace (flags_in format flags) list.now))) }
     ensures limited { IfOk result (λ file. vec_len file ≤ 2 ^ 42) }
     ensures few { OnOk result (blocks_needed format (ids_of list.now) ≤ limit) }
     ensures refused { IfErr result (IsBuildFault (blocks_needed format (ids_of list.now)) limit) }

@@ -1,5 +1,6 @@
 pub mod BlockLemmas
 pub mod PageLemmas
+pub mod LengthLemmas
 pub mod HeldLemmas
 pub mod BufferLemmas
 pub mod FlushLemmas

@@ -11,7 +11,8 @@ use Rattle.quota_pages.specs.contracts.held_blocks.Held.{the_row}
 abbrev pub pages_in : List PageHead → List (List ℕ) → List Page
 pages_in [] blocks = []
 pages_in (head ∷ heads) [] = []
-pages_in (head ∷ heads) (block ∷ blocks) = record { number = head.number; bytes = block; lent = head.lent } ∷ pages_in heads blocks
+pages_in (head ∷ heads) (block ∷ blocks) =
+    record { number = head.number; bytes = block; lent = head.lent } ∷ pages_in heads blocks
 
 -- a head that is marked as lent for writing
 abbrev pub lent_head : PageHead → PageHead
@@ -20,7 +21,8 @@ lent_head head = record head { lent = true }
 -- what is held once the block at a place was lent for writing and left with these bytes
 abbrev pub with_lent : Held → ℕ → List ℕ → Held
 with_lent held place bytes = record held {
-  heads = with_item held.heads place (lent_head (slice_index_or held.heads.items place (record { number = 0; lent = true })));
+  heads = with_item held.heads place
+      (lent_head (slice_index_or held.heads.items place (record { number = 0; lent = true })));
   blocks = with_item held.blocks place bytes;
 }
 

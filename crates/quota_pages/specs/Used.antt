@@ -28,18 +28,21 @@ pub record IsKnown (tells : Bool) (seen : StoreSeen) (buffer : Pages) : Type 0 w
 abbrev pub missing : List Page → ℕ → ℕ
 missing pages number = if is_buffered pages number then 0 else 1
 
--- how many blocks are read at most to have some of them buffered, one after another; a block that is missing counts as often as
--- it stands there
+-- how many blocks are read at most to have some of them buffered, one after another; a block that is missing counts as
+-- often as it stands there
 unfoldable pub missing_among : List Page → List ℕ → ℕ
 missing_among pages [] = 0
 missing_among pages (number ∷ numbers) = missing pages number + missing_among pages numbers
 
--- There is room for this many blocks; or it is known which are looked at, and each of them is buffered, or there is room for it.
+-- There is room for this many blocks; or it is known which are looked at, and each of them is buffered, or there is
+-- room for it.
 abbrev pub HasRoomWithin : (known : Type 0) → List Page → (most : ℕ) → (numbers : List ℕ) → Type 0
-HasRoomWithin known pages most numbers = (length pages + most ≤ 12) ⊎ (known × (length pages + missing_among pages numbers ≤ 12))
+HasRoomWithin known pages most numbers =
+    (length pages + most ≤ 12) ⊎ (known × (length pages + missing_among pages numbers ≤ 12))
 
--- At most this many pages were used, whether they were looked at or lent: the name and what was buffered stay, what was known
--- still is, no file changed, and where it was done no name is unsynced that was not. It is said beside what is shown then.
+-- At most this many pages were used, whether they were looked at or lent: the name and what was buffered stay, what was
+-- known still is, no file changed, and where it was done no name is unsynced that was not. It is said beside what is
+-- shown then.
 pub record UsesPages (tells ok : Bool) (count : ℕ) (before now : StoreSeen) (old new : Pages) : Type 0 where
   pub name : name_of new ≡ name_of old
   pub few : length (pages_of new) ≤ length (pages_of old) + count
@@ -48,9 +51,9 @@ pub record UsesPages (tells ok : Bool) (count : ℕ) (before now : StoreSeen) (o
   pub leaves : OnlyReads ok (name_of old) before now
   pub reads : now.reads ≤ before.reads + count
 
--- At most this many pages were looked at: the name and what was buffered stay, and so does what the buffer shows, over any
--- file, and each file over which it is clean now is one over which it was clean; no further page was lent for writing, no file
--- changed, and where it was done no name is unsynced that was not.
+-- At most this many pages were looked at: the name and what was buffered stay, and so does what the buffer shows, over
+-- any file, and each file over which it is clean now is one over which it was clean; no further page was lent for
+-- writing, no file changed, and where it was done no name is unsynced that was not.
 pub record LooksAtSome (tells ok : Bool) (count : ℕ) (before now : StoreSeen) (old new : Pages) : Type 0 where
   pub name : name_of new ≡ name_of old
   pub few : length (pages_of new) ≤ length (pages_of old) + count
@@ -64,9 +67,10 @@ pub record LooksAtSome (tells ok : Bool) (count : ℕ) (before now : StoreSeen) 
   pub reads : now.reads ≤ before.reads + count
 
 -- Pages of no blocks but those of a list were lent for writing, and at most this many were read: the name and what was
--- buffered stay, and so does what the buffer shows of other blocks, over any file; a page that was lent before still is, no
--- file changed, and where it was done no name is unsynced that was not.
-pub record LendsSome (tells ok : Bool) (count : ℕ) (numbers : List ℕ) (before now : StoreSeen) (old new : Pages) : Type 0 where
+-- buffered stay, and so does what the buffer shows of other blocks, over any file; a page that was lent before still
+-- is, no file changed, and where it was done no name is unsynced that was not.
+pub record LendsSome (tells ok : Bool) (count : ℕ) (numbers : List ℕ) (before now : StoreSeen)
+    (old new : Pages) : Type 0 where
   pub name : name_of new ≡ name_of old
   pub few : length (pages_of new) ≤ length (pages_of old) + count
   pub stay : (number : ℕ) → is_buffered (pages_of old) number ≡ true → is_buffered (pages_of new) number ≡ true

@@ -1,4 +1,5 @@
-ghost use Rattle.std.specs.Prelude.{◌==◌, position, ◌≡◌, ◌<◌, ◌≤◌, [], ◌∷◌, ◌++◌, length, true, false, MatchOption, slice_index_or};
+ghost use Rattle.std.specs.Prelude.{◌==◌, position, ◌≡◌, ◌<◌, ◌≤◌, [], ◌∷◌, ◌++◌, length, true, false, MatchOption};
+ghost use Rattle.std.specs.Prelude.{slice_index_or};
 ghost use Rattle.std.specs.Borrow.{sem};
 ghost use Rattle.arrayvec.specs.ArrayVec.{array_vec_len, with_item};
 

@@ -1,6 +1,7 @@
 //! Laws of what a buffer of pages shows.
 
-ghost use Rattle.std.specs.Prelude.{◌≡◌, ◌≢◌, ◌⊎◌, ◌+◌, ◌*◌, ◌<◌, ◌≤◌, ◌&&◌, ℕ, All, Bool, IsTrue, true, false, IfOk, OnErr, List, [], ◌++◌, length, max};
+ghost use Rattle.std.specs.Prelude.{◌≡◌, ◌≢◌, ◌⊎◌, ◌+◌, ◌*◌, ◌<◌, ◌≤◌, ◌&&◌, ℕ, All, Bool, IsTrue, true, false, IfOk};
+ghost use Rattle.std.specs.Prelude.{OnErr, List, [], ◌++◌, length, max};
 ghost use Rattle.quota_types.specs.Bytes.{byte_at, number_at};
 ghost use Rattle.outside.specs.Count.{Rose};
 ghost use Rattle.outside.specs.World.{World};
@@ -40,8 +41,8 @@ pub fn an_empty_buffer_shows_the_file()
     ensures clean { (file : List ℕ) → IsClean [] file }
 {}
 
-/// A block that was not lent for writing is shown as it is in the file. What is shown is as long as the file, or up to the
-/// end of the last block that was lent where that is greater.
+/// A block that was not lent for writing is shown as it is in the file. What is shown is as long as the file, or up to
+/// the end of the last block that was lent where that is greater.
 pub fn all_but_lent_blocks_stay()
     ensures others { (pages : List Page) (file : List ℕ) (number : ℕ) → is_lent pages number ≡ false
         → block_of (shown pages file) number ≡ block_of file number }
@@ -62,7 +63,8 @@ pub fn a_buffer_is_clean_over_some_file()
 /// A block that was lent for writing is buffered. The numbers of the pages that were lent are those of the blocks that
 /// were, and no more than there are pages.
 pub fn a_lent_block_is_buffered()
-    ensures buffered { (pages : List Page) (number : ℕ) → is_lent pages number ≡ true → is_buffered pages number ≡ true }
+    ensures buffered { (pages : List Page) (number : ℕ) → is_lent pages number ≡ true
+        → is_buffered pages number ≡ true }
     ensures stands { (pages : List Page) (number : ℕ) → is_lent pages number ≡ true
         → StandsIn (lent_numbers pages) number }
     ensures lent { (pages : List Page) (number : ℕ) → StandsIn (lent_numbers pages) number
@@ -78,8 +80,9 @@ pub fn a_buffer_has_few_pages()
     ensures distinct { (buffer : Buffer) (number : ℕ) → times (lent_numbers (pages_of buffer)) number ≤ 1 }
 {}
 
-/// After a flush the named file is what was shown. So all its blocks stay but those that were lent for writing, and each
-/// byte outside of those. As many calls of `write` are counted as blocks were lent, at most, which are twelve at most.
+/// After a flush the named file is what was shown. So all its blocks stay but those that were lent for writing, and
+/// each byte outside of those. As many calls of `write` are counted as blocks were lent, at most, which are twelve at
+/// most.
 pub fn a_flush_leaves_what_was_shown()
     ensures file { (files : World) (name : List ℕ) (pages : List Page)
         → bytes_of (flushed_files files name pages name) ≡ shown pages (file_of files name) }
@@ -116,9 +119,9 @@ pub fn a_fault_leaves_what_is_shown()
         → IsClean (pages_of buffer) (file_of new (name_of buffer)) }
 {}
 
-/// Calls that look at pages, one after another, look at as many as both, and leave what is shown. Calls that lend pages,
-/// one after another, lend those of both, and leave all other blocks that are shown. Where both were done they leave no
-/// name unsynced that was not. A page that was lent twice counts once.
+/// Calls that look at pages, one after another, look at as many as both, and leave what is shown. Calls that lend
+/// pages, one after another, lend those of both, and leave all other blocks that are shown. Where both were done they
+/// leave no name unsynced that was not. A page that was lent twice counts once.
 pub fn calls_stand_for_one()
     ensures looks { (tells done ok : Bool) (one two : ℕ) (before between now : StoreSeen) (old middle new : Buffer)
         → LooksAtSome tells done one before between old middle → LooksAtSome tells ok two between now middle new
@@ -137,14 +140,16 @@ pub fn calls_stand_for_one()
         → KeepsBlocksBut numbers (shown_over before old) (shown_over now new) }
 {}
 
-/// What calls use of a buffer adds up, whatever they say of its pages beside it. Calls that look at pages use as many, and
-/// so do calls that lend pages. No call uses none, two in a row use as many as both, and what was used is used of a greater count.
+/// What calls use of a buffer adds up, whatever they say of its pages beside it. Calls that look at pages use as many,
+/// and so do calls that lend pages. No call uses none, two in a row use as many as both, and what was used is used of a
+/// greater count.
 pub fn what_calls_use_adds_up()
     ensures looks { (tells ok : Bool) (count : ℕ) (before now : StoreSeen) (old new : Buffer)
         → LooksAtSome tells ok count before now old new → UsesPages tells ok count before now old new }
     ensures lends { (tells ok : Bool) (count : ℕ) (numbers : List ℕ) (before now : StoreSeen) (old new : Buffer)
         → LendsSome tells ok count numbers before now old new → UsesPages tells ok count before now old new }
-    ensures none { (tells ok : Bool) (seen : StoreSeen) (buffer : Buffer) → UsesPages tells ok 0 seen seen buffer buffer }
+    ensures none { (tells ok : Bool) (seen : StoreSeen) (buffer : Buffer)
+        → UsesPages tells ok 0 seen seen buffer buffer }
     ensures both { (tells done ok : Bool) (one two : ℕ) (before between now : StoreSeen) (old middle new : Buffer)
         → UsesPages tells done one before between old middle → UsesPages tells ok two between now middle new
         → UsesPages tells (done && ok) (one + two) before now old new }

@@ -3,8 +3,8 @@
 //! `Pages` keeps up to twelve blocks of 1,024 bytes: `peek` lends one for reading, `page` lends one for writing, and
 //! `flush` writes those that were lent for writing. It takes no memory of the heap.
 //!
-//! The one promise: what the buffer and the file show together changes by what callers leave in the pages that they were
-//! lent for writing, and a flush makes the file what was shown.
+//! The one promise: what the buffer and the file show together changes by what callers leave in the pages that they
+//! were lent for writing, and a flush makes the file what was shown.
 #![tactic(auto)]
 
 mod held_blocks;

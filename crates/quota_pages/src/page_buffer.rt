@@ -20,7 +20,8 @@ pub struct Pages {
 
 #[tactic(auto, unfolding(crate::specs::Pages::name_of, crate::specs::Pages::pages_of))]
 impl Pages {
-    ghost use Rattle.std.specs.Prelude.{ℕ, ◌+◌, ◌<◌, Bool, List, [], true, false, is_some, IfSome, IsOk, IfOk, OnOk, OnErr, if◌then◌else◌, ◌∷◌, replicate};
+    ghost use Rattle.std.specs.Prelude.{ℕ, ◌+◌, ◌<◌, Bool, List, [], true, false, is_some, IfSome, IsOk, IfOk, OnOk};
+    ghost use Rattle.std.specs.Prelude.{OnErr, if◌then◌else◌, ◌∷◌, replicate};
     ghost use Rattle.std.specs.Borrow.{sem};
     ghost use Rattle.std.specs.String.{string_bytes};
     ghost use Rattle.outside.specs.Count.{Rose, counted};
@@ -28,10 +29,12 @@ impl Pages {
     ghost use Rattle.outside.specs.Seen.{StoreSeen};
     ghost use Rattle.file_blocks.specs.Block.{block_of};
     ghost use Rattle.quota_pages.specs.Flushed.{IsPartlyFlushed, counted_by, flushed_files, flushed_names};
-    ghost use Rattle.quota_pages.specs.Page.{HasRoomFor, IsClean, is_buffered, is_lent, is_some_lent, lent_count, shown};
+    ghost use Rattle.quota_pages.specs.Page.{HasRoomFor, IsClean, is_buffered, is_lent, is_some_lent, lent_count};
+    ghost use Rattle.quota_pages.specs.Page.{shown};
     ghost use Rattle.quota_types.specs.Bytes.{number_at};
     ghost use Rattle.quota_pages.specs.Used.{HasWord, IsKnown, LendsSome, LooksAtSome, file_under, missing, shown_over};
-    ghost use Rattle.quota_pages.specs.Pages.{EndsLent, EndsLookedAt, HasAt, HoldsAsBuffered, LooksAt, StaysAsItWas, name_of, pages_of};
+    ghost use Rattle.quota_pages.specs.Pages.{EndsLent, EndsLookedAt, HasAt, HoldsAsBuffered, LooksAt, StaysAsItWas};
+    ghost use Rattle.quota_pages.specs.Pages.{name_of, pages_of};
 
     /// An empty buffer over the file of this name.
     pub fn new(name: String) -> Self
@@ -203,7 +206,8 @@ impl Pages {
         ensures flushed { OnOk result (IsTrue S.tells → (S.seen store.new).files
             ≡ flushed_files (S.seen store.old).files (name_of self.old) (pages_of self.old)) }
         ensures fault { OnErr result (IsTrue S.tells
-            → IsPartlyFlushed (name_of self.old) (pages_of self.old) (S.seen store.old).files (S.seen store.new).files) }
+            → IsPartlyFlushed (name_of self.old) (pages_of self.old) (S.seen store.old).files
+            (S.seen store.new).files) }
         ensures cause { OnErr result (Rose (S.seen store.old).faults (S.seen store.new).faults) }
         ensures writes { OnOk result ((S.seen store.new).writes
             ≡ counted_by (S.seen store.old).writes (lent_count (pages_of self.old))) }
@@ -236,7 +240,8 @@ impl Pages {
     fn bring<S: Store>(&mut self, store: &mut S, number: u32) -> Result<usize, StoreFault>
         requires { HasRoomFor (pages_of self.old) number }
         ensures place { IfOk result (λ place. HasAt place number self.new) }
-        ensures looked { OnOk result (LooksAt S.tells (file_under (S.seen store.old) self.old) number self.old self.new) }
+        ensures looked { OnOk result
+            (LooksAt S.tells (file_under (S.seen store.old) self.old) number self.old self.new) }
         ensures kept { OnErr result (StaysAsItWas self.old self.new) }
         ensures buffered { is_buffered (pages_of self.old) number ≡ true → (IsOk result) × (store.new ≡ store.old) }
         ensures reads { (S.seen store.new).reads ≡ (if is_buffered (pages_of self.old) number
@@ -256,7 +261,8 @@ impl Pages {
         requires room { length (pages_of self.old) < 12 }
         requires absent { is_buffered (pages_of self.old) number ≡ false }
         ensures place { IfOk result (λ place. HasAt place number self.new) }
-        ensures looked { OnOk result (LooksAt S.tells (file_under (S.seen store.old) self.old) number self.old self.new) }
+        ensures looked { OnOk result
+            (LooksAt S.tells (file_under (S.seen store.old) self.old) number self.old self.new) }
         ensures kept { OnErr result (StaysAsItWas self.old self.new) }
         ensures reads { (S.seen store.new).reads ≡ counted (S.seen store.old).reads }
         ensures cause { OnErr result (Rose (S.seen store.old).faults (S.seen store.new).faults) }

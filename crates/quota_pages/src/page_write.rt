@@ -1,4 +1,5 @@
-ghost use Rattle.std.specs.Prelude.{◌≡◌, ◌⊎◌, ◌+◌, ◌≤◌, ◌∷◌, [], length, true, false, IsTrue, IsOk, OnOk, OnErr, if◌then◌else◌};
+ghost use Rattle.std.specs.Prelude.{◌≡◌, ◌⊎◌, ◌+◌, ◌≤◌, ◌∷◌, [], length, true, false, IsTrue, IsOk, OnOk, OnErr};
+ghost use Rattle.std.specs.Prelude.{if◌then◌else◌};
 ghost use Rattle.outside.specs.Count.{Rose, counted};
 ghost use Rattle.outside.specs.Frame.{ChangesOne};
 ghost use Rattle.outside.specs.Unsynced.{with_name};
@@ -49,10 +50,12 @@ fn write_page<S: Store>(
     block: &[u8; 1024],
 ) -> Result<(), StoreFault>
     ensures ok { OnOk result (IsTrue S.tells → (S.seen store.new).files
-        ≡ flushed_files (S.seen store.old).files name.now (record { number = number; bytes = block.now; lent = lent } ∷ [])) }
+        ≡ flushed_files (S.seen store.old).files name.now
+        (record { number = number; bytes = block.now; lent = lent } ∷ [])) }
     ensures fault { OnErr result (IsTrue S.tells → ((S.seen store.new).files ≡ (S.seen store.old).files)
         ⊎ ((S.seen store.new).files
-        ≡ flushed_files (S.seen store.old).files name.now (record { number = number; bytes = block.now; lent = lent } ∷ []))) }
+        ≡ flushed_files (S.seen store.old).files name.now
+        (record { number = number; bytes = block.now; lent = lent } ∷ []))) }
     ensures cause { OnErr result (Rose (S.seen store.old).faults (S.seen store.new).faults) }
     ensures leaves { ChangesOne name.now (S.seen store.old) (S.seen store.new) }
     ensures writes { (S.seen store.new).writes

@@ -2,7 +2,8 @@
 use Rattle.std.specs.Prelude.{◌≡◌, ℕ, ◌++◌, IsSomeAnd, IsTrue, List, Option, Some, None, codes, nat_eq}
 use Rattle.std.specs.List.{starts_with}
 use Rattle.option_words.specs.declared.tool.Tool.{Tool}
-use Rattle.option_words.specs.declared.tool.Tool.TheVariants.{Repquota, Setquota, Edquota, Quotacheck, Convertquota, Rquotad, Script, Generate}
+use Rattle.option_words.specs.declared.tool.Tool.TheVariants.{Repquota, Setquota, Edquota, Quotacheck, Convertquota}
+use Rattle.option_words.specs.declared.tool.Tool.TheVariants.{Rquotad, Script, Generate}
 use Rattle.option_words.specs.Tools.{tool_of}
 use Rattle.program_help.specs.About.{Question, OfHelp, OfVersion, OfCommand}
 

@@ -1,7 +1,9 @@
 -- Which files of a command are quota files, beside which undo files stand. Source: this project's own.
 use Rattle.std.specs.Prelude.{◌≡◌, ℕ, List}
 use Rattle.command_words.specs.declared.command.Command.{Command}
-use Rattle.command_words.specs.declared.command.Command.TheVariants.{Report, SetLimits, CopyLimits, SetGrace, SetTimes, Batch, PrintForm, ApplyForm, Check, Convert, Serve, Script, Generate}
+use Rattle.command_words.specs.declared.command.Command.TheVariants.{Report, SetLimits, CopyLimits, SetGrace, SetTimes}
+use Rattle.command_words.specs.declared.command.Command.TheVariants.{Batch, PrintForm, ApplyForm, Check, Convert, Serve}
+use Rattle.command_words.specs.declared.command.Command.TheVariants.{Script, Generate}
 use Rattle.quota_program.specs.declared.quota_files.QuotaFiles.{QuotaFiles}
 use Rattle.quota_program.specs.declared.quota_files.QuotaFiles.TheVariants.{One, Two, Exported, Any}
 
@@ -15,8 +17,8 @@ abbrev pub IsTwo : (one other : List ℕ) → QuotaFiles → Type 0
 IsTwo one other (Two first second) = (first.now ≡ one) × (second.now ≡ other)
 IsTwo _ _ _ = ⊥
 
--- The FILE of a command, the SOURCE and the TARGET of a conversion, the files of what is exported; of a script whatever its
--- lines name. Neither a file of names nor one of input is among them.
+-- The FILE of a command, the SOURCE and the TARGET of a conversion, the files of what is exported; of a script whatever
+-- its lines name. Neither a file of names nor one of input is among them.
 abbrev pub IsOpened : Command → QuotaFiles → Type 0
 IsOpened (Report _ _ file) files = IsOne file files
 IsOpened (SetLimits _ _ _ file) files = IsOne file files

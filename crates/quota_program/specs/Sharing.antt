@@ -1,21 +1,23 @@
--- Which files of a command are locked against other programs, and how. Source: flock(2), and the quota tools, which lock a
--- quota file alone to change it and beside others to read it; that a script guards its files and that files which are
--- served are kept is this project's own.
+-- Which files of a command are locked against other programs, and how. Source: flock(2), and the quota tools, which
+-- lock a quota file alone to change it and beside others to read it; that a script guards its files and that files
+-- which are served are kept is this project's own.
 use Rattle.std.specs.Prelude.{◌≡◌, ℕ, List}
 use Rattle.command_words.specs.declared.command.Command.{Command}
-use Rattle.command_words.specs.declared.command.Command.TheVariants.{Report, SetLimits, CopyLimits, SetGrace, SetTimes, Batch, PrintForm, ApplyForm, Check, Convert, Serve, Script, Generate}
-use Rattle.system_objects.specs.declared.sharing.Lock.{Lock}
-use Rattle.system_objects.specs.declared.sharing.Lock.TheVariants.{Shared, Exclusive}
-use Rattle.system_objects.specs.declared.sharing.Sharing.{Sharing}
-use Rattle.system_objects.specs.declared.sharing.Sharing.TheVariants.{Locked, Guarded, Kept}
+use Rattle.command_words.specs.declared.command.Command.TheVariants.{Report, SetLimits, CopyLimits, SetGrace, SetTimes}
+use Rattle.command_words.specs.declared.command.Command.TheVariants.{Batch, PrintForm, ApplyForm, Check, Convert, Serve}
+use Rattle.command_words.specs.declared.command.Command.TheVariants.{Script, Generate}
+use Rattle.file_locks.specs.declared.sharing.Lock.{Lock}
+use Rattle.file_locks.specs.declared.sharing.Lock.TheVariants.{Shared, Exclusive}
+use Rattle.file_locks.specs.declared.sharing.Sharing.{Sharing}
+use Rattle.file_locks.specs.declared.sharing.Sharing.TheVariants.{Locked, Guarded, Kept}
 
 -- the file of this name is locked so with its first use
 abbrev pub IsLocked : (name : List ℕ) → Lock → Sharing → Type 0
 IsLocked name lock (Locked locked how) = (locked.now ≡ name) × (how ≡ lock)
 IsLocked _ _ _ = ⊥
 
--- a file that a command may change is locked alone, one that it reads is locked beside others, what is served is kept as it
--- was, and a script guards what its lines change
+-- a file that a command may change is locked alone, one that it reads is locked beside others, what is served is kept
+-- as it was, and a script guards what its lines change
 abbrev pub IsSharing : Command → Sharing → Type 0
 IsSharing (Report _ _ file) sharing = IsLocked file Shared sharing
 IsSharing (SetLimits _ _ _ file) sharing = IsLocked file Exclusive sharing

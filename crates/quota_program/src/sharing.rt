@@ -1,8 +1,8 @@
 ghost use Rattle.quota_program.specs.Sharing.{IsLocked, IsSharing};
 
 use command_words::Command;
+use file_locks::sharing::{Lock, Sharing};
 use refusals::Word;
-use system_objects::{Lock, Sharing};
 
 /// A file that is locked with its first use.
 fn locked(file: &Word, lock: Lock) -> Sharing<'_>
@@ -14,9 +14,9 @@ fn locked(file: &Word, lock: Lock) -> Sharing<'_>
     }
 }
 
-/// How the files of a command are shared with other programs. The one that it may change is locked alone, and the one that
-/// it reads beside others; what it makes anew is locked in any case. What `rquotad` serves is read as it begins, so that no
-/// lock is held while it waits for calls.
+/// How the files of a command are shared with other programs. The one that it may change is locked alone, and the one
+/// that it reads beside others; what it makes anew is locked in any case. What `rquotad` serves is read as it begins,
+/// so that no lock is held while it waits for calls.
 pub fn sharing_of(command: &Command) -> Sharing<'_>
     ensures { IsSharing command.now result }
 {

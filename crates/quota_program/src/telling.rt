@@ -34,8 +34,8 @@ impl<'a> Failures<'a> {
         }
     }
 
-    /// What the system refused, and why; none where that is not known, or where it refused nothing, but an undo file is not
-    /// believed.
+    /// What the system refused, and why; none where that is not known, or where it refused nothing, but an undo file is
+    /// not believed.
     pub fn first(&self) -> Option<Reason<'a>> {
         if let Some(error) = self.input {
             return refused(Failed::Input, error, None);
@@ -101,8 +101,8 @@ pub fn text_of<I, R: Files<File = File> + Eprint>(
     reason_of(alloc, error_line?, words, &lines).unwrap_or(None)
 }
 
-/// What an earlier run left beside the file at which the disk failed, where that is asked for and it did. A file that this
-/// account may not use is none that an earlier run of it left.
+/// What an earlier run left beside the file at which the disk failed, where that is asked for and it did. None is told
+/// of a file that this account may not use, nor of one that another program uses, which may be at work beside it.
 pub fn left_of<R: Files<File = File> + Eprint>(
     is_asked: bool,
     disk: &FileDisk<'_, R>,
@@ -112,7 +112,8 @@ pub fn left_of<R: Files<File = File> + Eprint>(
     }
     let failure = disk.failure()?;
     match failure.error.kind() {
-        io::ErrorKind::PermissionDenied => None,
+        io::ErrorKind::PermissionDenied | io::ErrorKind::WouldBlock | io::ErrorKind::ResourceBusy =>
+            None,
         _ => disk.left_beside(failure.name.as_str()),
     }
 }

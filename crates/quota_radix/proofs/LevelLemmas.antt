@@ -1,5 +1,6 @@
 -- The blocks of a level, one after another.
-use Rattle.std.proofs.Common.{◌≡◌, ℕ, ◌+◌, ◌<◌, IsTrue, Option, List, [], ◌∷◌, ◌++◌, length, get_or, take, sym, ap, subst, ◌∙◌}
+use Rattle.std.proofs.Common.{◌≡◌, ℕ, ◌+◌, ◌<◌, IsTrue, Option, List, [], ◌∷◌, ◌++◌, length, get_or, take, sym, ap}
+use Rattle.std.proofs.Common.{subst, ◌∙◌}
 use Rattle.std.proofs.lemmas.List.{append-nil, take_more}
 use Rattle.std.proofs.lemmas.List.Concat.{flat_map-append}
 use Rattle.std.specs.List.{flat_map}
@@ -17,16 +18,20 @@ use Rattle.file_blocks.proofs.MarkedLemmas.{stands_mapped}
 use Rattle.quota_types.proofs.TimesLemmas.{only_one}
 
 -- a damage of one block of a level is one of the level
-pub defect_in_level : (file : List ℕ) (blocks : ℕ) (paths : List TreePath) (i : ℕ) (d : TreePath) → i < length paths → (damage : Damage)
-    → IsLevelDefect file blocks ((get_or paths i d).block ∷ []) damage → IsLevelDefect file blocks (blocks_of paths) damage
+pub defect_in_level : (file : List ℕ) (blocks : ℕ) (paths : List TreePath) (i : ℕ) (d : TreePath) → i < length paths
+    → (damage : Damage)
+    → IsLevelDefect file blocks ((get_or paths i d).block ∷ []) damage
+    → IsLevelDefect file blocks (blocks_of paths) damage
 defect_in_level file blocks paths i d low damage one = record {
-  stands = subst (λ (n : ℕ). StandsIn (blocks_of paths) n) (only_one (get_or paths i d).block damage.block one.stands) (stands_mapped (λ (path : TreePath). path.block) paths i d low);
+  stands = subst (λ (n : ℕ). StandsIn (blocks_of paths) n) (only_one (get_or paths i d).block damage.block one.stands)
+      (stands_mapped (λ (path : TreePath). path.block) paths i d low);
   defect = one.defect;
   no_id = one.no_id;
 }
 
 -- a refusal at one block of a level is one of the level
-pub level_refused : (before now blocks : ℕ) (tells : Bool) (file block : List ℕ) (paths : List TreePath) (i : ℕ) (d : TreePath) → i < length paths
+pub level_refused : (before now blocks : ℕ) (tells : Bool) (file block : List ℕ) (paths : List TreePath) (i : ℕ)
+    (d : TreePath) → i < length paths
     → (IsTrue tells → block ≡ block_of file (get_or paths i d).block) → (fault : CheckFault)
     → IsStepFault (λ damage. (other : List ℕ) → block ≡ block_of other (get_or paths i d).block
     → IsLevelDefect other blocks ((get_or paths i d).block ∷ []) damage) fault
@@ -39,7 +44,8 @@ level_refused before now blocks tells file block paths i d low is Memory refused
 -- what is read of a store whose files stay
 pub read_of_same : (name : List ℕ) (files now : List ℕ → Option (List ℕ)) (number : ℕ) (block : List ℕ) → now ≡ files
     → block ≡ block_of (bytes_of (now name)) number → block ≡ block_of (bytes_of (files name)) number
-read_of_same name files now number block same is = is ∙ ap (λ (fs : List ℕ → Option (List ℕ)). block_of (bytes_of (fs name)) number) same
+read_of_same name files now number block same is =
+    is ∙ ap (λ (fs : List ℕ → Option (List ℕ)). block_of (bytes_of (fs name)) number) same
 
 -- the paths that go on from one more of a level
 pub paths_more : (file : List ℕ) (blocks : ℕ) (paths next now : List TreePath) (i : ℕ) (d : TreePath) → i < length paths

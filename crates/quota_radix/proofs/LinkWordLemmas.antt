@@ -1,5 +1,6 @@
 -- References that are written one after another along a way, each in a block of its own.
-use Rattle.std.proofs.Common.{◌≡◌, ◌≢◌, ℕ, suc, ◌+◌, ◌-◌, ◌*◌, ◌<◌, ◌≤◌, List, [], ◌∷◌, ◌++◌, length, take, drop, get_or, sym, ap, subst, ◌∙◌, inl, inr, arith, length-drop}
+use Rattle.std.proofs.Common.{◌≡◌, ◌≢◌, ℕ, suc, ◌+◌, ◌-◌, ◌*◌, ◌<◌, ◌≤◌, List, [], ◌∷◌, ◌++◌, length, take, drop}
+use Rattle.std.proofs.Common.{get_or, sym, ap, subst, ◌∙◌, inl, inr, arith, length-drop}
 use Rattle.std.proofs.lemmas.Bool.{cases_eq, cases_lt}
 use Rattle.std.proofs.lemmas.List.{get_or-drop, take_more}
 use Rattle.quota_types.specs.Times.{times}
@@ -19,34 +20,45 @@ not_alone x n ne = elim (cases_lt 0 (times (x ∷ []) n)) [
 ]
 
 -- the references that were written so far, with one more
-pub leads_more : (way : List ℕ) (first id place at value : ℕ) (old between new : List ℕ) → length way ≡ 5 → first ≤ place → place < 4 → AreDistinct (stretch way first (4 - first))
+pub leads_more : (way : List ℕ) (first id place at value : ℕ) (old between new : List ℕ) → length way ≡ 5
+    → first ≤ place → place < 4 → AreDistinct (stretch way first (4 - first))
     → KeepsBlocksBut (stretch way first (place - first)) old between
-    → ((digits : ℕ) → first ≤ digits → digits < place → HasWord (get_or way digits 0) (4 * digit_on_way id digits) (get_or way (suc digits) 0) old between)
+    → ((digits : ℕ) → first ≤ digits → digits < place
+    → HasWord (get_or way digits 0) (4 * digit_on_way id digits) (get_or way (suc digits) 0) old between)
     → at ≡ 4 * digit_on_way id place → value ≡ get_or way (suc place) 0
     → HasWord (get_or way place 0) at value between new → KeepsBlocksBut (get_or way place 0 ∷ []) between new
-    → (digits : ℕ) → first ≤ digits → digits < place + 1 → HasWord (get_or way digits 0) (4 * digit_on_way id digits) (get_or way (suc digits) 0) old new
-leads_more way first id place at value old between new five from few distinct kept so_far at_is value_is set keeps digits above below =
+    → (digits : ℕ) → first ≤ digits → digits < place + 1
+    → HasWord (get_or way digits 0) (4 * digit_on_way id digits) (get_or way (suc digits) 0) old new
+leads_more way first id place at value old between new five from few distinct kept so_far at_is value_is set keeps
+    digits above below =
     let apart : (j k : ℕ) → first ≤ j → j < k → k < first + (4 - first) → get_or way j 0 ≢ get_or way k 0 =
     λ j k low lt high. stretch_apart way first (4 - first) j k (omega (arith, five, from, few)) distinct low lt high in
     elim (cases_eq digits place) [
       | inl same ↦
           let untouched : block_of between (get_or way place 0) ≡ block_of old (get_or way place 0) =
-          kept.others (get_or way place 0) (not_in_stretch way first (place - first) (get_or way place 0) (λ k low lt. apart k place low (omega (arith, from)) (omega (arith, from, few)))) in
+          kept.others (get_or way place 0)
+          (not_in_stretch way first (place - first) (get_or way place 0)
+          (λ k low lt. apart k place low (omega (arith, from)) (omega (arith, from, few)))) in
           subst (λ (k : ℕ). HasWord (get_or way k 0) (4 * digit_on_way id k) (get_or way (suc k) 0) old new) (sym same)
           (subst (λ (n : ℕ). HasWord (get_or way place 0) (4 * digit_on_way id place) n old new) value_is
           (subst (λ (n : ℕ). HasWord (get_or way place 0) n value old new) at_is
           (HasWord-earlier (get_or way place 0) at value old between new untouched set)))
       | inr other ↦
           let before : digits < place = omega arith in
-          HasWord-later (get_or way digits 0) (4 * digit_on_way id digits) (get_or way (suc digits) 0) old between new (so_far digits above before)
-          (keeps.others (get_or way digits 0) (not_alone (get_or way place 0) (get_or way digits 0) (λ same. apart digits place above before (omega (arith, from, few)) (sym same))))
+          HasWord-later (get_or way digits 0) (4 * digit_on_way id digits) (get_or way (suc digits) 0) old between new
+          (so_far digits above before)
+          (keeps.others (get_or way digits 0)
+          (not_alone (get_or way place 0) (get_or way digits 0)
+          (λ same. apart digits place above before (omega (arith, from, few)) (sym same))))
     ]
 
 -- a stretch of a way with one more block
-pub stretch_more : (way : List ℕ) (first place : ℕ) → first ≤ place → place < length way → stretch way first (place + 1 - first) ≡ stretch way first (place - first) ++ get_or way place 0 ∷ []
+pub stretch_more : (way : List ℕ) (first place : ℕ) → first ≤ place → place < length way
+    → stretch way first (place + 1 - first) ≡ stretch way first (place - first) ++ get_or way place 0 ∷ []
 stretch_more way first place from low =
     let more : place + 1 - first ≡ place - first + 1 = omega arith in
     let here : first + (place - first) ≡ place = omega arith in
     ap (λ (k : ℕ). take k (drop first way)) more
     ∙ take_more (drop first way) (place - first) 0 (omega (arith, from, low, length-drop first way))
-    ∙ ap (λ (n : ℕ). take (place - first) (drop first way) ++ n ∷ []) (get_or-drop first way (place - first) 0 ∙ ap (λ (k : ℕ). get_or way k 0) here)
+    ∙ ap (λ (n : ℕ). take (place - first) (drop first way) ++ n ∷ [])
+    (get_or-drop first way (place - first) 0 ∙ ap (λ (k : ℕ). get_or way k 0) here)

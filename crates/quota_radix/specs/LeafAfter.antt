@@ -11,4 +11,5 @@ first_after (Some after) = after + 1
 
 -- the first leaf whose identifier comes after another one, or the first of all, as that identifier with its data block
 abbrev pub leaf_after : List ℕ → ℕ → Option ℕ → Option (ℕ × ℕ)
-leaf_after file blocks after = option_map (λ (leaf : TreePath). (leaf.number, leaf.block)) (leaf_from file blocks (first_after after))
+leaf_after file blocks after =
+    option_map (λ (leaf : TreePath). (leaf.number, leaf.block)) (leaf_from file blocks (first_after after))

@@ -38,11 +38,12 @@ pub record IsSecondRole (numbers : List ℕ) (damage : Damage) : Type 0 where
 
 -- each block of a file's tree is whole
 pub record AreTreeBlocksWhole (file : List ℕ) (blocks : ℕ) : Type 0 where
-  pub references : (block : ℕ) → StandsIn (tree_blocks file blocks) block → (digit : ℕ) → digit < 256 → word_at file block digit < blocks
+  pub references : (block : ℕ) → StandsIn (tree_blocks file blocks) block → (digit : ℕ) → digit < 256
+      → word_at file block digit < blocks
   pub not_empty : (block : ℕ) → StandsIn (lower_blocks file blocks) block → block ≢ 1 → ¬ IsEmpty file block
 
--- A damage of a file's tree: a block with a reference past the last block, one below the root without a reference, or one
--- that stands twice among the blocks that were met before and those of the tree.
+-- A damage of a file's tree: a block with a reference past the last block, one below the root without a reference, or
+-- one that stands twice among the blocks that were met before and those of the tree.
 abbrev pub IsTreeFaultOf : List ℕ → ℕ → List ℕ → DamageKind → ℕ → Type 0
 IsTreeFaultOf file blocks numbers RefOut block = IsRefOut file blocks block
 IsTreeFaultOf file blocks numbers EmptyTree block = IsEmptyTree file blocks block

@@ -20,7 +20,8 @@ pub record IsOnWay (file : List ℕ) (blocks to_go : ℕ) (path : TreePath) : Ty
 abbrev pub IsBelowRoot : List ℕ → ℕ → ℕ → TreePath → Type 0
 IsBelowRoot file blocks to_go path = (to_go < 4) × IsOnWay file blocks to_go path
 
--- what a kind of damage on the way down says of a block: it has a reference past the last block, or, below the root, none
+-- what a kind of damage on the way down says of a block: it has a reference past the last block, or, below the root,
+-- none
 abbrev pub IsWayFaultOf : List ℕ → ℕ → DamageKind → ℕ → Type 0
 IsWayFaultOf file blocks RefOut block = IsRefOut file blocks block
 IsWayFaultOf file blocks EmptyTree block = IsEmptyTree file blocks block

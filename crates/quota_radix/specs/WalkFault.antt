@@ -6,8 +6,8 @@ use Rattle.outside.specs.Count.{Rose}
 use Rattle.quota_radix.specs.declared.walk_fault.WalkFault.{WalkFault}
 use Rattle.quota_radix.specs.declared.walk_fault.WalkFault.TheVariants.{Store, Damage as Damaged}
 
--- A walk was refused where the store's count of faults rose, or for a damage of a kind that tree files have, of which a fact
--- holds. It names an identifier only where its kind does.
+-- A walk was refused where the store's count of faults rose, or for a damage of a kind that tree files have, of which a
+-- fact holds. It names an identifier only where its kind does.
 abbrev pub IsWalkFault : ℕ → ℕ → (Damage → Type 0) → WalkFault → Type 0
 IsWalkFault before now defect Store = Rose before now
 IsWalkFault before now defect (Damaged damage) = NamesItsId damage.kind damage.id × defect damage

@@ -1,4 +1,5 @@
-ghost use Rattle.std.specs.Prelude.{◌≡◌, ◌+◌, ◌<◌, ◌≤◌, length, min, take, true, false, slice_get, IfErr, IfOk, OnErr, OnOk, is_ok, []};
+ghost use Rattle.std.specs.Prelude.{◌≡◌, ◌+◌, ◌<◌, ◌≤◌, length, min, take, true, false, slice_get, IfErr, IfOk, OnErr};
+ghost use Rattle.std.specs.Prelude.{OnOk, is_ok, []};
 ghost use Rattle.file_blocks.specs.Block.{word_at};
 ghost use Rattle.quota_types.specs.declared.damage.DamageKind.TheVariants.{RefOut};
 ghost use Rattle.quota_pages.specs.Page.{is_buffered};
@@ -38,10 +39,12 @@ pub(crate) fn reference_in<S: Store>(
         × (missing (pages_of pages.new) block ≡ 0)
         × (IsKnown S.tells (S.seen store.old) pages.old
         → blocks ≤ word_at (shown_over (S.seen store.old) pages.old) block digit))) }
-    ensures held { IfOk result (λ reference. HoldsAsBuffered pages.new (λ shown. reference ≡ word_at shown block digit)) }
+    ensures held { IfOk result
+        (λ reference. HoldsAsBuffered pages.new (λ shown. reference ≡ word_at shown block digit)) }
     ensures named { IfErr result (IfDamaged (λ damage. (damage.block ≡ block)
         × HoldsAsBuffered pages.new (λ shown. blocks ≤ word_at shown block digit))) }
-    ensures looked { LooksAtSome S.tells (is_ok result) (missing (pages_of pages.old) block) (S.seen store.old) (S.seen store.new) pages.old pages.new }
+    ensures looked { LooksAtSome S.tells (is_ok result) (missing (pages_of pages.old) block) (S.seen store.old)
+        (S.seen store.new) pages.old pages.new }
     ensures brought { OnOk result (missing (pages_of pages.new) block ≡ 0) }
     ensures commits { S.commits [] store.old store.new }
 {
@@ -85,7 +88,8 @@ pub fn find_path<S: Store>(
         (λ shown. IsOutOnWay shown blocks id damage.block))) }
     ensures looked { IfOk result (λ path. LooksAtSome S.tells true (min 4 (length path.found.items))
         (S.seen store.old) (S.seen store.new) pages.old pages.new) }
-    ensures kept { OnErr result (LooksAtSome S.tells false 4 (S.seen store.old) (S.seen store.new) pages.old pages.new) }
+    ensures kept { OnErr result
+        (LooksAtSome S.tells false 4 (S.seen store.old) (S.seen store.new) pages.old pages.new) }
     ensures buffered { IfOk result (λ path. AreBuffered (pages_of pages.new) (take 4 path.found.items)) }
     ensures commits { S.commits [] store.old store.new }
 {
@@ -104,8 +108,8 @@ pub fn find_path<S: Store>(
 
 /// The data block to which an identifier leads by its four digits, or None where one of them leads nowhere.
 ///
-/// The file has `blocks` blocks. At most 4 of them are read: there is room for as many, or, where the way is known, each
-/// block of the tree on it is buffered or there is room for it.
+/// The file has `blocks` blocks. At most 4 of them are read: there is room for as many, or, where the way is known,
+/// each block of the tree on it is buffered or there is room for it.
 ///
 /// # Errors
 ///

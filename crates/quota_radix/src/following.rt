@@ -1,4 +1,5 @@
-ghost use Rattle.std.specs.Prelude.{◌≡◌, ◌⊎◌, ◌+◌, ◌-◌, ◌*◌, ◌^◌, ◌<◌, ◌≤◌, ℕ, List, suc, length, true, IfErr, IfNone, IfOk, IfSome, OnOk, Some, is_ok, []};
+ghost use Rattle.std.specs.Prelude.{◌≡◌, ◌⊎◌, ◌+◌, ◌-◌, ◌*◌, ◌^◌, ◌<◌, ◌≤◌, ℕ, List, suc, length, true, IfErr, IfNone};
+ghost use Rattle.std.specs.Prelude.{IfOk, IfSome, OnOk, Some, is_ok, []};
 ghost use Rattle.std.specs.List.{flat_map};
 ghost use Rattle.std.specs.Option.{option_map};
 ghost use Rattle.file_blocks.specs.Block.{block_of, word_at};
@@ -48,7 +49,8 @@ fn step<S: Store>(
         × (missing (pages_of pages.new) path.block ≡ 0)
         × (IsKnown S.tells (S.seen store.old) pages.old
         → blocks ≤ word_at (shown_over (S.seen store.old) pages.old) path.block digit))) }
-    ensures looked { LooksAtSome S.tells (is_ok result) (missing (pages_of pages.old) path.block) (S.seen store.old) (S.seen store.new) pages.old pages.new }
+    ensures looked { LooksAtSome S.tells (is_ok result) (missing (pages_of pages.old) path.block) (S.seen store.old)
+        (S.seen store.new) pages.old pages.new }
     ensures brought { OnOk result (missing (pages_of pages.new) path.block ≡ 0) }
     ensures commits { S.commits [] store.old store.new }
 {
@@ -129,7 +131,8 @@ fn first_step<S: Store>(
         × (missing (pages_of pages.new) path.block ≡ 0)
         × (IsKnown S.tells (S.seen store.old) pages.old → (digit : ℕ) × (digit < 256)
         × (blocks ≤ word_at (shown_over (S.seen store.old) pages.old) path.block digit)))) }
-    ensures looked { LooksAtSome S.tells (is_ok result) (missing (pages_of pages.old) path.block) (S.seen store.old) (S.seen store.new) pages.old pages.new }
+    ensures looked { LooksAtSome S.tells (is_ok result) (missing (pages_of pages.old) path.block) (S.seen store.old)
+        (S.seen store.new) pages.old pages.new }
     ensures brought { OnOk result (missing (pages_of pages.new) path.block ≡ 0) }
     ensures commits { S.commits [] store.old store.new }
 {
@@ -162,7 +165,8 @@ fn least_below<S: Store>(
         × (IsKnown S.tells (S.seen store.old) pages.old
         → IsBelowRoot (shown_over (S.seen store.old) pages.old) blocks to_go path
         → IsWayFault (shown_over (S.seen store.old) pages.old) blocks damage))) }
-    ensures looked { LooksAtSome S.tells (is_ok result) to_go (S.seen store.old) (S.seen store.new) pages.old pages.new }
+    ensures looked { LooksAtSome S.tells (is_ok result) to_go (S.seen store.old) (S.seen store.new)
+        pages.old pages.new }
     ensures commits { S.commits [] store.old store.new }
 {
     if to_go == 0 {
@@ -203,7 +207,8 @@ fn least_past<S: Store>(
         × (IsKnown S.tells (S.seen store.old) pages.old
         → IsOnWay (shown_over (S.seen store.old) pages.old) blocks (suc to_go) path
         → IsWayFault (shown_over (S.seen store.old) pages.old) blocks damage))) }
-    ensures looked { LooksAtSome S.tells (is_ok result) to_go (S.seen store.old) (S.seen store.new) pages.old pages.new }
+    ensures looked { LooksAtSome S.tells (is_ok result) to_go (S.seen store.old) (S.seen store.new)
+        pages.old pages.new }
     ensures none { IfOk result (λ found. IfNone found
         (LooksAtSome S.tells true 0 (S.seen store.old) (S.seen store.new) pages.old pages.new)) }
     ensures commits { S.commits [] store.old store.new }
@@ -216,8 +221,8 @@ fn least_past<S: Store>(
 
 /// The first leaf below `path` from a number on: the one that these digits make behind those of the path.
 ///
-/// It goes down by the digits, and where that way ends before a leaf, or leads to none, on by the next greater digit. So
-/// it backs up once a level at most.
+/// It goes down by the digits, and where that way ends before a leaf, or leads to none, on by the next greater digit.
+/// So it backs up once a level at most.
 ///
 /// # Errors
 ///
@@ -229,7 +234,8 @@ fn first_below<S: Store>(
     path: TreePath,
     digits: &[u8],
 ) -> Result<Option<TreePath>, WalkFault>
-    requires room { (length (pages_of pages.old) + (2 * length digits.now - 1) ≤ 12) ⊎ (IsKnown S.tells (S.seen store.old) pages.old
+    requires room { (length (pages_of pages.old) + (2 * length digits.now - 1) ≤ 12)
+        ⊎ (IsKnown S.tells (S.seen store.old) pages.old
         × IsThereFrom (pages_of pages.old) (shown_over (S.seen store.old) pages.old) blocks path digits.now) }
     requires left { HasLeft (length digits.now) path }
     ensures found { IfOk result (λ found. IsKnown S.tells (S.seen store.old) pages.old
@@ -244,7 +250,8 @@ fn first_below<S: Store>(
         × (IsKnown S.tells (S.seen store.old) pages.old
         → IsOnWay (shown_over (S.seen store.old) pages.old) blocks (length digits.now) path
         → IsWayFault (shown_over (S.seen store.old) pages.old) blocks damage))) }
-    ensures looked { LooksAtSome S.tells (is_ok result) (2 * length digits.now - 1) (S.seen store.old) (S.seen store.new) pages.old pages.new }
+    ensures looked { LooksAtSome S.tells (is_ok result) (2 * length digits.now - 1) (S.seen store.old)
+        (S.seen store.new) pages.old pages.new }
     ensures none { IfOk result (λ found. IfNone found
         (LooksAtSome S.tells true (length digits.now) (S.seen store.old) (S.seen store.new) pages.old pages.new)) }
     ensures commits { S.commits [] store.old store.new }
@@ -274,7 +281,8 @@ fn first_leaf_from<S: Store>(
     from: u32,
 ) -> Result<Option<TreePath>, WalkFault>
     requires { (length (pages_of pages.old) + 7 ≤ 12) ⊎ (IsKnown S.tells (S.seen store.old) pages.old
-        × IsThereFrom (pages_of pages.old) (shown_over (S.seen store.old) pages.old) blocks (record { number = 0; block = 1 }) (digits_of from)) }
+        × IsThereFrom (pages_of pages.old) (shown_over (S.seen store.old) pages.old) blocks
+        (record { number = 0; block = 1 }) (digits_of from)) }
     ensures found { IfOk result (λ found. IsKnown S.tells (S.seen store.old) pages.old
         → found ≡ leaf_from (shown_over (S.seen store.old) pages.old) blocks from) }
     ensures least { IfOk result (λ found. IfSome found (λ leaf. from ≤ leaf.number)) }
@@ -282,7 +290,8 @@ fn first_leaf_from<S: Store>(
         → IsInsideUpTo (shown_over (S.seen store.old) pages.old) blocks from (number_in found)) }
     ensures refused { IfErr result (IsWalkFault (S.seen store.old).faults (S.seen store.new).faults
         (λ damage. (missing (pages_of pages.new) damage.block ≡ 0)
-        × (IsKnown S.tells (S.seen store.old) pages.old → IsWayFault (shown_over (S.seen store.old) pages.old) blocks damage))) }
+        × (IsKnown S.tells (S.seen store.old) pages.old
+        → IsWayFault (shown_over (S.seen store.old) pages.old) blocks damage))) }
     ensures looked { LooksAtSome S.tells (is_ok result) 7 (S.seen store.old) (S.seen store.new) pages.old pages.new }
     ensures commits { S.commits [] store.old store.new }
 {
@@ -323,8 +332,10 @@ pub fn next_leaf<S: Store>(
     blocks: u32,
     after: Option<u32>,
 ) -> Result<Option<(u32, u32)>, WalkFault>
-    requires { first_after after < 2 ^ 32 → (length (pages_of pages.old) + 7 ≤ 12) ⊎ (IsKnown S.tells (S.seen store.old) pages.old
-        × IsThereFrom (pages_of pages.old) (shown_over (S.seen store.old) pages.old) blocks (record { number = 0; block = 1 }) (digits_of (first_after after))) }
+    requires { first_after after < 2 ^ 32
+        → (length (pages_of pages.old) + 7 ≤ 12) ⊎ (IsKnown S.tells (S.seen store.old) pages.old
+        × IsThereFrom (pages_of pages.old) (shown_over (S.seen store.old) pages.old) blocks
+        (record { number = 0; block = 1 }) (digits_of (first_after after))) }
     ensures found { IfOk result (λ found. IsKnown S.tells (S.seen store.old) pages.old
         → found ≡ leaf_after (shown_over (S.seen store.old) pages.old) blocks after) }
     ensures ascends { IfOk result (λ found. IfSome found (λ leaf. IsAfter after leaf.0)) }

@@ -1,6 +1,7 @@
 //! Laws of leaves that are added to the tree and taken away from it.
 
-ghost use Rattle.std.specs.Prelude.{◌≡◌, ◌≢◌, ◌+◌, ◌-◌, ◌<◌, ◌≤◌, ◌^◌, ℕ, List, None, length, reverse, slice_index, take};
+ghost use Rattle.std.specs.Prelude.{◌≡◌, ◌≢◌, ◌+◌, ◌-◌, ◌<◌, ◌≤◌, ◌^◌, ℕ, List, None, length, reverse, slice_index};
+ghost use Rattle.std.specs.Prelude.{take};
 ghost use Rattle.quota_types.specs.Times.{StandsIn};
 ghost use Rattle.file_blocks.specs.Block.{word_at};
 ghost use Rattle.quota_radix.specs.Descent.{leaf_block};
@@ -22,8 +23,8 @@ pub fn a_linked_leaf_can_be_unlinked()
         → IsUnlinkable new blocks (whole_way found fresh leaf_block) id }
 {}
 
-/// Unlinking a leaf that was linked, in a tree of which no block below the root was empty and no reference on the way led
-/// past the last block, answers the blocks by which it was linked, and each reference is what it was before.
+/// Unlinking a leaf that was linked, in a tree of which no block below the root was empty and no reference on the way
+/// led past the last block, answers the blocks by which it was linked, and each reference is what it was before.
 pub fn unlinking_undoes_linking()
     ensures answered { (old between new found fresh emptied : List ℕ) (blocks id leaf_block : ℕ)
         → 1 ≤ length found → length found + length fresh ≡ 4 → id < 2 ^ 32
@@ -60,15 +61,18 @@ pub fn an_unlinked_leaf_is_gone()
         → leaf_block new blocks other ≡ leaf_block old blocks other }
 {}
 
-/// A tree without a reference past the last block has the same paths and ways where its blocks keep them, also among more.
+/// A tree without a reference past the last block has the same paths and ways where its blocks keep them, also among
+/// more.
 pub fn a_tree_stays_where_its_references_do()
     ensures paths { (old new : List ℕ) (blocks more digits : ℕ) → blocks ≤ more
-        → ((block : ℕ) → StandsIn (tree_blocks old blocks) block → (digit : ℕ) → digit < 256 → word_at old block digit < blocks)
+        → ((block : ℕ) → StandsIn (tree_blocks old blocks) block → (digit : ℕ) → digit < 256
+        → word_at old block digit < blocks)
         → ((block : ℕ) → StandsIn (tree_blocks old blocks) block → (digit : ℕ) → digit < 256
         → word_at new block digit ≡ word_at old block digit)
         → digits ≤ 4 → paths new more digits ≡ paths old blocks digits }
     ensures way { (old new : List ℕ) (blocks more id : ℕ) → blocks ≤ more
-        → ((block : ℕ) → StandsIn (tree_blocks old blocks) block → (digit : ℕ) → digit < 256 → word_at old block digit < blocks)
+        → ((block : ℕ) → StandsIn (tree_blocks old blocks) block → (digit : ℕ) → digit < 256
+        → word_at old block digit < blocks)
         → ((block : ℕ) → StandsIn (tree_blocks old blocks) block → (digit : ℕ) → digit < 256
         → word_at new block digit ≡ word_at old block digit)
         → id < 2 ^ 32 → blocks_on_way new more id ≡ blocks_on_way old blocks id }

@@ -1,4 +1,5 @@
-ghost use Rattle.std.specs.Prelude.{◌≡◌, ◌<◌, ◌≤◌, ◌+◌, ◌*◌, ◌==◌, if◌then◌else◌, ◌^◌, ◌++◌, ◌∷◌, [], ℕ, List, length, All, IsTrue, OnOk, IfOk, IfErr, is_ok};
+ghost use Rattle.std.specs.Prelude.{◌≡◌, ◌<◌, ◌≤◌, ◌+◌, ◌*◌, ◌==◌, if◌then◌else◌, ◌^◌, ◌++◌, ◌∷◌, [], ℕ, List, length};
+ghost use Rattle.std.specs.Prelude.{All, IsTrue, OnOk, IfOk, IfErr, is_ok};
 ghost use Rattle.std.specs.List.{flat_map};
 ghost use Rattle.outside.specs.Frame.{OnlyReads};
 ghost use Rattle.quota_radix.specs.declared.tree_path.TreePath.{TreePath};

@@ -1,8 +1,8 @@
 //! The tree of a tree quota file, by which an identifier's data block is found: its four levels are indexed by the four
 //! bytes of the identifier.
 //!
-//! The one promise: the digits of an identifier are its bytes, the most significant first, the leaves that are found are
-//! those of the file, one is added or taken away and all others stay, and a damage of a block of the tree is one.
+//! The one promise: the digits of an identifier are its bytes, the most significant first, the leaves that are found
+//! are those of the file, one is added or taken away and all others stay, and a damage of a block of the tree is one.
 #![tactic(auto)]
 
 mod finding;

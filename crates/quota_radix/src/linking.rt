@@ -1,10 +1,12 @@
-ghost use Rattle.std.specs.Prelude.{◌≡◌, ◌+◌, ◌*◌, ◌-◌, ◌<◌, ◌≤◌, [], ℕ, true, false, length, slice_index, take, drop, IsOk, OnOk, OnErr, is_ok};
+ghost use Rattle.std.specs.Prelude.{◌≡◌, ◌+◌, ◌*◌, ◌-◌, ◌<◌, ◌≤◌, [], ℕ, true, false, length, slice_index, take, drop};
+ghost use Rattle.std.specs.Prelude.{IsOk, OnOk, OnErr, is_ok};
 ghost use Rattle.arrayvec.specs.ArrayVec.{array_vec_len};
 ghost use Rattle.outside.specs.Count.{Rose};
 ghost use Rattle.quota_pages.specs.Page.{is_buffered};
 ghost use Rattle.quota_pages.specs.Pages.{pages_of};
 ghost use Rattle.quota_pages.specs.Used.{IsKnown, LendsSome, LooksAtSome, missing_among, shown_over};
-ghost use Rattle.quota_radix.specs.Link.{AreBuffered, AreDistinct, GainsBlocks, HasWay, IsLinkable, LeadsAlong, changed_blocks, whole_way, with_path};
+ghost use Rattle.quota_radix.specs.Link.{AreBuffered, AreDistinct, GainsBlocks, HasWay, IsLinkable, LeadsAlong};
+ghost use Rattle.quota_radix.specs.Link.{changed_blocks, whole_way, with_path};
 ghost use Rattle.quota_radix.specs.Tree.{leaves};
 
 use crate::{Path, digits};
@@ -15,8 +17,8 @@ use quota_pages::Pages;
 /// leads to the first of the fresh blocks, from each of these the next digit leads to the next one, and the last digit
 /// leads to `leaf_block`.
 ///
-/// Each block that changes is buffered before anything is changed: it is already, or there is room for it. No other byte
-/// of them changes, and no other block.
+/// Each block that changes is buffered before anything is changed: it is already, or there is room for it. No other
+/// byte of them changes, and no other block.
 ///
 /// # Errors
 ///
@@ -48,13 +50,16 @@ pub fn link<S: Store>(
     ensures leaves { OnOk result (IsKnown S.tells (S.seen store.old) pages.old
         → IsLinkable (shown_over (S.seen store.old) pages.old) blocks path.now.found.items fresh.now id leaf_block
         → leaves (shown_over (S.seen store.new) pages.new) blocks
-        ≡ with_path (leaves (shown_over (S.seen store.old) pages.old) blocks) (record { number = id; block = leaf_block })) }
+        ≡ with_path (leaves (shown_over (S.seen store.old) pages.old) blocks)
+        (record { number = id; block = leaf_block })) }
     ensures levels { OnOk result (IsKnown S.tells (S.seen store.old) pages.old
         → IsLinkable (shown_over (S.seen store.old) pages.old) blocks path.now.found.items fresh.now id leaf_block
-        → GainsBlocks (whole_way path.now.found.items fresh.now leaf_block) fresh.now (array_vec_len path.now.found) blocks
+        → GainsBlocks (whole_way path.now.found.items fresh.now leaf_block) fresh.now
+        (array_vec_len path.now.found) blocks
         (shown_over (S.seen store.old) pages.old) (shown_over (S.seen store.new) pages.new)) }
     ensures kept { OnErr result (LooksAtSome S.tells false
-        (missing_among (pages_of pages.old) (changed_blocks path.now.found.items fresh.now)) (S.seen store.old) (S.seen store.new) pages.old pages.new) }
+        (missing_among (pages_of pages.old) (changed_blocks path.now.found.items fresh.now)) (S.seen store.old)
+        (S.seen store.new) pages.old pages.new) }
     ensures buffered { AreBuffered (pages_of pages.old) (changed_blocks path.now.found.items fresh.now)
         → (IsOk result) × (store.new ≡ store.old) }
     ensures few { AreBuffered (pages_of pages.old) (changed_blocks path.now.found.items fresh.now)
@@ -106,7 +111,8 @@ pub(crate) fn bring_in<S: Store>(
     Ok(())
 }
 
-/// Has each block of a way, from the place `first` on, lead to the next by the digit of the identifier. They are buffered.
+/// Has each block of a way, from the place `first` on, lead to the next by the digit of the identifier. They are
+/// buffered.
 ///
 /// # Errors
 ///
@@ -125,7 +131,8 @@ fn set_refs<S: Store>(
     ensures store { store.new ≡ store.old }
     ensures words { IsKnown S.tells (S.seen store.old) pages.old
         → AreDistinct (take (4 - first) (drop first way.now))
-        → LeadsAlong way.now first id (shown_over (S.seen store.old) pages.old) (shown_over (S.seen store.new) pages.new) }
+        → LeadsAlong way.now first id (shown_over (S.seen store.old) pages.old)
+        (shown_over (S.seen store.new) pages.new) }
     ensures lends { LendsSome S.tells true 0 (take (4 - first) (drop first way.now))
         (S.seen store.old) (S.seen store.new) pages.old pages.new }
     ensures commits { S.commits [] store.old store.new }

@@ -3,8 +3,8 @@ use arrayvec::ArrayVec;
 /// The way of an identifier down the tree of a file, as far as it goes.
 #[derive(Drop)]
 pub struct Path {
-    /// The blocks to which the first 0, 1, 2, 3 and 4 digits lead, as far as they do: the root first, and the data block
-    /// fifth.
+    /// The blocks to which the first 0, 1, 2, 3 and 4 digits lead, as far as they do: the root first, and the data
+    /// block fifth.
     pub found: ArrayVec<u32, 5>,
 }
 

@@ -1,10 +1,12 @@
-ghost use Rattle.std.specs.Prelude.{◌≡◌, ◌≤◌, ◌+◌, ◌*◌, ◌^◌, ◌⊎◌, ◌++◌, ℕ, List, length, All, IsTrue, OnOk, IfOk, IfErr, is_ok, []};
+ghost use Rattle.std.specs.Prelude.{◌≡◌, ◌≤◌, ◌+◌, ◌*◌, ◌^◌, ◌⊎◌, ◌++◌, ℕ, List, length, All, IsTrue, OnOk, IfOk};
+ghost use Rattle.std.specs.Prelude.{IfErr, is_ok, []};
 ghost use Rattle.std.specs.List.{flat_map};
 ghost use Rattle.outside.specs.Frame.{OnlyReads};
 ghost use Rattle.file_blocks.specs.BlockSet.{AreFlagsOf};
 ghost use Rattle.file_blocks.specs.CheckFault.{IsCheckFault, IsStepFault};
 ghost use Rattle.file_blocks.specs.Block.{file_of};
-ghost use Rattle.quota_radix.specs.Levels.{AreTreeBlocksWhole, AreWithin, IsLevelDefect, IsSecondRole, IsTreeFault, IsWhole};
+ghost use Rattle.quota_radix.specs.Levels.{AreTreeBlocksWhole, AreWithin, IsLevelDefect, IsSecondRole, IsTreeFault};
+ghost use Rattle.quota_radix.specs.Levels.{IsWhole};
 ghost use Rattle.quota_radix.specs.Tree.{blocks_of, leaves, steps, tree_blocks};
 ghost use Rattle.quota_radix.specs.Reads.{AreMarkedReads};
 
@@ -21,8 +23,8 @@ use std::alloc::Global;
 ///
 /// # Errors
 ///
-/// `Store` where the store failed, `Memory` where there was not enough memory, and `Damage` where a block of the tree has
-/// a reference past the last block, or below the root none, or was met before.
+/// `Store` where the store failed, `Memory` where there was not enough memory, and `Damage` where a block of the tree
+/// has a reference past the last block, or below the root none, or was met before.
 pub fn find_leaves<S: Store>(
     alloc: Global,
     store: &mut S,
@@ -95,7 +97,8 @@ fn go_down<S: Store>(
 
 /// Adds the block of each path to those that were met.
 fn mark_all(met: &mut BlockSet, paths: &[TreePath]) -> Result<(), CheckFault>
-    ensures marked { OnOk result ((blocks bound : ℕ) → (numbers : List ℕ) → AreFlagsOf blocks met.old.flags.items numbers
+    ensures marked { OnOk result
+        ((blocks bound : ℕ) → (numbers : List ℕ) → AreFlagsOf blocks met.old.flags.items numbers
         → AreWithin blocks bound paths.now → AreFlagsOf blocks met.new.flags.items (numbers ++ blocks_of paths.now)) }
     ensures refused { IfErr result (IsStepFault (λ damage. (blocks bound : ℕ) → (numbers : List ℕ)
         → AreFlagsOf blocks met.old.flags.items numbers

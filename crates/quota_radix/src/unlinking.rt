@@ -1,4 +1,5 @@
-ghost use Rattle.std.specs.Prelude.{◌≡◌, ◌↔◌, ℕ, ◌+◌, ◌*◌, ◌-◌, ◌<◌, ◌≤◌, ◌++◌, ◌∷◌, [], true, false, length, take, slice_index, IfOk, IsOk, IsTrue, OnOk, OnErr};
+ghost use Rattle.std.specs.Prelude.{◌≡◌, ◌↔◌, ℕ, ◌+◌, ◌*◌, ◌-◌, ◌<◌, ◌≤◌, ◌++◌, ◌∷◌, [], true, false, length, take};
+ghost use Rattle.std.specs.Prelude.{slice_index, IfOk, IsOk, IsTrue, OnOk, OnErr};
 ghost use Rattle.arrayvec.specs.ArrayVec.{array_vec_len};
 ghost use Rattle.outside.specs.Count.{Rose};
 ghost use Rattle.quota_types.specs.Bytes.{number_at};
@@ -15,8 +16,8 @@ use arrayvec::ArrayVec;
 use outside::{Store, StoreFault};
 use quota_pages::Pages;
 
-/// Takes the leaf of an identifier away from the tree: of the whole way of it, which is `path`, the reference to the data
-/// block becomes 0. Each tree block of the way, the lowest first, that has no reference left is answered, and the
+/// Takes the leaf of an identifier away from the tree: of the whole way of it, which is `path`, the reference to the
+/// data block becomes 0. Each tree block of the way, the lowest first, that has no reference left is answered, and the
 /// reference to it becomes 0 likewise. The root stays, even where it is empty then.
 ///
 /// Each tree block of the way is buffered before anything is changed: it is already, or there is room for it. No other

@@ -32,7 +32,8 @@ Ascends-above low (x ∷ xs) r (suc k) lt =
     let rest : suc x ≤ get_or xs k 0 = Ascends-above (suc x) xs r.1 k (omega arith) in
     omega arith
 
-pub Ascends-apart : (low : ℕ) (xs : List ℕ) → Ascends low xs → (j k : ℕ) → j < k → k < length xs → get_or xs j 0 < get_or xs k 0
+pub Ascends-apart : (low : ℕ) (xs : List ℕ) → Ascends low xs → (j k : ℕ) → j < k → k < length xs
+    → get_or xs j 0 < get_or xs k 0
 Ascends-apart low [] r j k lt within = absurd (omega arith)
 Ascends-apart low (x ∷ xs) r j zero lt within = absurd (omega arith)
 Ascends-apart low (x ∷ xs) r zero (suc k) lt within = Ascends-above (suc x) xs r.1 k (omega arith)

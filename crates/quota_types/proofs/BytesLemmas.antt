@@ -11,7 +11,8 @@ add_suc : (a b : ℕ) → a + suc b ≡ suc (a + b)
 add_suc a b = omega arith
 
 -- a number behind what was dropped
-pub number_at-drop : (width : ℕ) (skip : ℕ) (file : List ℕ) (at : ℕ) → number_at width (drop skip file) at ≡ number_at width file (skip + at)
+pub number_at-drop : (width : ℕ) (skip : ℕ) (file : List ℕ) (at : ℕ)
+    → number_at width (drop skip file) at ≡ number_at width file (skip + at)
 unfolding number_at
 number_at-drop zero skip file at = refl
 number_at-drop (suc width) skip file at =
@@ -19,14 +20,16 @@ number_at-drop (suc width) skip file at =
     (number_at-drop width skip file (suc at) ∙ ap (λ (n : ℕ). number_at width file n) (add_suc skip at))
 
 -- a number within what was taken
-pub number_at-take : (width : ℕ) (most : ℕ) (file : List ℕ) (at : ℕ) → at + width ≤ most → number_at width (take most file) at ≡ number_at width file at
+pub number_at-take : (width : ℕ) (most : ℕ) (file : List ℕ) (at : ℕ) → at + width ≤ most
+    → number_at width (take most file) at ≡ number_at width file at
 unfolding number_at
 number_at-take zero most file at h = refl
 number_at-take (suc width) most file at h =
     number_by _ _ _ _ (get_or-take most file at 0 (omega arith)) (number_at-take width most file (suc at) (omega arith))
 
 -- a number of bytes that are 0
-pub number_at-zeros : (width at : ℕ) (file : List ℕ) → ((k : ℕ) → at ≤ k → k < at + width → byte_at file k ≡ 0) → number_at width file at ≡ 0
+pub number_at-zeros : (width at : ℕ) (file : List ℕ) → ((k : ℕ) → at ≤ k → k < at + width → byte_at file k ≡ 0)
+    → number_at width file at ≡ 0
 unfolding number_at
 number_at-zeros zero at file zeros = refl
 number_at-zeros (suc width) at file zeros =
@@ -39,7 +42,8 @@ pub number_at-past : (width at : ℕ) (file : List ℕ) → length file ≤ at �
 number_at-past width at file past = number_at-zeros width at file (λ k from to. get_or_past file k 0 (omega arith))
 
 -- numbers of bytes that are the same
-pub number_same : (width at : ℕ) (xs ys : List ℕ) → ((k : ℕ) → at ≤ k → k < at + width → byte_at xs k ≡ byte_at ys k) → number_at width xs at ≡ number_at width ys at
+pub number_same : (width at : ℕ) (xs ys : List ℕ) → ((k : ℕ) → at ≤ k → k < at + width → byte_at xs k ≡ byte_at ys k)
+    → number_at width xs at ≡ number_at width ys at
 unfolding number_at
 number_same zero at xs ys same = refl
 number_same (suc width) at xs ys same =

@@ -8,10 +8,14 @@ pub length-filter_map : {X Y : Type 0} (f : X → Option Y) (xs : List X) → le
 length-filter_map f [] = omega arith
 length-filter_map {X} {Y} f (x ∷ xs) =
     let rest = length-filter_map f xs in
-    elim (f x) as (λ (o : Option Y). length (cons_option o (filter_map f xs)) ≤ suc (length xs)) [ None ↦ omega (arith, rest) | Some y ↦ omega (arith, rest) ]
+    elim (f x) as (λ (o : Option Y). length (cons_option o (filter_map f xs)) ≤ suc (length xs)) [
+      | None ↦ omega (arith, rest)
+      | Some y ↦ omega (arith, rest)
+    ]
 
 -- what holds of each element still holds of each where it says less
-pub AllByRecursion-weaker : {X : Type 0} (P Q : X → Type 0) (xs : List X) → ((x : X) → P x → Q x) → AllByRecursion P xs → AllByRecursion Q xs
+pub AllByRecursion-weaker : {X : Type 0} (P Q : X → Type 0) (xs : List X) → ((x : X) → P x → Q x) → AllByRecursion P xs
+    → AllByRecursion Q xs
 AllByRecursion-weaker P Q [] weaker all = tt
 AllByRecursion-weaker P Q (x ∷ xs) weaker all = (weaker x all.0, AllByRecursion-weaker P Q xs weaker all.1)
 

@@ -1,7 +1,10 @@
 -- Kinds of damage of a quota file, as error lines name them.
 use Rattle.std.specs.Prelude.{ℕ, Bool, true, false, List, codes, ◌≡◌, MatchBool, ⊤}
 use Rattle.quota_types.specs.declared.damage.DamageKind.{DamageKind}
-use Rattle.quota_types.specs.declared.damage.DamageKind.TheVariants.{Short, RefOut, TwoRoles, NoRole, EmptyTree, ChainOut, ChainLoop, ForeignInChain, MissingInChain, BadPrev, BadCount, MissingEntry, StrayEntry, DoubleEntry, PartialRecord}
+use Rattle.quota_types.specs.declared.damage.DamageKind.TheVariants.{Short, RefOut, TwoRoles, NoRole, EmptyTree}
+use Rattle.quota_types.specs.declared.damage.DamageKind.TheVariants.{ChainOut, ChainLoop, ForeignInChain}
+use Rattle.quota_types.specs.declared.damage.DamageKind.TheVariants.{MissingInChain, BadPrev, BadCount, MissingEntry}
+use Rattle.quota_types.specs.declared.damage.DamageKind.TheVariants.{StrayEntry, DoubleEntry, PartialRecord}
 
 -- the name of a kind of damage
 abbrev pub damage_name : DamageKind → List ℕ

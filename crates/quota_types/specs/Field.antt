@@ -1,7 +1,8 @@
 -- Fields of a quota file, as error lines name them.
 use Rattle.std.specs.Prelude.{ℕ, Bool, true, false, List, codes}
 use Rattle.quota_types.specs.declared.field.Field.{Field}
-use Rattle.quota_types.specs.declared.field.Field.TheVariants.{BlockGrace, InodeGrace, Id, Ihard, Isoft, Inodes, Bhard, Bsoft, Space, Btime, Itime}
+use Rattle.quota_types.specs.declared.field.Field.TheVariants.{BlockGrace, InodeGrace, Id, Ihard, Isoft, Inodes, Bhard}
+use Rattle.quota_types.specs.declared.field.Field.TheVariants.{Bsoft, Space, Btime, Itime}
 
 -- the name of a field
 abbrev pub field_name : Field → List ℕ

@@ -1,4 +1,5 @@
--- The numbers of kinds, by which kinds are compared. Source: USRQUOTA, GRPQUOTA and PRJQUOTA of the kernel's `linux/quota.h`.
+-- The numbers of kinds, by which kinds are compared. Source: USRQUOTA, GRPQUOTA and PRJQUOTA of the kernel's
+-- `linux/quota.h`.
 use Rattle.std.specs.Prelude.{ℕ, Bool, ◌==◌, if◌then◌else◌, Option, None, Some}
 use Rattle.quota_types.specs.declared.file_kind.Kind.{Kind}
 use Rattle.quota_types.specs.declared.file_kind.Kind.TheVariants.{User, Group, Project}

@@ -1,11 +1,13 @@
 -- Which values a format has room for. Source: the widths of the fields on disk, `struct v1_disk_dqblk` and
 -- `struct v2r0_disk_dqblk` and `struct v2r1_disk_dqblk` of the quota tools.
-use Rattle.std.specs.Prelude.{ℕ, ◌^◌, Bool, true, ◌&&◌, nat_lt, nat_le, if◌then◌else◌, List, [], ◌∷◌, Option, Some, None}
+use Rattle.std.specs.Prelude.{ℕ, ◌^◌, Bool, true, ◌&&◌, nat_lt, nat_le, if◌then◌else◌, List, [], ◌∷◌, Option, Some}
+use Rattle.std.specs.Prelude.{None}
 use Rattle.quota_types.specs.Rec.{kib_of}
 use Rattle.quota_types.specs.declared.file_kind.Format.{Format}
 use Rattle.quota_types.specs.declared.file_kind.Format.TheVariants.{V1, V1R32, V2R0, V2R1}
 use Rattle.quota_types.specs.declared.field.Field.{Field}
-use Rattle.quota_types.specs.declared.field.Field.TheVariants.{BlockGrace, InodeGrace, Id, Ihard, Isoft, Inodes, Bhard, Bsoft, Space, Btime, Itime}
+use Rattle.quota_types.specs.declared.field.Field.TheVariants.{BlockGrace, InodeGrace, Id, Ihard, Isoft, Inodes, Bhard}
+use Rattle.quota_types.specs.declared.field.Field.TheVariants.{Bsoft, Space, Btime, Itime}
 use Rattle.quota_types.specs.declared.record.Grace.{Grace}
 use Rattle.quota_types.specs.declared.record.Rec.{Rec}
 

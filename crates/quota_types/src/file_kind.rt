@@ -38,7 +38,8 @@ impl Kind {
     }
 }
 
-/// The format of a quota file, as the Linux quota tools name them, but for vfsold32, which is their vfsold on 32-bit x86.
+/// The format of a quota file, as the Linux quota tools name them, but for vfsold32, which is their vfsold on 32-bit
+/// x86.
 #[derive(Clone, Copy, Debug, PartialEq, Eq)]
 pub enum Format {
     /// vfsold: a flat table of records of 40 bytes, indexed by identifier, with timers of 64 bits.

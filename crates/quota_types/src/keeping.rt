@@ -47,8 +47,8 @@ fn kept_tree(id: u32, rec: Rec) -> Rec
 }
 
 /// What the format keeps of an identifier's record for which it has room. A flat file keeps the space in whole KiB,
-/// rounded up, and no timers of identifier 0. A tree file keeps a record as it is; only for identifier 0 an `itime` of 1
-/// and otherwise zeros, by which it marks a record of zeros, is kept as zeros.
+/// rounded up, and no timers of identifier 0. A tree file keeps a record as it is; only for identifier 0 an `itime` of
+/// 1 and otherwise zeros, by which it marks a record of zeros, is kept as zeros.
 #[tactic(auto, using(crate::proofs::KeptLemmas::kept_is_kept, crate::proofs::KeptLemmas::kept_null, crate::proofs::KeptLemmas::tree_keeps))]
 pub fn kept(format: Format, id: u32, rec: Rec) -> Rec
     requires { unfit format id rec ≡ None }

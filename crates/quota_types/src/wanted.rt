@@ -38,8 +38,8 @@ pub fn kept_timed(
 ///
 /// # Errors
 ///
-/// The first field for which the format has no room, in the order of `Field`, with its value; that of a timer may be a sum
-/// beyond 64 bits.
+/// The first field for which the format has no room, in the order of `Field`, with its value; that of a timer may be a
+/// sum beyond 64 bits.
 pub fn next_kept(format: Format, id: u32, rec: Rec, grace: Grace, now: u64) -> Result<Rec, NoRoom>
     ensures kept { IfOk result (λ next. next ≡ kept_of format id (timers_of rec grace now)) }
     ensures again { IfOk result (IsKept format id) }

@@ -1,5 +1,6 @@
 -- A flat file of which one record was written.
-use Rattle.std.proofs.Common.{◌≡◌, ◌⊎◌, ℕ, zero, suc, ◌+◌, ◌*◌, ◌<◌, ◌≤◌, Bool, true, IsTrue, List, length, take, length-take, Result, Ok, Err, OnErr, OnOk, inl, inr, refl, sym, ap, subst, ◌∙◌, arith}
+use Rattle.std.proofs.Common.{◌≡◌, ◌⊎◌, ℕ, zero, suc, ◌+◌, ◌*◌, ◌<◌, ◌≤◌, Bool, true, IsTrue, List, length, take}
+use Rattle.std.proofs.Common.{length-take, Result, Ok, Err, OnErr, OnOk, inl, inr, refl, sym, ap, subst, ◌∙◌, arith}
 use Rattle.file_blocks.specs.Block.{bytes_of}
 use Rattle.outside.specs.Count.{Rose}
 use Rattle.outside.specs.Frame.{ChangesOne, OnlyReads}
@@ -21,54 +22,76 @@ use Rattle.quota_types.specs.declared.record.Rec.{Rec}
 use Rattle.quota_v1.specs.Change.{FlatGraced}
 use Rattle.quota_v1.specs.FlatFile.{stored_at}
 use Rattle.quota_v1.specs.Slot.{AreFrom, ChangesFile, MakesOne, PutsRecord}
-use Rattle.quota_v1.specs.Place.{block_time_at, block_time_start, inode_time_at, inode_time_start, record_start, time_width}
+use Rattle.quota_v1.specs.Place.{block_time_at, block_time_start, inode_time_at, inode_time_start, record_start}
+use Rattle.quota_v1.specs.Place.{time_width}
 use Rattle.quota_v1.proofs.PlaceLemmas.{kept_flat, start_of_first, start_of_next, times_fill}
-use Rattle.quota_v1.proofs.SlotLemmas.{inside_overwritten, keeps_overwritten, long_overwritten, made_overwritten, number_overwritten, stored_overwritten}
+use Rattle.quota_v1.proofs.SlotLemmas.{inside_overwritten, keeps_overwritten, long_overwritten, made_overwritten}
+use Rattle.quota_v1.proofs.SlotLemmas.{number_overwritten, stored_overwritten}
 
 -- the bytes of a record, with two times in the place of its timers
 abbrev pub with_times : Rec → Grace → Rec
 with_times rec times = record rec { space = 1024 * kib_of rec.space; btime = times.block; itime = times.inode }
 
 -- what is kept of a record is the record
-kept_again : (format : Format) → is_flat format ≡ true → (id : ℕ) (rec : Rec) (times : Grace) → IsKept format id rec → (¬ (id ≡ 0) → (times.block ≡ rec.btime) × (times.inode ≡ rec.itime)) → without_timers_of_zero id (with_times rec times) ≡ rec
+kept_again : (format : Format) → is_flat format ≡ true → (id : ℕ) (rec : Rec) (times : Grace) → IsKept format id rec
+    → (¬ (id ≡ 0) → (times.block ≡ rec.btime) × (times.inode ≡ rec.itime))
+    → without_timers_of_zero id (with_times rec times) ≡ rec
 kept_again format flat zero rec times kept other = sym (kept_flat format flat zero rec) ∙ kept.again
 kept_again format flat (suc n) rec times kept other =
     let timers = other (λ same. absurd (omega (arith, same))) in
-    ap (without_timers_of_zero (suc n)) (rw (timers.0, timers.1) refl) ∙ sym (kept_flat format flat (suc n) rec) ∙ kept.again
+    ap (without_timers_of_zero (suc n)) (rw (timers.0, timers.1) refl)
+    ∙ sym (kept_flat format flat (suc n) rec) ∙ kept.again
 
 -- the bytes of a record that were written in its place
-pub puts_record : (format : Format) → is_flat format ≡ true → (old : List ℕ) (id : ℕ) (rec : Rec) (times stood : Grace) (at : ℕ) (bytes : List ℕ) → at ≡ record_start format id → length bytes ≡ record_size format → stored_at format bytes 0 ≡ with_times rec stood → IsKept format id rec
-    → (id ≡ 0 → stood ≡ times) → (¬ (id ≡ 0) → (stood.block ≡ rec.btime) × (stood.inode ≡ rec.itime)) → PutsRecord format id rec times old (overwritten old at bytes)
+pub puts_record : (format : Format) → is_flat format ≡ true
+    → (old : List ℕ) (id : ℕ) (rec : Rec) (times stood : Grace) (at : ℕ) (bytes : List ℕ) → at ≡ record_start format id
+    → length bytes ≡ record_size format → stored_at format bytes 0 ≡ with_times rec stood → IsKept format id rec
+    → (id ≡ 0 → stood ≡ times) → (¬ (id ≡ 0) → (stood.block ≡ rec.btime) × (stood.inode ≡ rec.itime))
+    → PutsRecord format id rec times old (overwritten old at bytes)
 puts_record format flat old id rec times stood at bytes place long stored kept first other =
     let new : List ℕ = overwritten old at bytes in
     let fill = times_fill format flat in
     record {
       long = omega (arith, long_overwritten old at bytes, place, long);
-      others = subst (λ (from : ℕ). KeepsOutside from (record_start format id + record_size format) old new) place (keeps_overwritten old at bytes (record_start format id + record_size format) (omega (arith, place, long)));
+      others = subst (λ (from : ℕ). KeepsOutside from (record_start format id + record_size format) old new) place
+          (keeps_overwritten old at bytes (record_start format id + record_size format) (omega (arith, place, long)));
       written =
           ap (λ (from : ℕ). without_timers_of_zero id (stored_at format new from)) (sym place)
           ∙ ap (without_timers_of_zero id) (stored_overwritten format flat old at bytes (omega (arith, long)) ∙ stored)
           ∙ kept_again format flat id rec stood kept other;
       block_time = λ is.
-          ap (number_at (time_width format) new) (let here : block_time_start format 0 ≡ at + block_time_at = omega (arith, place, ap (record_start format) is) in here)
-          ∙ number_overwritten (time_width format) old at bytes block_time_at (omega (arith, long, fill)) ∙ ap (λ (r : Rec). r.btime) stored ∙ ap (λ (t : Grace). t.block) (first is);
+          ap (number_at (time_width format) new)
+          (let here : block_time_start format 0 ≡ at + block_time_at =
+          omega (arith, place, ap (record_start format) is) in here)
+          ∙ number_overwritten (time_width format) old at bytes block_time_at (omega (arith, long, fill))
+          ∙ ap (λ (r : Rec). r.btime) stored ∙ ap (λ (t : Grace). t.block) (first is);
       inode_time = λ is.
-          ap (number_at (time_width format) new) (let here : inode_time_start format 0 ≡ at + inode_time_at format = omega (arith, place, ap (record_start format) is) in here)
+          ap (number_at (time_width format) new)
+          (let here : inode_time_start format 0 ≡ at + inode_time_at format =
+          omega (arith, place, ap (record_start format) is) in here)
           ∙ number_overwritten (time_width format) old at bytes (inode_time_at format) (omega (arith, long, fill))
-          ∙ ap (number_at (time_width format) bytes) (let here : inode_time_at format ≡ 0 + inode_time_at format = omega arith in here) ∙ ap (λ (r : Rec). r.itime) stored ∙ ap (λ (t : Grace). t.inode) (first is);
+          ∙ ap (number_at (time_width format) bytes)
+          (let here : inode_time_at format ≡ 0 + inode_time_at format = omega arith in here)
+          ∙ ap (λ (r : Rec). r.itime) stored ∙ ap (λ (t : Grace). t.inode) (first is);
     }
 
 -- the bytes of record 0 that were written over with other times
-pub puts_grace : (format : Format) → is_flat format ≡ true → (old : List ℕ) (grace : Grace) (shown bytes : List ℕ) → AreFrom old 0 shown → record_size format ≤ length shown → length bytes ≡ record_size format
-    → ((k : ℕ) → k < block_time_at → byte_at bytes k ≡ byte_at shown k) → number_at (time_width format) bytes block_time_at ≡ grace.block → number_at (time_width format) bytes (inode_time_at format) ≡ grace.inode
+pub puts_grace : (format : Format) → is_flat format ≡ true → (old : List ℕ) (grace : Grace) (shown bytes : List ℕ)
+    → AreFrom old 0 shown → record_size format ≤ length shown → length bytes ≡ record_size format
+    → ((k : ℕ) → k < block_time_at → byte_at bytes k ≡ byte_at shown k)
+    → number_at (time_width format) bytes block_time_at ≡ grace.block
+    → number_at (time_width format) bytes (inode_time_at format) ≡ grace.inode
     → FlatGraced format grace old (overwritten old 0 bytes)
 puts_grace format flat old grace shown bytes from whole long keeps block inode =
     let new : List ℕ = overwritten old 0 bytes in
     let fill = times_fill format flat in
     let first = start_of_first format in
     let next = start_of_next format 0 in
-    let outside : KeepsOutside 0 (record_size format) old new = keeps_overwritten old 0 bytes (record_size format) (omega (arith, long)) in
-    let time_at : (place : ℕ) → place + time_width format ≤ length bytes → number_at (time_width format) new (record_start format 0 + place) ≡ number_at (time_width format) bytes place = λ place within.
+    let outside : KeepsOutside 0 (record_size format) old new =
+    keeps_overwritten old 0 bytes (record_size format) (omega (arith, long)) in
+    let time_at : (place : ℕ) → place + time_width format ≤ length bytes
+    → number_at (time_width format) new (record_start format 0 + place) ≡ number_at (time_width format) bytes place =
+    λ place within.
     let at : record_start format 0 + place ≡ 0 + place = omega (arith, first) in
     ap (number_at (time_width format) new) at ∙ number_overwritten (time_width format) old 0 bytes place within in
     record {
@@ -77,7 +100,8 @@ puts_grace format flat old grace shown bytes from whole long keeps block inode =
         before = λ k low.
             let here : 0 + k ≡ k = omega arith in
             subst (λ (n : ℕ). byte_at new n ≡ byte_at old n) here
-            (inside_overwritten old 0 bytes k (omega (arith, low, long, first, fill)) ∙ keeps k (omega (arith, low, first)) ∙ from k (omega (arith, low, whole, first, fill)));
+            (inside_overwritten old 0 bytes k (omega (arith, low, long, first, fill))
+            ∙ keeps k (omega (arith, low, first)) ∙ from k (omega (arith, low, whole, first, fill)));
         behind = λ k high. outside.behind k (omega (arith, high, first, next));
       };
       block_time = time_at block_time_at (omega (arith, long, fill)) ∙ block;
@@ -85,51 +109,69 @@ puts_grace format flat old grace shown bytes from whole long keeps block inode =
     }
 
 -- the same of as many bytes of a buffer as a record has
-pub puts_part : (format : Format) → is_flat format ≡ true → (old : List ℕ) (grace : Grace) (shown bytes : List ℕ) (size : ℕ) → size ≡ record_size format → AreFrom old 0 shown → size ≤ length shown → size ≤ length bytes
-    → KeepsOutside (0 + block_time_at) (0 + record_size format) shown bytes → number_at (time_width format) bytes (0 + block_time_at) ≡ grace.block → number_at (time_width format) bytes (0 + inode_time_at format) ≡ grace.inode
+pub puts_part : (format : Format) → is_flat format ≡ true
+    → (old : List ℕ) (grace : Grace) (shown bytes : List ℕ) (size : ℕ) → size ≡ record_size format → AreFrom old 0 shown
+    → size ≤ length shown → size ≤ length bytes
+    → KeepsOutside (0 + block_time_at) (0 + record_size format) shown bytes
+    → number_at (time_width format) bytes (0 + block_time_at) ≡ grace.block
+    → number_at (time_width format) bytes (0 + inode_time_at format) ≡ grace.inode
     → FlatGraced format grace old (overwritten old 0 (take size bytes))
 puts_part format flat old grace shown bytes size is from whole long keeps block inode =
     let fill = times_fill format flat in
     let here : inode_time_at format ≡ 0 + inode_time_at format = omega arith in
-    puts_grace format flat old grace shown (take size bytes) from (omega (arith, whole, is)) (omega (arith, long, is, length-take size bytes))
+    puts_grace format flat old grace shown (take size bytes) from (omega (arith, whole, is))
+    (omega (arith, long, is, length-take size bytes))
     (λ k low. get_or-take size bytes k 0 (omega (arith, low, is, fill)) ∙ keeps.before k low)
     (number_at-take (time_width format) size bytes block_time_at (omega (arith, is, fill)) ∙ block)
-    (number_at-take (time_width format) size bytes (inode_time_at format) (omega (arith, is, fill)) ∙ ap (number_at (time_width format) bytes) here ∙ inode)
+    (number_at-take (time_width format) size bytes (inode_time_at format) (omega (arith, is, fill))
+    ∙ ap (number_at (time_width format) bytes) here ∙ inode)
 
 -- bytes were written into a file and synced, after a call that only read
-pub changes_file : {E : Type 0} (tells : Bool) (so : (before after : List ℕ) → Type 0) (name : List ℕ) (at : ℕ) (bytes : List ℕ) (old mid new : StoreSeen) (result : Result (Unit {0}) E)
+pub changes_file : {E : Type 0} (tells : Bool) (so : (before after : List ℕ) → Type 0) (name : List ℕ) (at : ℕ)
+    (bytes : List ℕ) (old mid new : StoreSeen) (result : Result (Unit {0}) E)
     → OnlyReads true name old mid → mid.reads ≤ old.reads + 1
-    → OnOk result (IsTrue tells → new.files ≡ with_bytes mid.files name at bytes) → OnOk result (IsTrue tells → IsSynced name mid new)
-    → OnErr result (IsTrue tells → (new.files ≡ mid.files) ⊎ (new.files ≡ with_bytes mid.files name at bytes)) → OnErr result (Rose mid.faults new.faults)
-    → ChangesOne name mid new → new.writes ≤ mid.writes + 1 → Rose mid.writes new.writes → 1 ≤ length bytes → length bytes ≤ 1024
-    → (IsTrue tells → so (bytes_of (old.files name)) (overwritten (bytes_of (old.files name)) at bytes)) → ChangesFile tells so name old new result
-changes_file tells so name at bytes old mid new (Ok told) read few written synced torn cause leaves writes rose some few' made = record {
-  changed = λ tell. made_overwritten so old.files new.files name at bytes (written tell ∙ ap (λ (files : World). with_bytes files name at bytes) read.files) some few' (made tell);
-  synced = λ tell. is_synced-then name old mid new (is_synced-read name old mid read) (synced tell);
-  torn = tt;
-  cause = tt;
-  others = λ other differ. leaves.files other differ ∙ ap (λ (files : World). files other) read.files;
-  leaves = edits_one-after_read name old mid new read (edits_one-changed name mid new leaves (inr rose));
-  reads = omega (arith, few, leaves.reads);
-  writes = omega (arith, writes, read.writes);
-}
-changes_file tells so name at bytes old mid new (Err fault) read few written synced torn cause leaves writes rose some few' made = record {
-  changed = tt;
-  synced = tt;
-  torn = λ tell. elim (torn tell) [
-    | inl same ↦ inl (same ∙ read.files)
-    | inr wrote ↦ inr (made_overwritten so old.files new.files name at bytes (wrote ∙ ap (λ (files : World). with_bytes files name at bytes) read.files) some few' (made tell))
-  ];
-  cause = omega (arith, cause, read.later);
-  others = λ other differ. leaves.files other differ ∙ ap (λ (files : World). files other) read.files;
-  leaves = edits_one-after_read name old mid new read (edits_one-changed name mid new leaves (inr rose));
-  reads = omega (arith, few, leaves.reads);
-  writes = omega (arith, writes, read.writes);
-}
+    → OnOk result (IsTrue tells → new.files ≡ with_bytes mid.files name at bytes)
+    → OnOk result (IsTrue tells → IsSynced name mid new)
+    → OnErr result (IsTrue tells → (new.files ≡ mid.files) ⊎ (new.files ≡ with_bytes mid.files name at bytes))
+    → OnErr result (Rose mid.faults new.faults)
+    → ChangesOne name mid new → new.writes ≤ mid.writes + 1 → Rose mid.writes new.writes → 1 ≤ length bytes
+    → length bytes ≤ 1024
+    → (IsTrue tells → so (bytes_of (old.files name)) (overwritten (bytes_of (old.files name)) at bytes))
+    → ChangesFile tells so name old new result
+changes_file tells so name at bytes old mid new (Ok told) read few written synced torn cause leaves writes rose some
+    few' made = record {
+      changed = λ tell. made_overwritten so old.files new.files name at bytes
+          (written tell ∙ ap (λ (files : World). with_bytes files name at bytes) read.files) some few' (made tell);
+      synced = λ tell. is_synced-then name old mid new (is_synced-read name old mid read) (synced tell);
+      torn = tt;
+      cause = tt;
+      others = λ other differ. leaves.files other differ ∙ ap (λ (files : World). files other) read.files;
+      leaves = edits_one-after_read name old mid new read (edits_one-changed name mid new leaves (inr rose));
+      reads = omega (arith, few, leaves.reads);
+      writes = omega (arith, writes, read.writes);
+    }
+changes_file tells so name at bytes old mid new (Err fault) read few written synced torn cause leaves writes rose some
+    few' made = record {
+      changed = tt;
+      synced = tt;
+      torn = λ tell. elim (torn tell) [
+        | inl same ↦ inl (same ∙ read.files)
+        | inr wrote ↦ inr
+            (made_overwritten so old.files new.files name at bytes
+            (wrote ∙ ap (λ (files : World). with_bytes files name at bytes) read.files) some few' (made tell))
+      ];
+      cause = omega (arith, cause, read.later);
+      others = λ other differ. leaves.files other differ ∙ ap (λ (files : World). files other) read.files;
+      leaves = edits_one-after_read name old mid new read (edits_one-changed name mid new leaves (inr rose));
+      reads = omega (arith, few, leaves.reads);
+      writes = omega (arith, writes, read.writes);
+    }
 
 -- a change after a call that only read, which made no call of `read` itself
-pub changes_after_read : {E : Type 0} (tells : Bool) (so : (before after : List ℕ) → Type 0) (name : List ℕ) (old mid new : StoreSeen) (result : Result (Unit {0}) E)
-    → OnlyReads true name old mid → mid.reads ≤ old.reads + 1 → new.reads ≤ mid.reads → ChangesFile tells so name mid new result → ChangesFile tells so name old new result
+pub changes_after_read : {E : Type 0} (tells : Bool) (so : (before after : List ℕ) → Type 0) (name : List ℕ)
+    (old mid new : StoreSeen) (result : Result (Unit {0}) E)
+    → OnlyReads true name old mid → mid.reads ≤ old.reads + 1 → new.reads ≤ mid.reads
+    → ChangesFile tells so name mid new result → ChangesFile tells so name old new result
 changes_after_read tells so name old mid new (Ok told) read few same changes = record {
   changed = λ tell. subst (λ (files : World). MakesOne so name files new.files) read.files (changes.changed tell);
   synced = λ tell. is_synced-then name old mid new (is_synced-read name old mid read) (changes.synced tell);
@@ -143,7 +185,8 @@ changes_after_read tells so name old mid new (Ok told) read few same changes = r
 changes_after_read tells so name old mid new (Err fault) read few same changes = record {
   changed = tt;
   synced = tt;
-  torn = λ tell. subst (λ (files : World). (new.files ≡ files) ⊎ MakesOne so name files new.files) read.files (changes.torn tell);
+  torn = λ tell.
+      subst (λ (files : World). (new.files ≡ files) ⊎ MakesOne so name files new.files) read.files (changes.torn tell);
   cause = omega (arith, changes.cause, read.later);
   others = λ other differ. changes.others other differ ∙ ap (λ (files : World). files other) read.files;
   leaves = edits_one-after_read name old mid new read changes.leaves;

@@ -16,8 +16,10 @@ use Rattle.quota_v1.specs.Place.{block_time_start, flat_limit, inode_time_start,
 pub record FlatPut (format : Format) (id : ℕ) (rec : Rec) (before after : List ℕ) : Type 0 where
   pub long : length after ≡ max (length before) (record_start format id + record_size format)
   pub others : KeepsOutside (record_start format id) (record_start format id + record_size format) before after
-  pub block_time : number_at (time_width format) after (block_time_start format 0) ≡ number_at (time_width format) before (block_time_start format 0)
-  pub inode_time : number_at (time_width format) after (inode_time_start format 0) ≡ number_at (time_width format) before (inode_time_start format 0)
+  pub block_time : number_at (time_width format) after (block_time_start format 0)
+      ≡ number_at (time_width format) before (block_time_start format 0)
+  pub inode_time : number_at (time_width format) after (inode_time_start format 0)
+      ≡ number_at (time_width format) before (inode_time_start format 0)
   pub written : flat_record format after id ≡ Some rec
 
 -- a record was taken away: the file is as long as before, and all bytes outside of the record and the times of record 0
@@ -25,8 +27,10 @@ pub record FlatPut (format : Format) (id : ℕ) (rec : Rec) (before after : List
 pub record FlatRemoved (format : Format) (id : ℕ) (before after : List ℕ) : Type 0 where
   pub long : length after ≡ length before
   pub others : KeepsOutside (record_start format id) (record_start format id + record_size format) before after
-  pub block_time : number_at (time_width format) after (block_time_start format 0) ≡ number_at (time_width format) before (block_time_start format 0)
-  pub inode_time : number_at (time_width format) after (inode_time_start format 0) ≡ number_at (time_width format) before (inode_time_start format 0)
+  pub block_time : number_at (time_width format) after (block_time_start format 0)
+      ≡ number_at (time_width format) before (block_time_start format 0)
+  pub inode_time : number_at (time_width format) after (inode_time_start format 0)
+      ≡ number_at (time_width format) before (inode_time_start format 0)
   pub removed : flat_record format after id ≡ None
 
 -- the grace periods were set, which are the times of record 0: the file has a record 0 then, and all other bytes stay

@@ -14,10 +14,11 @@ use Rattle.quota_v1.specs.Place.{record_start}
 -- Bytes are what a change makes of others: of each value that those stand for they stand for the changed one.
 pub record IsFlatChange (format : Format) (change : FileChange) (before after : List ℕ) : Type 0 where
   pub changed : FlatChanged format change before after
-  pub stands : (value : QuotaValue) → FlatStandsFor format before value → FlatStandsFor format after (changed_value change value)
+  pub stands : (value : QuotaValue) → FlatStandsFor format before value
+      → FlatStandsFor format after (changed_value change value)
 
--- The faults that a call on an opened flat file may answer, whatever the store tells: of damages, that a record is cut off. It is
--- never full, and takes no memory.
+-- The faults that a call on an opened flat file may answer, whatever the store tells: of damages, that a record is cut
+-- off. It is never full, and takes no memory.
 abbrev pub MayRefuse : FileFault → Type 0
 MayRefuse Store = ⊤
 MayRefuse (Damage damage) = (damage.kind ≡ PartialRecord) × (damage.id ≡ 0)

@@ -4,7 +4,8 @@ use Rattle.quota_types.specs.declared.damage.DamageKind.TheVariants.{PartialReco
 use Rattle.quota_types.specs.declared.file_kind.Format.{Format}
 use Rattle.outside.specs.Count.{Rose}
 use Rattle.opened_file.specs.declared.quota_file.OpenFault.{OpenFault}
-use Rattle.opened_file.specs.declared.quota_file.OpenFault.TheVariants.{Store, NoFile, TooLarge, Memory, Damage as Damaged}
+use Rattle.opened_file.specs.declared.quota_file.OpenFault.TheVariants.{Store, NoFile, TooLarge, Memory}
+use Rattle.opened_file.specs.declared.quota_file.OpenFault.TheVariants.{Damage as Damaged}
 use Rattle.quota_v1.specs.Place.{flat_limit}
 use Rattle.quota_v1.specs.View.{IsFlatDefect}
 
@@ -16,7 +17,9 @@ IsFlatFault format before now tells named Store = Rose before now
 IsFlatFault format before now tells named Memory = ⊤
 IsFlatFault format before now tells named NoFile = IsTrue tells → named ≡ None
 IsFlatFault format before now tells named (TooLarge number limit) =
-    (limit ≡ flat_limit format) × (IsTrue tells → IsSomeAnd named (λ file. (flat_limit format < length file) × (number ≡ length file)))
+    (limit ≡ flat_limit format)
+    × (IsTrue tells → IsSomeAnd named (λ file. (flat_limit format < length file) × (number ≡ length file)))
 IsFlatFault format before now tells named (Damaged damage) =
-    ((damage.kind ≡ PartialRecord) × (damage.id ≡ 0)) × (IsTrue tells → IsSomeAnd named (λ file. (length file ≤ flat_limit format) × IsFlatDefect format file damage))
+    ((damage.kind ≡ PartialRecord) × (damage.id ≡ 0))
+    × (IsTrue tells → IsSomeAnd named (λ file. (length file ≤ flat_limit format) × IsFlatDefect format file damage))
 IsFlatFault format before now tells named _ = ⊥

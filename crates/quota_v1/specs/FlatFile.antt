@@ -10,7 +10,8 @@ use Rattle.quota_types.specs.Bytes.{number_at}
 use Rattle.quota_types.specs.Kept.{without_timers_of_zero}
 use Rattle.quota_types.specs.Rec.{is_zeros}
 use Rattle.quota_value.specs.QuotaValue.{QuotaValue}
-use Rattle.quota_v1.specs.Place.{block_time_at, block_time_start, inode_time_at, inode_time_start, record_start, time_width}
+use Rattle.quota_v1.specs.Place.{block_time_at, block_time_start, inode_time_at, inode_time_start, record_start}
+use Rattle.quota_v1.specs.Place.{time_width}
 
 -- the bytes of a record of this format, from a place on, as a record; the space is in KiB on disk
 abbrev pub stored_at : Format → List ℕ → ℕ → Rec
@@ -25,8 +26,8 @@ stored_at format bytes at = record {
   itime = number_at (time_width format) bytes (at + inode_time_at format);
 }
 
--- the bytes from a place on, as the record of an identifier: identifier 0 has no timers, since the times of record 0 are the
--- grace periods
+-- the bytes from a place on, as the record of an identifier: identifier 0 has no timers, since the times of record 0
+-- are the grace periods
 abbrev pub timed_at : Format → List ℕ → (at id : ℕ) → Rec
 timed_at format bytes at id = without_timers_of_zero id (stored_at format bytes at)
 
@@ -41,7 +42,8 @@ unless_zeros rec = if is_zeros rec then None else Some rec
 -- the record of an identifier, where the file has all its bytes and the record is not all zero
 abbrev pub flat_record : Format → List ℕ → ℕ → Option Rec
 flat_record format file id =
-    if nat_le (record_start format id + record_size format) (length file) then unless_zeros (timed_record format file id) else None
+    if nat_le (record_start format id + record_size format) (length file)
+    then unless_zeros (timed_record format file id) else None
 
 -- a grace period as it is stored, where 0 stands for 7 days
 abbrev pub or_week : ℕ → ℕ
@@ -54,8 +56,8 @@ flat_grace format file = record {
   inode = or_week (number_at (time_width format) file (inode_time_start format 0));
 }
 
--- The file is whole records of the layout of a format, and the value has the records and the grace periods of the file. It may be
--- one of any kind: nothing in it tells of which.
+-- The file is whole records of the layout of a format, and the value has the records and the grace periods of the file.
+-- It may be one of any kind: nothing in it tells of which.
 pub record FlatStandsFor (layout : Format) (file : List ℕ) (value : QuotaValue) : Type 0 where
   pub whole : length file % record_size layout ≡ 0
   pub format : value.format ≡ layout

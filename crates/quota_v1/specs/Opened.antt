@@ -19,17 +19,18 @@ use Rattle.quota_v1.specs.View.{IsFlatDefect}
 use Rattle.quota_v1.specs.Window.{HoldsWindow}
 use Rattle.quota_v1.specs.declared.window.Window.{Window}
 
--- What is kept of a file agrees with it: its length in bytes, the two times of its record 0 as they are stored, and the records
--- that were read.
+-- What is kept of a file agrees with it: its length in bytes, the two times of its record 0 as they are stored, and the
+-- records that were read.
 pub record AgreesFlat (format : Format) (len : ℕ) (times : Grace) (window : Window) (file : List ℕ) : Type 0 where
   pub long : len ≡ length file
   pub block_time : number_at (time_width format) file (block_time_start format 0) ≡ times.block
   pub inode_time : number_at (time_width format) file (inode_time_start format 0) ≡ times.inode
   pub next : HoldsWindow format file window
 
--- The store tells its files, the named file stands for the value and has no more bytes than a flat file may have, and what is kept
--- of it agrees with it.
-pub record HoldsFlat (tells : Bool) (named : Option (List ℕ)) (format : Format) (len : ℕ) (times : Grace) (window : Window) (value : QuotaValue) : Type 0 where
+-- The store tells its files, the named file stands for the value and has no more bytes than a flat file may have, and
+-- what is kept of it agrees with it.
+pub record HoldsFlat (tells : Bool) (named : Option (List ℕ)) (format : Format) (len : ℕ) (times : Grace)
+    (window : Window) (value : QuotaValue) : Type 0 where
   pub told : IsTrue tells
   pub file : List ℕ
   pub there : named ≡ Some file
@@ -45,18 +46,21 @@ IsNamedDefect tells named format damage = IsTrue tells → IsFlatDefect format (
 abbrev pub flat_seen : FileUse → (name : List ℕ) → Format → FileSeen
 flat_seen opened name format = seen_in opened name format 0
 
--- an opened flat file of this name and this use, and what is kept of it, with what is seen of its store, which tells its files or
--- does not
-abbrev pub flat_at : (tells : Bool) → StoreSeen → (name : List ℕ) → FileUse → Format → (len : ℕ) → (times : Grace) → Window → FileAt
+-- an opened flat file of this name and this use, and what is kept of it, with what is seen of its store, which tells
+-- its files or does not
+abbrev pub flat_at : (tells : Bool) → StoreSeen → (name : List ℕ) → FileUse → Format → (len : ℕ) → (times : Grace)
+    → Window → FileAt
 flat_at tells store name opened format len times window =
     file_at (HoldsFlat tells (store.files name) format len times window) (flat_seen opened name format) store
 
--- how many calls of `read` find the next record at most: each reads as many records as one gives, of those that a flat file may have
+-- how many calls of `read` find the next record at most: each reads as many records as one gives, of those that a flat
+-- file may have
 abbrev pub most_next_reads : Format → ℕ
 most_next_reads format = 1048576 / records_read format + 1
 
 -- what is said of all calls on one: a change reads a record at most and writes one, and it is never full
 abbrev pub flat_laws : (tells : Bool) → FileLaws
 flat_laws tells =
-    laws_of tells (λ format file value. FlatStandsFor format file value) (λ seen change. FlatMakes seen.format change) (λ _ _ old after left. FlatLeaves old after left) (λ _ _ _ _ _ _. ⊥)
+    laws_of tells (λ format file value. FlatStandsFor format file value) (λ seen change. FlatMakes seen.format change)
+    (λ _ _ old after left. FlatLeaves old after left) (λ _ _ _ _ _ _. ⊥)
     (λ _ fault. MayRefuse fault) (λ _ _. 1) (λ _ _. 1) (λ _ _ _. 1)

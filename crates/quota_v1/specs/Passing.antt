@@ -8,7 +8,8 @@ use Rattle.quota_v1.specs.Window.{passing_reads}
 
 -- what is passed in two parts is read once more where they meet, and no more often
 pub passing_adds_up : (format : Format) (file : List ℕ) (from mid to : ℕ) → from ≤ mid → mid ≤ to
-    → passing_reads format file from mid + passing_reads format file mid to ≤ passing_reads format file from to + passing_reads format file 0 0
+    → passing_reads format file from mid + passing_reads format file mid to
+    ≤ passing_reads format file from to + passing_reads format file 0 0
 passing_adds_up V1 file from mid to first second =
     let records : ℕ = length file / record_size V1 in
     omega (arith, first, second)

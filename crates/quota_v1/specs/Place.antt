@@ -1,5 +1,6 @@
--- Where the records of a flat file stand, and the times of each. Source: the table of vfsold, `struct v1_disk_dqblk` of the quota
--- tools, as they write it on 64-bit x86 (vfsold), where its two times are of 64 bits, and on 32-bit x86 (vfsold32), where they are of
+-- Where the records of a flat file stand, and the times of each. Source: the table of vfsold, `struct v1_disk_dqblk` of
+-- the quota tools, as they write it on 64-bit x86 (vfsold), where its two times are of 64 bits, and on 32-bit x86
+-- (vfsold32), where they are of
 -- 32.
 use Rattle.std.specs.Prelude.{ℕ, ◌+◌, ◌*◌, ◌/◌, ◌^◌}
 use Rattle.quota_types.specs.Format.{record_size}

@@ -1,5 +1,6 @@
 -- The bytes of records where they stand in a flat file, and how one record is written there.
-use Rattle.std.specs.Prelude.{◌≡◌, ◌⊎◌, ℕ, ◌+◌, ◌<◌, ◌≤◌, max, Bool, IsTrue, List, length, None, OnErr, OnOk, Option, Result, Some}
+use Rattle.std.specs.Prelude.{◌≡◌, ◌⊎◌, ℕ, ◌+◌, ◌<◌, ◌≤◌, max, Bool, IsTrue, List, length, None, OnErr, OnOk, Option}
+use Rattle.std.specs.Prelude.{Result, Some}
 use Rattle.file_blocks.specs.Block.{file_of}
 use Rattle.outside.specs.Count.{Rose}
 use Rattle.outside.specs.ManyCalls.{IsSynced}
@@ -33,8 +34,8 @@ IsFirstRecord format file from to (Some entry) =
     × (flat_record format file entry.id ≡ Some entry.rec)
     × ((id : ℕ) → from ≤ id → id < entry.id → flat_record format file id ≡ None)
 
--- The record of an identifier was written where it stands, of which the file has all bytes then. All other bytes stay. The two
--- times of record 0 are the given ones, where that is the record.
+-- The record of an identifier was written where it stands, of which the file has all bytes then. All other bytes stay.
+-- The two times of record 0 are the given ones, where that is the record.
 pub record PutsRecord (format : Format) (id : ℕ) (rec : Rec) (times : Grace) (before after : List ℕ) : Type 0 where
   pub long : length after ≡ max (length before) (record_start format id + record_size format)
   pub others : KeepsOutside (record_start format id) (record_start format id + record_size format) before after
@@ -42,17 +43,18 @@ pub record PutsRecord (format : Format) (id : ℕ) (rec : Rec) (times : Grace) (
   pub block_time : id ≡ 0 → number_at (time_width format) after (block_time_start format 0) ≡ times.block
   pub inode_time : id ≡ 0 → number_at (time_width format) after (inode_time_start format 0) ≡ times.inode
 
--- The named file has other bytes, which are related so to those before, and no other file has changed. Where it was not there it
--- is made. Of its blocks, of 1,024 bytes each, twelve have changed at most.
+-- The named file has other bytes, which are related so to those before, and no other file has changed. Where it was not
+-- there it is made. Of its blocks, of 1,024 bytes each, twelve have changed at most.
 pub record MakesOne (so : (before after : List ℕ) → Type 0) (name : List ℕ) (old new : World) : Type 0 where
   pub after : List ℕ
   pub files : new ≡ with_file old name (Some after)
   pub made : so (file_of old name) after
   pub few : ChangesBlocks 12 (file_of old name) after
 
--- A file was changed by one call of `write`, before which there was one of `read` at most, and then synced. Where the store failed
--- the file is as it was, or has been changed.
-pub record ChangesFile {E : Type 0} (tells : Bool) (so : (before after : List ℕ) → Type 0) (name : List ℕ) (old new : StoreSeen) (result : Result (Unit {0}) E) : Type 0 where
+-- A file was changed by one call of `write`, before which there was one of `read` at most, and then synced. Where the
+-- store failed the file is as it was, or has been changed.
+pub record ChangesFile {E : Type 0} (tells : Bool) (so : (before after : List ℕ) → Type 0) (name : List ℕ)
+    (old new : StoreSeen) (result : Result (Unit {0}) E) : Type 0 where
   pub changed : OnOk result (IsTrue tells → MakesOne so name old.files new.files)
   pub synced : OnOk result (IsTrue tells → IsSynced name old new)
   pub torn : OnErr result (IsTrue tells → (new.files ≡ old.files) ⊎ MakesOne so name old.files new.files)

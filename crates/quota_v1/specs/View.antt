@@ -21,9 +21,11 @@ pub record IsFlatDefect (format : Format) (file : List ℕ) (damage : Damage) : 
 -- The file stands for a value of the kind, or is refused: there is none, it is too large, or it is damaged, in this
 -- order.
 abbrev pub IsFlatView : Format → Option (List ℕ) → Kind → Result QuotaValue OpenFault → Type 0
-IsFlatView format named kind (Ok value) = IsSomeAnd named (λ file. (length file ≤ flat_limit format) × FlatStandsFor format file value) × (value.kind ≡ kind)
+IsFlatView format named kind (Ok value) =
+    IsSomeAnd named (λ file. (length file ≤ flat_limit format) × FlatStandsFor format file value) × (value.kind ≡ kind)
 IsFlatView format named kind (Err NoFile) = named ≡ None
 IsFlatView format named kind (Err (TooLarge number limit)) =
     IsSomeAnd named (λ file. (flat_limit format < length file) × (number ≡ length file)) × (limit ≡ flat_limit format)
-IsFlatView format named kind (Err (Damaged damage)) = IsSomeAnd named (λ file. (length file ≤ flat_limit format) × IsFlatDefect format file damage)
+IsFlatView format named kind (Err (Damaged damage)) =
+    IsSomeAnd named (λ file. (length file ≤ flat_limit format) × IsFlatDefect format file damage)
 IsFlatView format named kind (Err _) = ⊥

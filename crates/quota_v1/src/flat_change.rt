@@ -1,4 +1,4 @@
-ghost use Rattle.std.specs.Prelude.{◌≡◌, ◌+◌, ◌*◌, ◌^◌, ◌<◌, ◌≤◌, length, None, true};
+ghost use Rattle.std.specs.Prelude.{◌≡◌, ◌+◌, ◌^◌, ◌<◌, ◌≤◌, length, None, true};
 ghost use Rattle.quota_types.specs.Bytes.{number_at};
 ghost use Rattle.quota_types.specs.Format.{is_flat, record_size};
 ghost use Rattle.quota_types.specs.Kept.{IsKept};
@@ -6,7 +6,8 @@ ghost use Rattle.quota_types.specs.Range.{unfit};
 ghost use Rattle.quota_types.specs.Rec.{kib_of};
 ghost use Rattle.quota_types.specs.KeptBytes.{KeepsOutside};
 ghost use Rattle.quota_v1.specs.FlatFile.{timed_record};
-ghost use Rattle.quota_v1.specs.Place.{block_time_at, block_time_start, inode_time_at, past_time, record_start, time_width};
+ghost use Rattle.quota_v1.specs.Place.{block_time_at, block_time_start, inode_time_at, past_time, record_start};
+ghost use Rattle.quota_v1.specs.Place.{time_width};
 
 use crate::flat_record::{TIMES, record_start, second_time};
 use quota_types::{Format, Rec, set_le32_at, set_le64_at};
@@ -89,7 +90,8 @@ pub(crate) fn write_record(format: Format, bytes: &mut [u8], id: u32, rec: &Rec)
     requires within { record_start format id + record_size format ≤ length bytes.old }
     requires kept { IsKept format id rec.now }
     ensures written { timed_record format bytes.new id ≡ rec.now }
-    ensures others { KeepsOutside (record_start format id) (record_start format id + record_size format) bytes.old bytes.new }
+    ensures others { KeepsOutside (record_start format id) (record_start format id + record_size format)
+        bytes.old bytes.new }
     ensures times { id ≡ 0 → KeepsOutside (record_start format 0) (block_time_start format 0) bytes.old bytes.new }
 {
     let start = record_start(format, id as usize);

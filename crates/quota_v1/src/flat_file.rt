@@ -9,10 +9,12 @@ use opened_file::{FileFault, FileUse, QuotaFile};
 use outside::Store;
 use quota_types::{Entry, Format, Grace, Rec};
 
-/// An opened flat file, which keeps its name, its length, the times of record 0 as they are stored, and the records that come next.
+/// An opened flat file, which keeps its name, its length, the times of record 0 as they are stored, and the records
+/// that come next.
 ///
-/// A look-up reads a record where it stands; the next record is found many records at a time. A change writes one record where it
-/// stands, by one call, and syncs the file: where the store fails in it, the file is as before or has been changed.
+/// A look-up reads a record where it stands; the next record is found many records at a time. A change writes one
+/// record where it stands, by one call, and syncs the file: where the store fails in it, the file is as before or has
+/// been changed.
 #[derive(Drop)]
 pub struct V1File {
     pub(crate) name: String,
@@ -44,7 +46,8 @@ impl<S: Store> QuotaFile<S> for V1File {
 
     ghost seen = { λ file. flat_seen file.opened (string_bytes file.name) file.format };
 
-    ghost is_damage = { λ file store damage. IsNamedDefect S.tells ((S.seen store).files (string_bytes file.name)) file.format damage };
+    ghost is_damage = { λ file store damage.
+        IsNamedDefect S.tells ((S.seen store).files (string_bytes file.name)) file.format damage };
 
     ghost may_refuse = { λ _ fault. MayRefuse fault };
 
@@ -71,9 +74,11 @@ impl<S: Store> QuotaFile<S> for V1File {
     ghost rests_on_named = { λ file one other value named held.
         rests_on_named _ _ _ file.format file.len file.times file.window value named held };
 
-    ghost held_stands = { λ file store value held. held_stands _ _ file.format file.len file.times file.window value held };
+    ghost held_stands = { λ file store value held.
+        held_stands _ _ file.format file.len file.times file.window value held };
 
-    ghost passing_adds_up = { λ seen file from mid to first second. passing_adds_up seen.format (bytes_of file) from mid to first second };
+    ghost passing_adds_up = { λ seen file from mid to first second.
+        passing_adds_up seen.format (bytes_of file) from mid to first second };
 
     fn format(&self) -> Format {
         self.format

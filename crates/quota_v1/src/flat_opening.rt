@@ -16,14 +16,14 @@ use outside::Store;
 use quota_types::{Damage, DamageKind, Format, Grace};
 use std::alloc::Global;
 
-/// Opens a flat file of a format, of which record 0 is read for its times, and nothing else. Nothing in a file tells which flat
-/// format it has.
+/// Opens a flat file of a format, of which record 0 is read for its times, and nothing else. Nothing in a file tells
+/// which flat format it has.
 ///
 /// # Errors
 ///
-/// It is refused where there is no such file, where it has more bytes than 1,048,576 records of the format (41,943,040 where it is
-/// vfsold, and 33,554,432 where it is vfsold32), and where it does not consist of whole records, in this order; and where the store
-/// failed or there was not enough memory.
+/// It is refused where there is no such file, where it has more bytes than 1,048,576 records of the format (41,943,040
+/// where it is vfsold, and 33,554,432 where it is vfsold32), and where it does not consist of whole records, in this
+/// order; and where the store failed or there was not enough memory.
 pub fn open_v1<S: Store>(
     alloc: Global,
     store: &mut S,

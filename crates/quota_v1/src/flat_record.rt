@@ -17,8 +17,8 @@ pub(crate) const TIMES: usize = 24;
 /// The grace period that 0, or no stored period, stands for: 7 days, in seconds.
 const WEEK: u64 = 604_800;
 
-/// Where the second of the two times of a record begins (`struct v1_disk_dqblk`, whose times have 64 bits where it is one of vfsold,
-/// and 32 bits where it is one of vfsold32).
+/// Where the second of the two times of a record begins (`struct v1_disk_dqblk`, whose times have 64 bits where it is
+/// one of vfsold, and 32 bits where it is one of vfsold32).
 pub(crate) fn second_time(format: Format) -> usize
     ensures { result ≡ inode_time_at format }
 {

@@ -1,6 +1,6 @@
 //! Laws of flat files: what they mean, and where their records stand.
 
-ghost use Rattle.std.specs.Prelude.{◌≡◌, ◌+◌, ◌*◌, ◌<◌, ◌≤◌, true, ℕ, List};
+ghost use Rattle.std.specs.Prelude.{◌≡◌, ◌+◌, ◌<◌, ◌≤◌, true, ℕ, List};
 ghost use Rattle.quota_value.specs.QuotaValue.{QuotaValue};
 ghost use Rattle.quota_v1.specs.FlatFile.{FlatStandsFor};
 ghost use Rattle.quota_types.specs.Format.{is_flat, record_size};
@@ -15,11 +15,12 @@ pub fn a_file_has_one_meaning_of_a_kind()
         → value.kind ≡ other.kind → value ≡ other }
 {}
 
-/// Records stand one after another from the first byte on, with nothing between, and don't overlap; those of vfsold have 40 bytes,
-/// and those of vfsold32 have 32. A file has room for those of the identifiers below 1,048,576.
+/// Records stand one after another from the first byte on, with nothing between, and don't overlap; those of vfsold
+/// have 40 bytes, and those of vfsold32 have 32. A file has room for those of the identifiers below 1,048,576.
 pub fn records_stand_one_behind_another()
     ensures first { (format : Format) → record_start format 0 ≡ 0 }
-    ensures next { (format : Format) (id : ℕ) → record_start format (id + 1) ≡ record_start format id + record_size format }
+    ensures next { (format : Format) (id : ℕ)
+        → record_start format (id + 1) ≡ record_start format id + record_size format }
     ensures apart { (format : Format) (id other : ℕ) → id < other
         → record_start format id + record_size format ≤ record_start format other }
     ensures all { (format : Format) → record_start format 1048576 ≡ flat_limit format }
@@ -31,7 +32,8 @@ pub fn records_stand_one_behind_another()
 /// have eight each, and those of vfsold32 have four.
 pub fn a_record_ends_with_its_times()
     ensures block { (format : Format) (id : ℕ) → block_time_start format id ≡ record_start format id + 24 }
-    ensures inode { (format : Format) (id : ℕ) → inode_time_start format id ≡ block_time_start format id + time_width format }
+    ensures inode { (format : Format) (id : ℕ)
+        → inode_time_start format id ≡ block_time_start format id + time_width format }
     ensures end { (format : Format) → is_flat format ≡ true → (id : ℕ)
         → inode_time_start format id + time_width format ≡ record_start format (id + 1) }
     ensures width { time_width V1 ≡ 8 }

@@ -33,8 +33,8 @@ fn stored_at(format: Format, bytes: &[u8], at: usize) -> Rec
     }
 }
 
-/// The bytes of a record, from a place on, as the record of an identifier: identifier 0 has no timers, since the times there are the
-/// grace periods.
+/// The bytes of a record, from a place on, as the record of an identifier: identifier 0 has no timers, since the times
+/// there are the grace periods.
 fn timed_at(format: Format, bytes: &[u8], at: usize, id: u32) -> Rec
     requires flat { is_flat format ≡ true }
     requires within { at + record_size format ≤ length bytes.now }
@@ -78,7 +78,8 @@ pub(crate) fn first_record(
     requires begins { first ≤ from }
     requires within { record_start format to ≤ record_start format first + length bytes.now }
     requires small { to ≤ 1048576 }
-    ensures found { (file : List ℕ) → length file % record_size format ≡ 0 → AreFrom file (record_start format first) bytes.now
+    ensures found { (file : List ℕ) → length file % record_size format ≡ 0
+        → AreFrom file (record_start format first) bytes.now
         → IsFirstRecord format file from to result }
     ensures kept { IfSome result (λ entry. IsKept format entry.id entry.rec) }
     ensures between { IfSome result (λ entry. (from ≤ entry.id) × (entry.id < to)) }

@@ -1,4 +1,5 @@
-ghost use Rattle.std.specs.Prelude.{◌≡◌, ◌⊎◌, ◌+◌, ◌-◌, ◌*◌, ◌^◌, ◌<◌, ◌≤◌, ℕ, List, Ok, Err, Some, length, true, min, IfErr, IfOk, IfSome, IsTrue, OnErr, OnOk, is_ok, []};
+ghost use Rattle.std.specs.Prelude.{◌≡◌, ◌⊎◌, ◌+◌, ◌-◌, ◌^◌, ◌<◌, ◌≤◌, ℕ, List, Ok, Err, Some, length, true, min};
+ghost use Rattle.std.specs.Prelude.{IfErr, IfOk, IfSome, IsTrue, OnErr, OnOk, is_ok, []};
 ghost use Rattle.opened_file.specs.Committed.{CommitsOnce};
 ghost use Rattle.file_blocks.specs.Block.{file_of};
 ghost use Rattle.outside.specs.Count.{Rose, counted};
@@ -22,8 +23,8 @@ use opened_file::FileFault;
 use outside::{Store, StoreFault};
 use quota_types::{Damage, DamageKind, Format, Grace, Rec};
 
-/// Reads the bytes of a file from a place on, as many as `buf` holds, and answers how many there were. Past the end of the file
-/// there are zeros. After a fault `buf` may hold anything.
+/// Reads the bytes of a file from a place on, as many as `buf` holds, and answers how many there were. Past the end of
+/// the file there are zeros. After a fault `buf` may hold anything.
 pub(crate) fn read_from<S: Store>(
     store: &mut S,
     name: &str,
@@ -46,7 +47,8 @@ pub(crate) fn read_from<S: Store>(
     Ok(count)
 }
 
-/// The record of an identifier, read where it stands in a file that had `len` bytes. None is read where it stands behind them.
+/// The record of an identifier, read where it stands in a file that had `len` bytes. None is read where it stands
+/// behind them.
 ///
 /// # Errors
 ///
@@ -116,14 +118,15 @@ fn write_synced<S: Store>(
     ensures writes { (S.seen store.new).writes ≤ (S.seen store.old).writes + 1 }
     ensures rose { Rose (S.seen store.old).writes (S.seen store.new).writes }
     ensures commits { CommitsOnce (λ worlds. S.commits worlds store.old store.new) (IsTrue S.tells
-        → (S.seen store.new).files ≡ with_bytes (S.seen store.old).files name.now at bytes.now) (S.seen store.new).files }
+        → (S.seen store.new).files ≡ with_bytes (S.seen store.old).files name.now at bytes.now)
+        (S.seen store.new).files }
 {
     store.write(name, at, bytes)?;
     store.sync(name)
 }
 
-/// Writes the record of an identifier where it stands, and syncs the file. In the place of the timers of identifier 0 these times
-/// are written, which are the file's grace periods.
+/// Writes the record of an identifier where it stands, and syncs the file. In the place of the timers of identifier 0
+/// these times are written, which are the file's grace periods.
 ///
 /// # Errors
 ///
@@ -144,7 +147,8 @@ pub(crate) fn write_record<S: Store>(
         (S.seen store.old) (S.seen store.new) result }
     ensures reads { (S.seen store.new).reads ≡ (S.seen store.old).reads }
     ensures commits { CommitsOnce (λ worlds. S.commits worlds store.old store.new) (IsTrue S.tells
-        → MakesOne (PutsRecord format id rec.now times) name.now (S.seen store.old).files (S.seen store.new).files) (S.seen store.new).files }
+        → MakesOne (PutsRecord format id rec.now times) name.now (S.seen store.old).files (S.seen store.new).files)
+        (S.seen store.new).files }
 {
     let times = times_in(id, rec, times);
     let bytes = record_bytes(format, rec, times);
@@ -167,8 +171,8 @@ fn times_in(id: u32, rec: &Rec, times: Grace) -> Grace
     }
 }
 
-/// Sets the grace periods of a file, which are the times of record 0: that is read, and written with them, and the file is synced.
-/// Where it has no record 0 it gets one.
+/// Sets the grace periods of a file, which are the times of record 0: that is read, and written with them, and the file
+/// is synced. Where it has no record 0 it gets one.
 ///
 /// # Errors
 ///
@@ -181,9 +185,11 @@ pub(crate) fn write_grace<S: Store>(
 ) -> Result<(), StoreFault>
     requires flat { is_flat format ≡ true }
     requires fits { grace_unfit format grace ≡ None }
-    ensures changes { ChangesFile S.tells (FlatGraced format grace) name.now (S.seen store.old) (S.seen store.new) result }
+    ensures changes { ChangesFile S.tells (FlatGraced format grace) name.now (S.seen store.old)
+        (S.seen store.new) result }
     ensures commits { CommitsOnce (λ worlds. S.commits worlds store.old store.new) (IsTrue S.tells
-        → MakesOne (FlatGraced format grace) name.now (S.seen store.old).files (S.seen store.new).files) (S.seen store.new).files }
+        → MakesOne (FlatGraced format grace) name.now (S.seen store.old).files (S.seen store.new).files)
+        (S.seen store.new).files }
 {
     let mut bytes = [0; MOST_RECORD];
     read_from(store, name, 0, &mut bytes)?;

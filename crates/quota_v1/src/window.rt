@@ -1,4 +1,5 @@
-ghost use Rattle.std.specs.Prelude.{◌≡◌, ◌⊎◌, ◌+◌, ◌*◌, ◌%◌, ◌<◌, ◌≤◌, true, false, ℕ, List, Option, Some, length, IfOk, IfSome, IsTrue, OnErr, OnOk, is_ok, []};
+ghost use Rattle.std.specs.Prelude.{◌≡◌, ◌⊎◌, ◌+◌, ◌%◌, ◌<◌, ◌≤◌, true, false, ℕ, List, Option, Some, length, IfOk};
+ghost use Rattle.std.specs.Prelude.{IfSome, IsTrue, OnErr, OnOk, is_ok, []};
 ghost use Rattle.file_blocks.specs.Block.{file_of};
 ghost use Rattle.outside.specs.Count.{Rose};
 ghost use Rattle.outside.specs.Frame.{OnlyReads};
@@ -46,7 +47,8 @@ impl Window {
 
     /// Whether the record of an identifier is known.
     fn has(&self, format: Format, id: u32) -> bool
-        ensures { result ≡ true → (self.now.known ≡ true) × (self.now.first ≤ id) × (id < self.now.first + records_read format) }
+        ensures { result ≡ true
+            → (self.now.known ≡ true) × (self.now.first ≤ id) × (id < self.now.first + records_read format) }
     {
         self.known && self.first <= id && id - self.first < records_read(format)
     }
@@ -60,7 +62,8 @@ impl Window {
         id: u32,
     ) -> Result<(), StoreFault>
         requires { id < 1048576 }
-        ensures has { OnOk result ((self.new.known ≡ true) × (self.new.first ≤ id) × (id < self.new.first + records_read format)) }
+        ensures has { OnOk result
+            ((self.new.known ≡ true) × (self.new.first ≤ id) × (id < self.new.first + records_read format)) }
         ensures fresh { OnOk result (((S.seen store.new).reads ≡ (S.seen store.old).reads) ⊎ (self.new.first ≡ id)) }
         ensures held { IsTrue S.tells → HoldsWindow format (file_of (S.seen store.old).files name.now) self.old
             → HoldsWindow format (file_of (S.seen store.old).files name.now) self.new }
@@ -95,8 +98,8 @@ impl Window {
         first_record(format, &self.bytes, self.first, from, to)
     }
 
-    /// The first record from an identifier on, in a file that has `records` of them. As many as one call of `read` gives
-    /// are read once at most, and none that is known.
+    /// The first record from an identifier on, in a file that has `records` of them. As many as one call of `read`
+    /// gives are read once at most, and none that is known.
     ///
     /// # Errors
     ///
@@ -112,7 +115,8 @@ impl Window {
         requires flat { is_flat format ≡ true }
         requires few { records ≤ 1048576 }
         ensures found { IfOk result (λ found. IsTrue S.tells → (file : List ℕ)
-            → (S.seen store.old).files name.now ≡ Some file → length file % record_size format ≡ 0 → HoldsWindow format file self.old
+            → (S.seen store.old).files name.now ≡ Some file → length file % record_size format ≡ 0
+            → HoldsWindow format file self.old
             → IsFirstRecord format file from records found) }
         ensures kept { IfOk result (λ found. IfSome found (λ entry. IsKept format entry.id entry.rec)) }
         ensures between { IfOk result (λ found. IfSome found (λ entry. (from ≤ entry.id) × (entry.id < records))) }

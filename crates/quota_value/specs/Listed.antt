@@ -17,4 +17,5 @@ records_of entries = from_entries (map (λ entry. (entry.id, entry.rec)) entries
 
 -- the value that has this header's values, and the records of these entries
 abbrev pub value_of : Kind → Format → Grace → ℕ → List Entry → QuotaValue
-value_of kind format grace flags entries = record { kind = kind; format = format; grace = grace; flags = flags; records = records_of entries }
+value_of kind format grace flags entries =
+    record { kind = kind; format = format; grace = grace; flags = flags; records = records_of entries }

@@ -13,19 +13,22 @@ pub data GroupCase (group : CauseGroup) (failed stated : Type 0) : Type 0 where
   ByMemory : status_in group ≡ 5 → GroupCase group failed stated
   ByStep : status_in group ≢ 4 → status_in group ≢ 5 → stated → GroupCase group failed stated
 
-pub group_case : (group : CauseGroup) (failed stated : Type 0) → ByGroup group failed stated → GroupCase group failed stated
+pub group_case : (group : CauseGroup) (failed stated : Type 0) → ByGroup group failed stated
+    → GroupCase group failed stated
 group_case Fault failed stated by = ByFault refl by
 group_case NoMemory failed stated by = ByMemory refl
 group_case _ failed stated by = ByStep (λ e. omega (arith, e)) (λ e. omega (arith, e)) by
 
 -- what holds by a group holds where what failed and what is stated do
-pub by_group : (group : CauseGroup) (failed failed' stated stated' : Type 0) → (failed → failed') → (stated → stated') → ByGroup group failed stated → ByGroup group failed' stated'
+pub by_group : (group : CauseGroup) (failed failed' stated stated' : Type 0) → (failed → failed') → (stated → stated')
+    → ByGroup group failed stated → ByGroup group failed' stated'
 by_group Fault failed failed' stated stated' fails states by = fails by
 by_group NoMemory failed failed' stated stated' fails states by = tt
 by_group _ failed failed' stated stated' fails states by = states by
 
 -- what holds by a group where it is a fault, and where it is neither that nor lack of memory
-pub by_group_of : (group : CauseGroup) (failed stated : Type 0) → (status_in group ≡ 4 → failed) → (status_in group ≢ 4 → status_in group ≢ 5 → stated) → ByGroup group failed stated
+pub by_group_of : (group : CauseGroup) (failed stated : Type 0) → (status_in group ≡ 4 → failed)
+    → (status_in group ≢ 4 → status_in group ≢ 5 → stated) → ByGroup group failed stated
 by_group_of Fault failed stated fails states = fails refl
 by_group_of NoMemory failed stated fails states = tt
 by_group_of _ failed stated fails states = states (λ e. omega (arith, e)) (λ e. omega (arith, e))

@@ -6,9 +6,15 @@ use Rattle.quota_types.specs.Field.{field_name, is_of_identifier}
 use Rattle.quota_types.specs.declared.damage.DamageKind.{DamageKind}
 use Rattle.quota_types.specs.declared.damage.DamageKind.TheVariants.{PartialRecord}
 use Rattle.refusals.specs.declared.cause.Cause.{Cause}
-use Rattle.refusals.specs.declared.cause.Cause.TheVariants.{StoreFault, NoFile, TooLarge, SourceFault, SinkFault, LinkFault, Memory, NotQuota, WrongKind, UnknownVersion, BadBlockCount, OtherFormat, Damaged, Full, NoRoom, UnknownName, BadNumber, TargetExists, SameName, BadForm, BadLine, LongLine, Conflict, Usage}
+use Rattle.refusals.specs.declared.cause.Cause.TheVariants.{StoreFault, NoFile, TooLarge, SourceFault, SinkFault}
+use Rattle.refusals.specs.declared.cause.Cause.TheVariants.{LinkFault, Memory, NotQuota, WrongKind, UnknownVersion}
+use Rattle.refusals.specs.declared.cause.Cause.TheVariants.{BadBlockCount, OtherFormat, Damaged, Full, NoRoom}
+use Rattle.refusals.specs.declared.cause.Cause.TheVariants.{UnknownName, BadNumber, TargetExists, SameName, BadForm}
+use Rattle.refusals.specs.declared.cause.Cause.TheVariants.{BadLine, LongLine, Conflict, Usage}
 use Rattle.refusals.specs.declared.cause.UsageKind.{UsageKind}
-use Rattle.refusals.specs.declared.cause.UsageKind.TheVariants.{NoCommand, UnknownCommand, UnknownOption, MissingValue, BadValue, Repeated, Excludes, MissingOption, WrongOperands, BadFileName}
+use Rattle.refusals.specs.declared.cause.UsageKind.TheVariants.{NoCommand, UnknownCommand, UnknownOption, MissingValue}
+use Rattle.refusals.specs.declared.cause.UsageKind.TheVariants.{BadValue, Repeated, Excludes, MissingOption}
+use Rattle.refusals.specs.declared.cause.UsageKind.TheVariants.{WrongOperands, BadFileName}
 use Rattle.refusals.specs.declared.reason.Place.{Place}
 use Rattle.refusals.specs.declared.reason.Refusal.{Refusal}
 
@@ -68,7 +74,8 @@ text_of SameName name = name ∷ codes ": same name" ∷ []
 text_of (BadForm line) name = codes "bad form at line " ∷ decimal line ∷ []
 text_of (BadLine line) name = input_called name ∷ codes ": bad line " ∷ decimal line ∷ []
 text_of (LongLine line) name = input_called name ∷ codes ": long line " ∷ decimal line ∷ []
-text_of (Conflict line first) name = input_called name ∷ codes ": line " ∷ decimal line ∷ codes " conflicts with line " ∷ decimal first ∷ []
+text_of (Conflict line first) name =
+    input_called name ∷ codes ": line " ∷ decimal line ∷ codes " conflicts with line " ∷ decimal first ∷ []
 text_of (Usage kind word) name = codes "usage: " ∷ usage_name kind ∷ codes " at word " ∷ decimal word ∷ []
 
 -- the number of a line in front of what is said, where something stands in one
@@ -78,11 +85,13 @@ line_text front (Some line) = front ∷ decimal line ∷ codes ": " ∷ []
 
 -- the lines that something stands in are named in front: that of a script, and then that of an input
 abbrev pub front_of : Place → List ℕ
-front_of place = concat (line_text (codes "line ") place.line) ++ concat (line_text (codes "input line ") place.input_line)
+front_of place =
+    concat (line_text (codes "line ") place.line) ++ concat (line_text (codes "input line ") place.input_line)
 
 -- the error line of a refusal
 unfoldable pub error_line : Refusal → List ℕ
-error_line refusal = codes "quota: " ++ front_of refusal.place ++ concat (text_of refusal.cause refusal.name) ++ codes "\n"
+error_line refusal =
+    codes "quota: " ++ front_of refusal.place ++ concat (text_of refusal.cause refusal.name) ++ codes "\n"
 
 -- what is said at the end of a command
 abbrev pub closing_line : Option Refusal → List ℕ

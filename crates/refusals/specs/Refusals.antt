@@ -13,7 +13,8 @@ nowhere = record { line = None; input_line = None }
 abbrev pub refusal_of : Cause → List ℕ → Refusal
 refusal_of cause name = record { cause = cause; name = name; place = nowhere }
 
--- what is said of a word, and of a value for which there is no room, may stand in a line of an input; no other cause does
+-- what is said of a word, and of a value for which there is no room, may stand in a line of an input; no other cause
+-- does
 abbrev pub stands_in_line : Cause → Bool
 stands_in_line UnknownName = true
 stands_in_line BadNumber = true
@@ -24,4 +25,8 @@ stands_in_line _ = false
 abbrev pub in_line : ℕ → Option Refusal → Option Refusal
 in_line line None = None
 in_line line (Some refusal) =
-    Some (record { cause = refusal.cause; name = refusal.name; place = record { line = Some line; input_line = refusal.place.input_line } })
+    Some (record {
+      cause = refusal.cause;
+      name = refusal.name;
+      place = record { line = Some line; input_line = refusal.place.input_line };
+    })

@@ -1,13 +1,17 @@
 -- The groups of causes, and the status with which the program ends.
 use Rattle.std.specs.Prelude.{ℕ, Option, Some, None, ⊤}
 use Rattle.refusals.specs.declared.cause.Cause.{Cause}
-use Rattle.refusals.specs.declared.cause.Cause.TheVariants.{StoreFault, NoFile, TooLarge, SourceFault, SinkFault, LinkFault, Memory, NotQuota, WrongKind, UnknownVersion, BadBlockCount, OtherFormat, Damaged, Full, NoRoom, UnknownName, BadNumber, TargetExists, SameName, BadForm, BadLine, LongLine, Conflict, Usage}
+use Rattle.refusals.specs.declared.cause.Cause.TheVariants.{StoreFault, NoFile, TooLarge, SourceFault, SinkFault}
+use Rattle.refusals.specs.declared.cause.Cause.TheVariants.{LinkFault, Memory, NotQuota, WrongKind, UnknownVersion}
+use Rattle.refusals.specs.declared.cause.Cause.TheVariants.{BadBlockCount, OtherFormat, Damaged, Full, NoRoom}
+use Rattle.refusals.specs.declared.cause.Cause.TheVariants.{UnknownName, BadNumber, TargetExists, SameName, BadForm}
+use Rattle.refusals.specs.declared.cause.Cause.TheVariants.{BadLine, LongLine, Conflict, Usage}
 use Rattle.refusals.specs.declared.cause.CauseGroup.{CauseGroup}
 use Rattle.refusals.specs.declared.cause.CauseGroup.TheVariants.{Denied, BadWords, BadFile, Fault, NoMemory}
 use Rattle.refusals.specs.declared.reason.Refusal.{Refusal}
 
--- what a cause is one of: the command is refused, the words are outside the grammar, the file is no quota file of the kind
--- and format or is damaged, something outside failed, or there was not enough memory
+-- what a cause is one of: the command is refused, the words are outside the grammar, the file is no quota file of the
+-- kind and format or is damaged, something outside failed, or there was not enough memory
 abbrev pub group_of : Cause → CauseGroup
 group_of StoreFault = Fault
 group_of NoFile = Denied
@@ -51,8 +55,8 @@ abbrev pub end_status : Option Refusal → ℕ
 end_status None = 0
 end_status (Some refusal) = status_of refusal.cause
 
--- What holds by the group of a cause: for a fault that something failed, for a lack of memory nothing, and for any other
--- cause what is stated of it.
+-- What holds by the group of a cause: for a fault that something failed, for a lack of memory nothing, and for any
+-- other cause what is stated of it.
 abbrev pub ByGroup : CauseGroup → (failed stated : Type 0) → Type 0
 ByGroup Fault failed stated = failed
 ByGroup NoMemory failed stated = ⊤

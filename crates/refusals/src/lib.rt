@@ -7,6 +7,7 @@
 mod cause;
 mod error_line;
 mod piece;
+mod pieces;
 mod reason;
 mod word;
 

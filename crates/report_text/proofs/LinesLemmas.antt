@@ -1,5 +1,6 @@
 -- The lines of identifiers that are put one after another.
-use Rattle.std.proofs.Common.{◌≡◌, ℕ, Bool, List, [], ◌∷◌, ◌++◌, Option, Some, None, refl, sym, ap, subst, ◌∙◌, arith, append_assoc, append-nil}
+use Rattle.std.proofs.Common.{◌≡◌, ℕ, Bool, List, [], ◌∷◌, ◌++◌, Option, Some, None, refl, sym, ap, subst, ◌∙◌, arith}
+use Rattle.std.proofs.Common.{append_assoc, append-nil}
 use Rattle.std.specs.FinMap.{entries}
 use Rattle.quota_types.specs.declared.file_kind.Kind.{Kind}
 use Rattle.quota_types.specs.declared.record.Rec.{Rec}
@@ -15,25 +16,31 @@ use Rattle.report_text.proofs.GatherLemmas.{gathers_none, gathers_then, writes_m
 
 module _ (names : ℕ → Option (List ℕ)) (now : ℕ) (options : Options) where
   -- the lines of entries are that of the first, where it is shown, and those of the others
-  lines-cons : (entry : ℕ × Rec) (es : List (ℕ × Rec)) → lines_of names now options (entry ∷ es) ≡ shown_line names now options entry ++ lines_of names now options es
+  lines-cons : (entry : ℕ × Rec) (es : List (ℕ × Rec))
+      → lines_of names now options (entry ∷ es) ≡ shown_line names now options entry ++ lines_of names now options es
   lines-cons entry es = grind arith
 
   -- the report of a value is the head of its kind and grace periods, and the lines of its entries
-  pub report_is : (value : QuotaValue) (kind : Kind) (grace : Grace) (title : List ℕ) → value.kind ≡ kind → grace ≡ value.grace
-      → report_of value names title now options ≡ head_of kind title grace ++ lines_of names now options (entries value.records)
+  pub report_is : (value : QuotaValue) (kind : Kind) (grace : Grace) (title : List ℕ) → value.kind ≡ kind
+      → grace ≡ value.grace
+      → report_of value names title now options
+      ≡ head_of kind title grace ++ lines_of names now options (entries value.records)
   unfolding report_of
   report_is value kind grace title same_kind same_grace =
       ap (λ (k : Kind). head_of k title value.grace ++ lines_of names now options (entries value.records)) same_kind
       ∙ ap (λ (g : Grace). head_of kind title g ++ lines_of names now options (entries value.records)) (sym same_grace)
 
   -- The lines of the identifiers up to `after` were put.
-  pub record IsPutUpTo (tells : Bool) (written buffered written_now buffered_now : List ℕ) (records : Records) (after : Option ℕ) : Type 0 where
+  pub record IsPutUpTo (tells : Bool) (written buffered written_now buffered_now : List ℕ) (records : Records)
+      (after : Option ℕ) : Type 0 where
     pub lines : List ℕ
     pub gathers : Gathers tells written buffered written_now buffered_now lines
-    pub whole : lines ++ lines_of names now options (entries_after after (entries records)) ≡ lines_of names now options (entries records)
+    pub whole : lines ++ lines_of names now options (entries_after after (entries records))
+        ≡ lines_of names now options (entries records)
 
   -- none yet
-  pub put_none : (tells : Bool) (written buffered : List ℕ) (records : Records) → IsPutUpTo tells written buffered written buffered records None
+  pub put_none : (tells : Bool) (written buffered : List ℕ) (records : Records)
+      → IsPutUpTo tells written buffered written buffered records None
   put_none tells written buffered records = record {
     lines = [];
     gathers = gathers_none tells written buffered;
@@ -41,13 +48,16 @@ module _ (names : ℕ → Option (List ℕ)) (now : ℕ) (options : Options) whe
   }
 
   -- the lines that are left begin with that of the next one
-  left : (lines : List ℕ) (records : Records) (after : Option ℕ) (entry : Entry) → IsNextAfter after records (Some entry)
-      → (lines ++ shown_line names now options (entry.id, entry.rec)) ++ lines_of names now options (entries_after (Some entry.id) (entries records))
+  left : (lines : List ℕ) (records : Records) (after : Option ℕ) (entry : Entry)
+      → IsNextAfter after records (Some entry)
+      → (lines ++ shown_line names now options (entry.id, entry.rec))
+      ++ lines_of names now options (entries_after (Some entry.id) (entries records))
       ≡ lines ++ lines_of names now options (entries_after after (entries records))
   left lines records after entry next =
       append_assoc lines _ _
       ∙ ap (λ (rest : List ℕ). lines ++ rest)
-      (sym (lines-cons (entry.id, entry.rec) _) ∙ ap (lines_of names now options) (sym (entries_after-next after records entry next)))
+      (sym (lines-cons (entry.id, entry.rec) _)
+      ∙ ap (lines_of names now options) (sym (entries_after-next after records entry next)))
 
   module _ (tells : Bool) (written buffered written_1 buffered_1 : List ℕ) (records : Records) (after : Option ℕ)
       (put : IsPutUpTo tells written buffered written_1 buffered_1 records after) where
@@ -62,10 +72,13 @@ module _ (names : ℕ → Option (List ℕ)) (now : ℕ) (options : Options) whe
     }
 
     -- all of them
-    pub put_all : IsNextAfter after records None → Gathers tells written buffered written_1 buffered_1 (lines_of names now options (entries records))
+    pub put_all : IsNextAfter after records None
+        → Gathers tells written buffered written_1 buffered_1 (lines_of names now options (entries records))
     put_all none =
         let all : put.lines ≡ lines_of names now options (entries records) =
-        sym (append-nil put.lines) ∙ ap (λ (es : List (ℕ × Rec)). put.lines ++ lines_of names now options es) (sym (entries_after-end after records none)) ∙ put.whole in
+        sym (append-nil put.lines)
+        ∙ ap (λ (es : List (ℕ × Rec)). put.lines ++ lines_of names now options es)
+        (sym (entries_after-end after records none)) ∙ put.whole in
         subst (λ (t : List ℕ). Gathers tells written buffered written_1 buffered_1 t) all put.gathers
 
     -- a fault while the line of the next one is put

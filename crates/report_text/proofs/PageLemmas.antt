@@ -1,6 +1,8 @@
 -- Texts that are written over spaces.
-use Rattle.std.proofs.Common.{◌≡◌, ℕ, suc, ◌+◌, ◌-◌, ◌≤◌, List, [], ◌∷◌, ◌++◌, length, max, take, drop, replicate, refl, sym, ap, ◌∙◌, arith, append_assoc, take-take, length-take-le}
-use Rattle.std.proofs.lemmas.List.{take-append-drop, drop-take, drop-drop, drop-replicate, take-replicate, replicate-append-replicate, take_at, drop_at}
+use Rattle.std.proofs.Common.{◌≡◌, ℕ, suc, ◌+◌, ◌-◌, ◌≤◌, List, [], ◌∷◌, ◌++◌, length, max, take, drop, replicate, refl}
+use Rattle.std.proofs.Common.{sym, ap, ◌∙◌, arith, append_assoc, take-take, length-take-le}
+use Rattle.std.proofs.lemmas.List.{take-append-drop, drop-take, drop-drop, drop-replicate, take-replicate}
+use Rattle.std.proofs.lemmas.List.{replicate-append-replicate, take_at, drop_at}
 use Rattle.report_text.specs.Report.{column, left_in}
 
 -- the first n + m elements are the first n, and m behind them
@@ -55,7 +57,8 @@ module _ (capacity len : ℕ) (bytes text : List ℕ) (whole : length bytes ≡ 
       ∙ ap (λ (k : ℕ). replicate k 32) all
 
   -- Digits are written over spaces, so that they end where a column ends.
-  module _ (width start : ℕ) (digits now : List ℕ) (narrow : length digits ≤ width) (room : length text + 1 + width ≤ capacity)
+  module _ (width start : ℕ) (digits now : List ℕ) (narrow : length digits ≤ width)
+      (room : length text + 1 + width ≤ capacity)
       (ends : start + length digits ≡ len + 1 + width) (before : take start now ≡ take start bytes)
       (written : drop start now ≡ digits ++ drop (len + 1 + width) bytes) where
     -- the text, and the spaces of the column
@@ -80,10 +83,12 @@ module _ (capacity len : ℕ) (bytes text : List ℕ) (whole : length bytes ≡ 
         let end : len + (1 + width) ≡ len + 1 + width = omega arith in
         ap (λ (k : ℕ). drop k now) (sym ends) ∙ sym (drop-drop (length digits) start now)
         ∙ ap (λ (xs : List ℕ). drop (length digits) xs) written ∙ drop_at digits _ _ refl
-        ∙ ap (λ (k : ℕ). drop k bytes) (sym end) ∙ spaces_past (1 + width) ∙ ap (λ (k : ℕ). replicate (capacity - k) 32) end
+        ∙ ap (λ (k : ℕ). drop k bytes) (sym end) ∙ spaces_past (1 + width)
+        ∙ ap (λ (k : ℕ). replicate (capacity - k) 32) end
 
   -- Digits are written over spaces, behind the text.
-  module _ (width start : ℕ) (digits now : List ℕ) (room : len + length digits ≤ capacity) (most : ℕ) (most_is : most ≡ max (length digits) width) (fits : len + most ≤ capacity)
+  module _ (width start : ℕ) (digits now : List ℕ) (room : len + length digits ≤ capacity) (most : ℕ)
+      (most_is : most ≡ max (length digits) width) (fits : len + most ≤ capacity)
       (ends : start + length digits ≡ len + length digits) (before : take start now ≡ take start bytes)
       (written : drop start now ≡ digits ++ drop (len + length digits) bytes) where
     behind : drop len now ≡ digits ++ drop (len + length digits) bytes
@@ -95,12 +100,14 @@ module _ (capacity len : ℕ) (bytes text : List ℕ) (whole : length bytes ≡ 
         let same : start ≡ len = omega (arith, ends) in
         let places : most ≡ length digits + (width - length digits) = omega (arith, most_is) in
         take_both len most now
-        ∙ ap (λ (xs : List ℕ). xs ++ take most (drop len now)) (ap (λ (k : ℕ). take k now) (sym same) ∙ before ∙ ap (λ (k : ℕ). take k bytes) same ∙ is)
+        ∙ ap (λ (xs : List ℕ). xs ++ take most (drop len now))
+        (ap (λ (k : ℕ). take k now) (sym same) ∙ before ∙ ap (λ (k : ℕ). take k bytes) same ∙ is)
         ∙ ap (λ (xs : List ℕ). text ++ take most xs) behind
         ∙ ap (λ (k : ℕ). text ++ take k (digits ++ drop (len + length digits) bytes)) places
         ∙ ap (λ (xs : List ℕ). text ++ xs) (take_past digits (width - length digits) (drop (len + length digits) bytes)
         ∙ ap (λ (xs : List ℕ). digits ++ take (width - length digits) xs) (spaces_past (length digits))
-        ∙ ap (λ (xs : List ℕ). digits ++ xs) (take-replicate (width - length digits) (capacity - (len + length digits)) 32 (omega (arith, places, fits))))
+        ∙ ap (λ (xs : List ℕ). digits ++ xs)
+        (take-replicate (width - length digits) (capacity - (len + length digits)) 32 (omega (arith, places, fits))))
 
     -- the bytes behind it are spaces still
     pub left_spaces : drop (len + most) now ≡ replicate (capacity - (len + most)) 32
@@ -113,4 +120,5 @@ module _ (capacity len : ℕ) (bytes text : List ℕ) (whole : length bytes ≡ 
         ∙ ap (λ (k : ℕ). drop k (digits ++ drop (len + length digits) bytes)) places
         ∙ drop_past digits (width - length digits) (drop (len + length digits) bytes)
         ∙ drop-drop (width - length digits) (len + length digits) bytes
-        ∙ ap (λ (k : ℕ). drop k bytes) (all ∙ sym still) ∙ spaces_past (length digits + (width - length digits)) ∙ ap (λ (k : ℕ). replicate (capacity - k) 32) still
+        ∙ ap (λ (k : ℕ). drop k bytes) (all ∙ sym still) ∙ spaces_past (length digits + (width - length digits))
+        ∙ ap (λ (k : ℕ). replicate (capacity - k) 32) still

@@ -1,6 +1,7 @@
 -- The report of a quota file. What the columns mean is what the manual page of repquota says; the widths and the
 -- texts round them are this project's own.
-use Rattle.std.specs.Prelude.{ℕ, ◌-◌, Bool, not, ◌&&◌, ◌||◌, ◌==◌, nat_lt, if◌then◌else◌, List, [], ◌∷◌, ◌++◌, length, replicate, filter, codes, decimal, Option, unwrap_or}
+use Rattle.std.specs.Prelude.{ℕ, ◌-◌, Bool, not, ◌&&◌, ◌||◌, ◌==◌, nat_lt, if◌then◌else◌, List, [], ◌∷◌, ◌++◌, length}
+use Rattle.std.specs.Prelude.{replicate, filter, codes, decimal, Option, unwrap_or}
 use Rattle.std.specs.List.{flat_map}
 use Rattle.std.specs.FinMap.{entries}
 use Rattle.quota_types.specs.declared.file_kind.Kind.{Kind}
@@ -44,11 +45,13 @@ column width text = codes " " ++ right_in width text
 
 -- four columns, of which the first three have this many places and the last has 6
 abbrev pub columns_in : ℕ → Columns → List ℕ
-columns_in width texts = column width texts.used ++ column width texts.soft ++ column width texts.hard ++ column 6 texts.grace
+columns_in width texts =
+    column width texts.used ++ column width texts.soft ++ column width texts.hard ++ column 6 texts.grace
 
 -- a line of columns
 abbrev pub line_of : Row → List ℕ
-line_of row = left_in 12 row.name ++ codes " " ++ row.flags ++ columns_in 10 row.blocks ++ columns_in 8 row.inodes ++ codes "\n"
+line_of row =
+    left_in 12 row.name ++ codes " " ++ row.flags ++ columns_in 10 row.blocks ++ columns_in 8 row.inodes ++ codes "\n"
 
 -- The head.
 
@@ -64,7 +67,9 @@ title_line kind title = title_front kind ++ title ++ codes "\n"
 
 -- `Block grace time: P; Inode grace time: Q`
 unfoldable pub grace_line : Grace → List ℕ
-grace_line grace = codes "Block grace time: " ++ period_of grace.block ++ codes "; Inode grace time: " ++ period_of grace.inode ++ codes "\n"
+grace_line grace =
+    codes "Block grace time: " ++ period_of grace.block ++ codes "; Inode grace time: "
+    ++ period_of grace.inode ++ codes "\n"
 
 -- whose usage the lines show
 abbrev pub kind_heading : Kind → List ℕ
@@ -162,4 +167,5 @@ lines_of names now options es = flat_map (entry_line names now options) (filter 
 
 -- the report on a quota file: its head, and the lines of its identifiers
 unfoldable pub report_of : QuotaValue → (ℕ → Option (List ℕ)) → List ℕ → ℕ → Options → List ℕ
-report_of value names title now options = head_of value.kind title value.grace ++ lines_of names now options (entries value.records)
+report_of value names title now options =
+    head_of value.kind title value.grace ++ lines_of names now options (entries value.records)

@@ -2,7 +2,8 @@ ghost use Rattle.std.specs.Prelude.{◌≡◌, ◌+◌, ◌≤◌, ◌++◌, len
 ghost use Rattle.id_names.specs.FirstMatch.{first_name};
 ghost use Rattle.outside.specs.Count.{Rose};
 ghost use Rattle.outside.specs.Gathering.{Gathers, WritesPrefix};
-ghost use Rattle.report_text.specs.Report.{left_in, name_of, numbered, shown_name, column, columns_in, columns_of, entry_line, grace_end, grace_left, is_shown, shown_line};
+ghost use Rattle.report_text.specs.Report.{left_in, name_of, numbered, shown_name, column, columns_in, columns_of};
+ghost use Rattle.report_text.specs.Report.{entry_line, grace_end, grace_left, is_shown, shown_line};
 
 use crate::page::{CAPACITY, Page};
 use crate::period_text;

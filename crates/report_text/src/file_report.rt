@@ -23,7 +23,8 @@ use report_options::Options;
 
 /// Writes the report of an opened quota file: a head with `title`, which is usually the file's name, and a line for
 /// each identifier that is shown, ascending. A name is that of the first of `names` with the identifier; where there is
-/// none, and with `numeric`, it is `#` and the identifier. `now` is in seconds since 1970. It takes no memory of the heap.
+/// none, and with `numeric`, it is `#` and the identifier. `now` is in seconds since 1970. It takes no memory of the
+/// heap.
 ///
 /// # Errors
 ///
@@ -42,17 +43,21 @@ pub fn report<S: Store, F: QuotaFile<S>, O: Sink>(
     requires { IsTrue (F.seen file.old).usable }
     ensures ok { OnOk result (IsTrue O.tells
         → (value : QuotaValue) → F.holds file.old store.old value → value.kind ≡ kind
-        → (O.seen sink.new).written ≡ (O.seen sink.old).written ++ report_of value (first_name names.now) title.now now options.now) }
+        → (O.seen sink.new).written
+        ≡ (O.seen sink.old).written ++ report_of value (first_name names.now) title.now now options.now) }
     ensures fault { OnErr result (IsTrue O.tells
         → (value : QuotaValue) → F.holds file.old store.old value → value.kind ≡ kind
         → AppendsPrefix (O.seen sink.old).written (O.seen sink.new).written
         (report_of value (first_name names.now) title.now now options.now)) }
     ensures looks { LooksUp file_fault (laws_of S.tells F.stands_for F.makes F.may_leave F.lacks_room F.may_refuse
-        F.change_reads F.change_writes F.done_writes) (file_at (F.holds file.old store.old) (F.seen file.old) (S.seen store.old))
+        F.change_reads F.change_writes F.done_writes)
+        (file_at (F.holds file.old store.old) (F.seen file.old) (S.seen store.old))
         (file_at (F.holds file.new store.new) (F.seen file.new) (S.seen store.new))
         (F.next_reads (F.seen file.old) ((S.seen store.old).files (F.seen file.old).name) * (2 ^ 32 + 1)) result }
-    ensures few { (value : QuotaValue) → F.holds file.old store.old value → (S.seen store.new).reads ≤ (S.seen store.old).reads
-        + reads_over (F.passing_reads (F.seen file.old) ((S.seen store.old).files (F.seen file.old).name)) (length (entries value.records)) }
+    ensures few { (value : QuotaValue) → F.holds file.old store.old value
+        → (S.seen store.new).reads ≤ (S.seen store.old).reads
+        + reads_over (F.passing_reads (F.seen file.old) ((S.seen store.old).files (F.seen file.old).name))
+        (length (entries value.records)) }
     // Nothing is committed.
     ensures commits { S.commits [] store.old store.new }
     ensures unsent { IfErr result (λ fault. OnSink fault (Rose (O.seen sink.old).faults (O.seen sink.new).faults)) }
@@ -83,11 +88,14 @@ fn put_entries<S: Store, F: QuotaFile<S>, O: Sink>(
         → WritesPrefix O.tells (O.seen sink.old).written text.old (O.seen sink.new).written
         (lines_of (first_name names.now) now options.now (entries value.records))) }
     ensures looks { LooksUp file_fault (laws_of S.tells F.stands_for F.makes F.may_leave F.lacks_room F.may_refuse
-        F.change_reads F.change_writes F.done_writes) (file_at (F.holds file.old store.old) (F.seen file.old) (S.seen store.old))
+        F.change_reads F.change_writes F.done_writes)
+        (file_at (F.holds file.old store.old) (F.seen file.old) (S.seen store.old))
         (file_at (F.holds file.new store.new) (F.seen file.new) (S.seen store.new))
         (F.next_reads (F.seen file.old) ((S.seen store.old).files (F.seen file.old).name) * (2 ^ 32 + 1)) result }
-    ensures few { (value : QuotaValue) → F.holds file.old store.old value → (S.seen store.new).reads ≤ (S.seen store.old).reads
-        + reads_over (F.passing_reads (F.seen file.old) ((S.seen store.old).files (F.seen file.old).name)) (length (entries value.records)) }
+    ensures few { (value : QuotaValue) → F.holds file.old store.old value
+        → (S.seen store.new).reads ≤ (S.seen store.old).reads
+        + reads_over (F.passing_reads (F.seen file.old) ((S.seen store.old).files (F.seen file.old).name))
+        (length (entries value.records)) }
     ensures commits { S.commits [] store.old store.new }
     ensures unsent { IfErr result (λ fault. OnSink fault (Rose (O.seen sink.old).faults (O.seen sink.new).faults)) }
     ensures sink_later { (O.seen sink.old).faults ≤ (O.seen sink.new).faults }

@@ -1,4 +1,5 @@
-ghost use Rattle.std.specs.Prelude.{◌≡◌, ℕ, ◌+◌, ◌<◌, ◌≤◌, ◌++◌, [], length, max, take, drop, replicate, decimal, IsTrue, OnOk, OnErr};
+ghost use Rattle.std.specs.Prelude.{◌≡◌, ℕ, ◌+◌, ◌<◌, ◌≤◌, ◌++◌, [], length, max, take, drop, replicate, decimal};
+ghost use Rattle.std.specs.Prelude.{IsTrue, OnOk, OnErr};
 ghost use Rattle.outside.specs.Count.{Rose};
 ghost use Rattle.outside.specs.Text.{AppendsPrefix};
 ghost use Rattle.outside.specs.Gathering.{Gathers, WritesPrefix};
@@ -11,11 +12,11 @@ use std::marker::Model;
 /// How many bytes are gathered at most.
 pub(crate) const CAPACITY: usize = 16_384;
 
-/// The text of a report, which is made where it is gathered, and written when there is no room for more of it. It takes no
-/// memory of the heap. After a fault it is not used again.
+/// The text of a report, which is made where it is gathered, and written when there is no room for more of it. It takes
+/// no memory of the heap. After a fault it is not used again.
 ///
-/// A place is one byte, and a text that is longer than its places widens the column. Behind what is gathered the bytes are
-/// spaces, so that a space is appended by counting it.
+/// A place is one byte, and a text that is longer than its places widens the column. Behind what is gathered the bytes
+/// are spaces, so that a space is appended by counting it.
 #[derive(Debug, Drop)]
 pub(crate) struct Page {
     bytes: [u8; CAPACITY],

@@ -17,8 +17,9 @@ abbrev pub joined : (bodies : List (List ℕ)) → (last : List ℕ) → List �
 joined [] last = last
 joined (body ∷ bodies) last = body ++ joined bodies last
 
--- A record that is sent in fragments, and has 4,096 bytes at most, is the first record of a stream that begins with it, and those of
--- the bytes behind it come next.
+-- A record that is sent in fragments, and has 4,096 bytes at most, is the first record of a stream that begins with it,
+-- and those of the bytes behind it come next.
 abbrev pub ReadsWhatIsSent : (bodies : List (List ℕ)) → (last behind : List ℕ) → Type 0
 ReadsWhatIsSent bodies last behind =
-    length (joined bodies last) ≤ 4096 → records_in (sent_record bodies last ++ behind) ≡ joined bodies last ∷ records_in behind
+    length (joined bodies last) ≤ 4096
+    → records_in (sent_record bodies last ++ behind) ≡ joined bodies last ∷ records_in behind

@@ -1,6 +1,7 @@
--- The records of a stream, which are made of fragments. Source: RFC 5531, section 11, record marking. That a record has at
--- most 4,096 bytes is this project's own, as it is of a datagram.
-use Rattle.std.specs.Prelude.{ℕ, zero, suc, ◌+◌, ◌%◌, ◌^◌, Bool, nat_le, nat_lt, if◌then◌else◌, List, [], ◌∷◌, ◌++◌, length, take, drop}
+-- The records of a stream, which are made of fragments. Source: RFC 5531, section 11, record marking. That a record has
+-- at most 4,096 bytes is this project's own, as it is of a datagram.
+use Rattle.std.specs.Prelude.{ℕ, zero, suc, ◌+◌, ◌%◌, ◌^◌, Bool, nat_le, nat_lt, if◌then◌else◌, List, [], ◌∷◌, ◌++◌}
+use Rattle.std.specs.Prelude.{length, take, drop}
 use Rattle.std.specs.Int.{w32, from_be_bytes}
 
 -- the number of the head that begins a fragment: four bytes, the highest first
@@ -23,15 +24,16 @@ front_body bytes = take (body_len bytes) (drop 4 bytes)
 abbrev pub behind_front : List ℕ → List ℕ
 behind_front bytes = drop (body_len bytes) (drop 4 bytes)
 
--- What stands at the front of bytes: no whole record, and none that a head makes too long; one that a head makes longer than 4,096
--- bytes, and what stands behind that head; or a record, by the bodies of its fragments joined, and what stands behind it.
+-- What stands at the front of bytes: no whole record, and none that a head makes too long; one that a head makes longer
+-- than 4,096 bytes, and what stands behind that head; or a record, by the bodies of its fragments joined, and what
+-- stands behind it.
 pub data Front : Type 0 where
   Part : Front
   Long : (behind : List ℕ) → Front
   Record : (body behind : List ℕ) → Front
 
--- What stands at the front of bytes that go on with a record whose bodies so far are these; it has this many further fragments at
--- most.
+-- What stands at the front of bytes that go on with a record whose bodies so far are these; it has this many further
+-- fragments at most.
 unfoldable pub front_within : (most : ℕ) → (before : List ℕ) → List ℕ → Front
 front_within zero before bytes = Part
 front_within (suc most) before bytes =

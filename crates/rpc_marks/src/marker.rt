@@ -19,7 +19,8 @@ pub struct Marker {
     body: ArrayVec<u8, 4096>,
     /// The head of the fragment at hand, as far as it was taken.
     head: ArrayVec<u8, 4>,
-    /// How many bytes of the body of this fragment are to come, once its head was taken: none behind the end of a record.
+    /// How many bytes of the body of this fragment are to come, once its head was taken: none behind the end of a
+    /// record.
     left: usize,
     ghost room: { length body.items + left ≤ 4096 },
 }
@@ -40,8 +41,9 @@ impl Marker {
         }
     }
 
-    /// Takes bytes of a piece up to the end of the first record, and answers how many, and how the marker stands then. The next
-    /// bytes that it is fed are those behind them, in whatever pieces. It isn't used again once a record is too long.
+    /// Takes bytes of a piece up to the end of the first record, and answers how many, and how the marker stands then.
+    /// The next bytes that it is fed are those behind them, in whatever pieces. It isn't used again once a record is
+    /// too long.
     pub fn feed(&mut self, piece: &[u8]) -> (usize, Step)
         // The answer and the record are those of what stands at the front.
         ensures fed { IsFed (front_at self.old piece.now) piece.now result.0 (body_of self.new) result.1 }
@@ -125,7 +127,8 @@ impl Marker {
     /// Ends the fragment at hand, where no byte of it is to come, and with the last one the record.
     fn end_fragment(&mut self) -> Step
         requires { 4 ≤ length self.old.head.items }
-        ensures leads { Leads (front_in_body (body_of self.old) (is_last self.old.head.items) self.old.left) self.new result }
+        ensures leads { Leads (front_in_body (body_of self.old) (is_last self.old.head.items) self.old.left)
+            self.new result }
         ensures anew { result ≡ Whole → (bytes : List ℕ) → front_at self.new bytes ≡ front_of bytes }
     {
         if self.left > 0 {

@@ -1,29 +1,22 @@
 -- Connections that are served one after another.
-use Rattle.std.proofs.Common.{◌≡◌, ℕ, ◌+◌, ◌*◌, ◌≤◌, false, IfSome, List, [], ◌∷◌, ◌++◌, map, Option, None, Some, Result, Ok, Err, refl, sym, ap, subst, ◌∙◌, append_assoc, length-append, arith}
+use Rattle.std.proofs.Common.{◌≡◌, ℕ, ◌+◌, ◌*◌, ◌≤◌, false, IfSome, List, [], ◌∷◌, ◌++◌, map, Option, None, Some}
+use Rattle.std.proofs.Common.{Result, Ok, Err, refl, sym, ap, subst, ◌∙◌, append_assoc, length-append, arith}
 use Rattle.std.specs.Option.{is_some, option_to_list}
 use Rattle.std.proofs.Math.Nat.{mul-le-mul_left}
 use Rattle.std.proofs.lemmas.Bool.{false≢true}
 use Rattle.std.proofs.lemmas.List.{append-nil, map-append}
 use Rattle.std.proofs.lemmas.List.Elements.{All-append, All-cons, All-nil}
-use Rattle.network.specs.Connections.{AcceptsNext, Arrival, ChangesCurrent, ClosesCurrent, Connection, ConnsSeen, KeepsListening}
+use Rattle.network.specs.Connections.{AcceptsNext, Arrival, ChangesCurrent, ClosesCurrent, Connection, ConnsSeen}
+use Rattle.network.specs.Connections.{KeepsListening}
 use Rattle.opened_file.specs.declared.quota_file.FileFault.{FileFault}
 use Rattle.rquota_serve.specs.ExportedValues.{ExportedValues}
 use Rattle.rquota_serve.specs.Looking.{ExportsAt, LooksUpIn}
-use Rattle.rpc_record.specs.Serving.{IsAnswered, IsAnsweredInPart, IsBegun, IsServed, ServesConns, StopsServing, TakesFew, arrival_of}
-
--- no connection was served
-pub serves-none : (serves : ExportedValues → Type 0) (conns : ConnsSeen) → ServesConns serves 0 conns conns
-serves-none serves conns = record {
-  served = [];
-  number = refl;
-  taken = All-nil TakesFew;
-  arrived = refl;
-  closed = sym (append-nil conns.closed);
-  answered = λ exported is. All-nil (IsAnswered exported);
-}
+use Rattle.rpc_record.specs.Serving.{IsAnswered, IsAnsweredInPart, IsBegun, IsServed, ServesConns, StopsServing}
+use Rattle.rpc_record.specs.Serving.{TakesFew, arrival_of}
 
 -- connections were served, and then more of them
-pub serves-then : (serves : ExportedValues → Type 0) (one two : ℕ) (old mid new : ConnsSeen) → ServesConns serves one old mid → ServesConns serves two mid new → ServesConns serves (one + two) old new
+pub serves-then : (serves : ExportedValues → Type 0) (one two : ℕ) (old mid new : ConnsSeen)
+    → ServesConns serves one old mid → ServesConns serves two mid new → ServesConns serves (one + two) old new
 serves-then serves one two old mid new first second = record {
   served = first.served ++ second.served;
   number = omega (arith, length-append first.served second.served, first.number, second.number);
@@ -32,12 +25,15 @@ serves-then serves one two old mid new first second = record {
       first.arrived ∙ ap (λ (l : List Arrival). map arrival_of first.served ++ l) second.arrived
       ∙ sym (append_assoc (map arrival_of first.served) (map arrival_of second.served) new.left)
       ∙ ap (λ (l : List Arrival). l ++ new.left) (sym (map-append arrival_of first.served second.served));
-  closed = second.closed ∙ ap (λ (l : List Connection). l ++ second.served) first.closed ∙ append_assoc old.closed first.served second.served;
-  answered = λ exported is. All-append (IsAnswered exported) first.served second.served (first.answered exported is) (second.answered exported is);
+  closed = second.closed ∙ ap (λ (l : List Connection). l ++ second.served) first.closed
+      ∙ append_assoc old.closed first.served second.served;
+  answered = λ exported is. All-append (IsAnswered exported) first.served second.served (first.answered exported is)
+      (second.answered exported is);
 }
 
 -- connections were served, and then serving stopped
-pub stops-then : (serves : ExportedValues → Type 0) (one two most : ℕ) (old mid new : ConnsSeen) → one + two ≤ most → ServesConns serves one old mid → StopsServing serves two mid new → StopsServing serves most old new
+pub stops-then : (serves : ExportedValues → Type 0) (one two most : ℕ) (old mid new : ConnsSeen) → one + two ≤ most
+    → ServesConns serves one old mid → StopsServing serves two mid new → StopsServing serves most old new
 stops-then serves one two most old mid new within first second = record {
   served = first.served ++ second.served;
   few = omega (arith, length-append first.served second.served, first.number, second.few, within);
@@ -45,15 +41,21 @@ stops-then serves one two most old mid new within first second = record {
   at_hand = second.at_hand;
   arrived =
       first.arrived ∙ ap (λ (l : List Arrival). map arrival_of first.served ++ l) second.arrived
-      ∙ sym (append_assoc (map arrival_of first.served) (map arrival_of second.served) (map arrival_of (option_to_list new.current) ++ new.left))
-      ∙ ap (λ (l : List Arrival). l ++ (map arrival_of (option_to_list new.current) ++ new.left)) (sym (map-append arrival_of first.served second.served));
-  closed = second.closed ∙ ap (λ (l : List Connection). l ++ second.served) first.closed ∙ append_assoc old.closed first.served second.served;
-  answered = λ exported is. All-append (IsAnswered exported) first.served second.served (first.answered exported is) (second.answered exported is);
+      ∙ sym (append_assoc (map arrival_of first.served) (map arrival_of second.served)
+      (map arrival_of (option_to_list new.current) ++ new.left))
+      ∙ ap (λ (l : List Arrival). l ++ (map arrival_of (option_to_list new.current) ++ new.left))
+      (sym (map-append arrival_of first.served second.served));
+  closed = second.closed ∙ ap (λ (l : List Connection). l ++ second.served) first.closed
+      ∙ append_assoc old.closed first.served second.served;
+  answered = λ exported is. All-append (IsAnswered exported) first.served second.served (first.answered exported is)
+      (second.answered exported is);
   begun = second.begun;
 }
 
 -- what is served behind a look-up is served before it
-pub serves-before : (before after : ExportedValues → Type 0) (count : ℕ) (old new : ConnsSeen) → ((exported : ExportedValues) → before exported → after exported) → ServesConns after count old new → ServesConns before count old new
+pub serves-before : (before after : ExportedValues → Type 0) (count : ℕ) (old new : ConnsSeen)
+    → ((exported : ExportedValues) → before exported → after exported) → ServesConns after count old new
+    → ServesConns before count old new
 serves-before before after count old new stays served = record {
   served = served.served;
   number = served.number;
@@ -63,7 +65,9 @@ serves-before before after count old new stays served = record {
   answered = λ exported is. served.answered exported (stays exported is);
 }
 
-pub stops-before : (before after : ExportedValues → Type 0) (count : ℕ) (old new : ConnsSeen) → ((exported : ExportedValues) → before exported → after exported) → StopsServing after count old new → StopsServing before count old new
+pub stops-before : (before after : ExportedValues → Type 0) (count : ℕ) (old new : ConnsSeen)
+    → ((exported : ExportedValues) → before exported → after exported) → StopsServing after count old new
+    → StopsServing before count old new
 stops-before before after count old new stays stopped = record {
   served = stopped.served;
   few = stopped.few;
@@ -83,7 +87,8 @@ none_open None is = refl
 none_open (Some connection) is = absurd (false≢true (sym is))
 
 -- it was not accepted
-pub unaccepted : (serves : ExportedValues → Type 0) (old new : ConnsSeen) → new.left ≡ old.left → new.closed ≡ old.closed → is_some new.current ≡ false → StopsServing serves 1 old new
+pub unaccepted : (serves : ExportedValues → Type 0) (old new : ConnsSeen) → new.left ≡ old.left
+    → new.closed ≡ old.closed → is_some new.current ≡ false → StopsServing serves 1 old new
 unaccepted serves old new left closed shut =
     let none = none_open new.current shut in
     record {
@@ -98,39 +103,45 @@ unaccepted serves old new left closed shut =
     }
 
 -- it was accepted, served and closed
-pub served-one : (serves : ExportedValues → Type 0) (moment : ℕ) (old begun done new : ConnsSeen) → (accepts : AcceptsNext moment old begun) → begun.closed ≡ old.closed
-    → IsServed serves accepts.arrival done.current → ChangesCurrent begun done → ClosesCurrent done new → new.left ≡ done.left → ServesConns serves 1 old new
+pub served-one : (serves : ExportedValues → Type 0) (moment : ℕ) (old begun done new : ConnsSeen)
+    → (accepts : AcceptsNext moment old begun) → begun.closed ≡ old.closed
+    → IsServed serves accepts.arrival done.current → ChangesCurrent begun done → ClosesCurrent done new
+    → new.left ≡ done.left → ServesConns serves 1 old new
 served-one serves moment old begun done new accepts closed served changes closes left = record {
   served = served.connection ∷ [];
   number = refl;
   taken = All-cons TakesFew served.connection [] served.few (All-nil TakesFew);
-  arrived = accepts.next ∙ ap (λ (l : List Arrival). accepts.arrival ∷ l) (sym (left ∙ changes.left)) ∙ ap (λ (a : Arrival). a ∷ new.left) (sym served.came);
+  arrived = accepts.next ∙ ap (λ (l : List Arrival). accepts.arrival ∷ l) (sym (left ∙ changes.left))
+      ∙ ap (λ (a : Arrival). a ∷ new.left) (sym served.came);
   closed = closes.closed ∙ ap (λ (c : Option Connection). done.closed ++ option_to_list c) served.is
       ∙ ap (λ (l : List Connection). l ++ served.connection ∷ []) (changes.closed ∙ closed);
-  answered = λ exported is. All-cons (IsAnswered exported) served.connection [] (served.answered exported is) (All-nil (IsAnswered exported));
+  answered = λ exported is.
+      All-cons (IsAnswered exported) served.connection [] (served.answered exported is) (All-nil (IsAnswered exported));
 }
 
 -- it was accepted, and served in part
-pub begun-one : (serves : ExportedValues → Type 0) (moment : ℕ) (old begun new : ConnsSeen) → (accepts : AcceptsNext moment old begun) → begun.closed ≡ old.closed
+pub begun-one : (serves : ExportedValues → Type 0) (moment : ℕ) (old begun new : ConnsSeen)
+    → (accepts : AcceptsNext moment old begun) → begun.closed ≡ old.closed
     → IsBegun serves accepts.arrival new.current → ChangesCurrent begun new → StopsServing serves 1 old new
 begun-one serves moment old begun new accepts closed part changes = record {
   served = [];
   few = omega arith;
   taken = All-nil TakesFew;
   at_hand = subst (λ (c : Option Connection). IfSome c TakesFew) (sym part.is) part.few;
-  arrived = accepts.next ∙ ap (λ (l : List Arrival). accepts.arrival ∷ l) (sym changes.left) ∙ ap (λ (a : Arrival). a ∷ new.left) (sym part.came)
+  arrived =
+      accepts.next ∙ ap (λ (l : List Arrival). accepts.arrival ∷ l) (sym changes.left)
+      ∙ ap (λ (a : Arrival). a ∷ new.left) (sym part.came)
       ∙ ap (λ (c : Option Connection). map arrival_of (option_to_list c) ++ new.left) (sym part.is);
   closed = changes.closed ∙ closed ∙ sym (append-nil old.closed);
   answered = λ exported is. All-nil (IsAnswered exported);
-  begun = λ exported is. subst (λ (c : Option Connection). IfSome c (IsAnsweredInPart exported)) (sym part.is) (part.answered exported is);
+  begun = λ exported is.
+      subst (λ (c : Option Connection). IfSome c (IsAnsweredInPart exported)) (sym part.is) (part.answered exported is);
 }
 
 -- Frames.
 
-pub keeps_listening-none : (conns : ConnsSeen) → KeepsListening conns conns
-keeps_listening-none conns = record { listened = refl; listener_later = omega arith; connection_later = omega arith }
-
-pub keeps_listening-then : (old mid new : ConnsSeen) → KeepsListening old mid → KeepsListening mid new → KeepsListening old new
+pub keeps_listening-then : (old mid new : ConnsSeen) → KeepsListening old mid → KeepsListening mid new
+    → KeepsListening old new
 keeps_listening-then old mid new first second = record {
   listened = second.listened ∙ first.listened;
   listener_later = omega (arith, first.listener_later, second.listener_later);
@@ -152,7 +163,8 @@ changes-then old mid new first second = record {
 -- Look-ups.
 
 -- no more calls were made than a greater number
-pub looks-within : {T E : Type 0} (fault_of : E → Option FileFault) (old new : ExportsAt) (few most : ℕ) (result : Result T E) → few ≤ most
+pub looks-within : {T E : Type 0} (fault_of : E → Option FileFault) (old new : ExportsAt) (few most : ℕ)
+    (result : Result T E) → few ≤ most
     → LooksUpIn fault_of old new few result → LooksUpIn fault_of old new most result
 looks-within fault_of old new few most result within looks = record {
   refused = looks.refused;
@@ -166,7 +178,9 @@ looks-within fault_of old new few most result within looks = record {
 }
 
 -- the same of another value
-pub looks-ok : {T U E : Type 0} (fault_of : E → Option FileFault) (old new : ExportsAt) (most : ℕ) (told : T) (other : U) → LooksUpIn {T = T} {E = E} fault_of old new most (Ok told) → LooksUpIn {T = U} {E = E} fault_of old new most (Ok other)
+pub looks-ok : {T U E : Type 0} (fault_of : E → Option FileFault) (old new : ExportsAt) (most : ℕ) (told : T)
+    (other : U) → LooksUpIn {T = T} {E = E} fault_of old new most (Ok told)
+    → LooksUpIn {T = U} {E = E} fault_of old new most (Ok other)
 looks-ok fault_of old new most told other looks = record {
   refused = tt;
   may = tt;
@@ -179,7 +193,9 @@ looks-ok fault_of old new most told other looks = record {
 }
 
 -- the same of a fault, where another value might have been
-pub looks-err : {T U E : Type 0} (fault_of : E → Option FileFault) (old new : ExportsAt) (most : ℕ) (fault : E) → LooksUpIn {T = T} {E = E} fault_of old new most (Err fault) → LooksUpIn {T = U} {E = E} fault_of old new most (Err fault)
+pub looks-err : {T U E : Type 0} (fault_of : E → Option FileFault) (old new : ExportsAt) (most : ℕ) (fault : E)
+    → LooksUpIn {T = T} {E = E} fault_of old new most (Err fault)
+    → LooksUpIn {T = U} {E = E} fault_of old new most (Err fault)
 looks-err fault_of old new most fault looks = record {
   refused = looks.refused;
   may = looks.may;

@@ -27,19 +27,24 @@ abbrev pub nothing_awaited : Awaited
 nothing_awaited exported bytes = []
 
 -- Bytes were taken, and what they are to have was written, whatever comes behind them.
-pub record Answers (serves : ExportedValues → Type 0) (taken : List ℕ) (before behind : Awaited) (old new : Option Connection) : Type 0 where
+pub record Answers (serves : ExportedValues → Type 0) (taken : List ℕ) (before behind : Awaited)
+    (old new : Option Connection) : Type 0 where
   pub written : List ℕ
   pub current : new ≡ option_map (with_written written) old
-  pub awaited : (exported : ExportedValues) → serves exported → (bytes : List ℕ) → before exported (taken ++ bytes) ≡ written ++ behind exported bytes
+  pub awaited : (exported : ExportedValues) → serves exported → (bytes : List ℕ)
+      → before exported (taken ++ bytes) ≡ written ++ behind exported bytes
 
 -- A prefix of what bytes are to have was written, whatever comes behind them; and the connection changed so.
-pub record AnswersInPart (serves : ExportedValues → Type 0) (taken : List ℕ) (before : Awaited) (change : List ℕ → Connection → Connection) (old new : Option Connection) : Type 0 where
+pub record AnswersInPart (serves : ExportedValues → Type 0) (taken : List ℕ) (before : Awaited)
+    (change : List ℕ → Connection → Connection) (old new : Option Connection) : Type 0 where
   pub written : List ℕ
   pub current : new ≡ option_map (change written) old
-  pub awaited : (exported : ExportedValues) → serves exported → (bytes : List ℕ) → (rest : List ℕ) × (before exported (taken ++ bytes) ≡ written ++ rest)
+  pub awaited : (exported : ExportedValues) → serves exported → (bytes : List ℕ)
+      → (rest : List ℕ) × (before exported (taken ++ bytes) ≡ written ++ rest)
 
 -- what came of a piece
-abbrev pub IsHeard : (serves : ExportedValues → Type 0) → (piece : List ℕ) → (before behind : Awaited) → (old new : Option Connection) → Heard → Type 0
+abbrev pub IsHeard : (serves : ExportedValues → Type 0) → (piece : List ℕ) → (before behind : Awaited)
+    → (old new : Option Connection) → Heard → Type 0
 IsHeard serves piece before behind old new GoesOn = Answers serves piece before behind old new
 IsHeard serves piece before behind old new TooLong = Answers serves piece before nothing_awaited old new
 IsHeard serves piece before behind old new WriteFault = AnswersInPart serves piece before with_failed_write old new

@@ -15,16 +15,20 @@ arrival_of connection = record { moment = connection.moment; bytes = connection.
 abbrev pub Begins : (front bytes : List ℕ) → Type 0
 Begins front bytes = (rest : List ℕ) × (bytes ≡ front ++ rest)
 
--- What was written on a connection that was served: the answers of its bytes where nothing failed on it, those of the bytes that
--- were taken where a read failed, and a prefix of the answers where a write did.
+-- What was written on a connection that was served: the answers of its bytes where nothing failed on it, those of the
+-- bytes that were taken where a read failed, and a prefix of the answers where a write did.
 pub record IsAnswered (exported : ExportedValues) (connection : Connection) : Type 0 where
-  pub whole : connection.read_failed ≡ false → connection.write_failed ≡ false → connection.written ≡ answers_of exported connection.bytes connection.moment
-  pub unread : IsTrue connection.read_failed → connection.written ≡ answers_of exported (take connection.taken connection.bytes) connection.moment
-  pub unwritten : IsTrue connection.write_failed → Begins connection.written (answers_of exported connection.bytes connection.moment)
+  pub whole : connection.read_failed ≡ false → connection.write_failed ≡ false
+      → connection.written ≡ answers_of exported connection.bytes connection.moment
+  pub unread : IsTrue connection.read_failed
+      → connection.written ≡ answers_of exported (take connection.taken connection.bytes) connection.moment
+  pub unwritten : IsTrue connection.write_failed
+      → Begins connection.written (answers_of exported connection.bytes connection.moment)
 
 -- what was written on one that is served is a prefix of the answers of its bytes
 abbrev pub IsAnsweredInPart : ExportedValues → Connection → Type 0
-IsAnsweredInPart exported connection = Begins connection.written (answers_of exported connection.bytes connection.moment)
+IsAnsweredInPart exported connection =
+    Begins connection.written (answers_of exported connection.bytes connection.moment)
 
 -- no more bytes of a connection were taken than 16,777,216
 abbrev pub TakesFew : Connection → Type 0
@@ -59,8 +63,8 @@ pub record ServesConns (serves : ExportedValues → Type 0) (count : ℕ) (old n
   pub closed : new.closed ≡ old.closed ++ served
   pub answered : (exported : ExportedValues) → serves exported → All (IsAnswered exported) served
 
--- Fewer connections, the first ones, were accepted, served and closed. Where one is open behind them, it is the next one, and was
--- served in part.
+-- Fewer connections, the first ones, were accepted, served and closed. Where one is open behind them, it is the next
+-- one, and was served in part.
 pub record StopsServing (serves : ExportedValues → Type 0) (count : ℕ) (old new : ConnsSeen) : Type 0 where
   pub served : List Connection
   pub few : length served < count

@@ -20,8 +20,8 @@ const MOST_BYTES: usize = 16_777_216;
 /// The most bytes that are taken by one call of `read`.
 const MOST_PIECE: usize = 4096;
 
-/// Serves the open connection, which came at the moment `now`: answers the records of its bytes up to its end, to a record
-/// that is too long, to 16,777,216 bytes, or to a fault of its read or write. It stays open.
+/// Serves the open connection, which came at the moment `now`: answers the records of its bytes up to its end, to a
+/// record that is too long, to 16,777,216 bytes, or to a fault of its read or write. It stays open.
 ///
 /// # Errors
 ///
@@ -66,7 +66,8 @@ pub(crate) fn serve_connection<S: Store, C: Conns>(
     Ok(())
 }
 
-/// Takes the next piece of the open connection into the front of `buf`, at most `left` bytes, and answers how many it has.
+/// Takes the next piece of the open connection into the front of `buf`, at most `left` bytes, and answers how many it
+/// has.
 ///
 /// # Errors
 ///

@@ -27,9 +27,12 @@ pub(crate) fn hear<S: Store, C: Conns>(
     now: u64,
 ) -> Result<Heard, FileFault>
     requires { IsTrue (C.is_open conns.old) }
-    ensures heard { IfOk result (λ heard. IsTrue C.tells → IsHeard (Serves S.tells (S.seen store.old).files exports.old) piece.now
-        (awaited_at now marker.old) (awaited_at now marker.new) (C.seen conns.old).current (C.seen conns.new).current heard) }
-    ensures stopped { OnErr result (IsTrue C.tells → AnswersInPart (Serves S.tells (S.seen store.old).files exports.old) piece.now
+    ensures heard { IfOk result
+        (λ heard. IsTrue C.tells → IsHeard (Serves S.tells (S.seen store.old).files exports.old) piece.now
+        (awaited_at now marker.old) (awaited_at now marker.new) (C.seen conns.old).current
+        (C.seen conns.new).current heard) }
+    ensures stopped { OnErr result
+        (IsTrue C.tells → AnswersInPart (Serves S.tells (S.seen store.old).files exports.old) piece.now
         (awaited_at now marker.old) with_written (C.seen conns.old).current (C.seen conns.new).current) }
     ensures looks { LooksUpIn Some (exports_at S.tells (S.seen store.old) exports.old)
         (exports_at S.tells (S.seen store.new) exports.new) (any_get_reads * length piece.now) result }

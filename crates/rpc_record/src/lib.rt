@@ -1,10 +1,11 @@
-//! rquota over TCP: the calls that stand as records in streams are answered out of exported quota files, one connection after
-//! another.
+//! rquota over TCP: the calls that stand as records in streams are answered out of exported quota files, one connection
+//! after another.
 //!
-//! `serve_stream` serves a given number of connections over `Conns`: it reads the records of each, by a `Marker`, and writes
-//! the reply to each as a record of one fragment. No memory is taken.
+//! `serve_stream` serves a given number of connections over `Conns`: it reads the records of each, by a `Marker`, and
+//! writes the reply to each as a record of one fragment. No memory is taken.
 //!
-//! The one promise: what is written on a connection are the answers to the records of its bytes, however its reads are cut.
+//! The one promise: what is written on a connection are the answers to the records of its bytes, however its reads are
+//! cut.
 #![tactic(auto)]
 
 mod connection;

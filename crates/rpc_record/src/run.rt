@@ -1,4 +1,5 @@
-ghost use Rattle.std.specs.Prelude.{◌≡◌, ◌≢◌, ◌≤◌, ◌+◌, ◌*◌, ◌⊎◌, ◌↔◌, [], Ok, false, is_ok, IsErr, IsTrue, IfErr, OnOk};
+ghost use Rattle.std.specs.Prelude.{◌≡◌, ◌≢◌, ◌≤◌, ◌+◌, ◌*◌, ◌⊎◌, ◌↔◌, [], Ok, false, is_ok, IsErr, IsTrue, IfErr};
+ghost use Rattle.std.specs.Prelude.{OnOk};
 ghost use Rattle.std.specs.List.{All};
 ghost use Rattle.std.specs.Result.{result_err};
 ghost use Rattle.option_words.specs.Given.{exports_given};
@@ -32,14 +33,15 @@ use serve_steps::{add_all, first_file};
 use std::alloc::Global;
 use stream_words::{StreamWords, copy_exports, read_words};
 
-/// Answers rquota calls over streams out of quota files, as words ask for it, and answers the status with which the program
-/// ends: 0 done, 1 a file is refused, 2 the words are outside the grammar, 3 a file is no quota file of the kind and format,
-/// or damaged, 4 a fault of the store, or of listening and accepting, 5 not enough memory. With a status other than 0 one
-/// error line goes to `err`.
+/// Answers rquota calls over streams out of quota files, as words ask for it, and answers the status with which the
+/// program ends: 0 done, 1 a file is refused, 2 the words are outside the grammar, 3 a file is no quota file of the
+/// kind and format, or damaged, 4 a fault of the store, or of listening and accepting, 5 not enough memory. With a
+/// status other than 0 one error line goes to `err`.
 ///
-/// `words` are the words of the command line without the program's own name: PORT CONNECTIONS FORMAT, and 1 to 16 times PATH
-/// KIND FILE. The files are opened in their order; then it listens at the port, once; and then exactly so many connections are
-/// accepted and served, one after another. FORMAT `any` asks for no format. No memory is taken once it listens.
+/// `words` are the words of the command line without the program's own name: PORT CONNECTIONS FORMAT, and 1 to 16 times
+/// PATH KIND FILE. The files are opened in their order; then it listens at the port, once; and then exactly so many
+/// connections are accepted and served, one after another. FORMAT `any` asks for no format. No memory is taken once it
+/// listens.
 pub fn run_stream<S: Store, C: Conns, E: Sink>(
     alloc: Global,
     words: &[String],
@@ -56,8 +58,10 @@ pub fn run_stream<S: Store, C: Conns, E: Sink>(
     ensures usage { (result ≡ 2) ↔ IsErr (asked_of (texts_of words.now)) }
     ensures store { result ≡ 2 → store.new ≡ store.old }
     // Where all files are accepted and nothing failed, it is done, or there was not enough memory.
-    ensures accepted { (asked : StreamAsked) (exported : ExportedValues) → asked_of (texts_of words.now) ≡ Ok asked → IsTrue S.tells
-        → AreServed asked (S.seen store.old).files exported → ¬ (Rose (S.seen store.old).faults (S.seen store.new).faults)
+    ensures accepted { (asked : StreamAsked) (exported : ExportedValues) → asked_of (texts_of words.now) ≡ Ok asked
+        → IsTrue S.tells
+        → AreServed asked (S.seen store.old).files exported
+        → ¬ (Rose (S.seen store.old).faults (S.seen store.new).faults)
         → ¬ (Rose (C.seen conns.old).listener_faults (C.seen conns.new).listener_faults) → (result ≡ 0) ⊎ (result ≡ 5) }
     // Refused words, a file that is refused and lack of memory leave the connections alone: it did not listen.
     ensures conns { (result ≡ 1) ⊎ ((result ≡ 2) ⊎ (result ≡ 5)) → conns.new ≡ conns.old }
@@ -94,11 +98,13 @@ fn carry_words<S: Store, C: Conns>(
 ) -> Result<(), Refusal>
     requires { C.is_open conns.old ≡ false }
     ensures carried { CarriesWords (asked_of (texts_of words.now)) (tells_of S.tells C.tells)
-        (seen_of (S.seen store.old) (C.seen conns.old)) (seen_of (S.seen store.new) (C.seen conns.new)) (result_err result) }
+        (seen_of (S.seen store.old) (C.seen conns.old)) (seen_of (S.seen store.new) (C.seen conns.new))
+        (result_err result) }
     ensures placed { IfErr result (λ refusal. refusal.place ≡ nowhere) }
     ensures worded { IfErr result (λ refusal. status_of refusal.cause ≡ 2 → IsErr (asked_of (texts_of words.now))) }
     ensures store { IfErr result (λ refusal. status_of refusal.cause ≡ 2 → store.new ≡ store.old) }
-    ensures conns { IfErr result (λ refusal. (status_of refusal.cause ≡ 3) ⊎ (status_of refusal.cause ≡ 4) ⊎ (conns.new ≡ conns.old)) }
+    ensures conns { IfErr result
+        (λ refusal. (status_of refusal.cause ≡ 3) ⊎ (status_of refusal.cause ≡ 4) ⊎ (conns.new ≡ conns.old)) }
     ensures shut { OnOk result (C.is_open conns.new ≡ false) }
     ensures unwritten { IsUnwritten (S.seen store.old) (S.seen store.new) }
     ensures store_later { (S.seen store.old).faults ≤ (S.seen store.new).faults }
@@ -129,10 +135,12 @@ fn carry_out<S: Store, C: Conns>(
     requires shut { C.is_open conns.old ≡ false }
     requires apart { MayExport [] (exports_given read.now.exports.items) }
     ensures carried { Ends (stream_asked read.now) (tells_of S.tells C.tells)
-        (seen_of (S.seen store.old) (C.seen conns.old)) (seen_of (S.seen store.new) (C.seen conns.new)) (result_err result) }
+        (seen_of (S.seen store.old) (C.seen conns.old)) (seen_of (S.seen store.new) (C.seen conns.new))
+        (result_err result) }
     ensures placed { IfErr result (λ refusal. refusal.place ≡ nowhere) }
     ensures worded { IfErr result (λ refusal. status_of refusal.cause ≢ 2) }
-    ensures conns { IfErr result (λ refusal. (status_of refusal.cause ≡ 3) ⊎ (status_of refusal.cause ≡ 4) ⊎ (conns.new ≡ conns.old)) }
+    ensures conns { IfErr result
+        (λ refusal. (status_of refusal.cause ≡ 3) ⊎ (status_of refusal.cause ≡ 4) ⊎ (conns.new ≡ conns.old)) }
     ensures shut { OnOk result (C.is_open conns.new ≡ false) }
     ensures unwritten { IsUnwritten (S.seen store.old) (S.seen store.new) }
     ensures store_later { (S.seen store.old).faults ≤ (S.seen store.new).faults }
@@ -167,11 +175,14 @@ fn serve_files<S: Store, C: Conns>(
 ) -> Result<(), Refusal>
     requires shut { C.is_open conns.old ≡ false }
     requires apart { MayExport [] exports.now }
-    ensures carried { Ends (record { port = port; connections = connections; format = format; exports = exports.now }) (tells_of S.tells C.tells)
-        (seen_of (S.seen store.old) (C.seen conns.old)) (seen_of (S.seen store.new) (C.seen conns.new)) (result_err result) }
+    ensures carried { Ends (record { port = port; connections = connections; format = format; exports = exports.now })
+        (tells_of S.tells C.tells)
+        (seen_of (S.seen store.old) (C.seen conns.old)) (seen_of (S.seen store.new) (C.seen conns.new))
+        (result_err result) }
     ensures placed { IfErr result (λ refusal. refusal.place ≡ nowhere) }
     ensures worded { IfErr result (λ refusal. status_of refusal.cause ≢ 2) }
-    ensures conns { IfErr result (λ refusal. (status_of refusal.cause ≡ 3) ⊎ (status_of refusal.cause ≡ 4) ⊎ (conns.new ≡ conns.old)) }
+    ensures conns { IfErr result
+        (λ refusal. (status_of refusal.cause ≡ 3) ⊎ (status_of refusal.cause ≡ 4) ⊎ (conns.new ≡ conns.old)) }
     ensures shut { OnOk result (C.is_open conns.new ≡ false) }
     ensures unwritten { IsUnwritten (S.seen store.old) (S.seen store.new) }
     ensures store_later { (S.seen store.old).faults ≤ (S.seen store.new).faults }
@@ -190,8 +201,8 @@ fn serve_files<S: Store, C: Conns>(
     }
 }
 
-/// Listens at a port, and serves so many connections out of exported files. It takes no memory. Where a file is found damaged,
-/// the refusal gives this name.
+/// Listens at a port, and serves so many connections out of exported files. It takes no memory. Where a file is found
+/// damaged, the refusal gives this name.
 fn serve_opened<S: Store, C: Conns>(
     opened: &mut Exports,
     format: Option<Format>,
@@ -204,7 +215,8 @@ fn serve_opened<S: Store, C: Conns>(
     requires shut { C.is_open conns.old ≡ false }
     requires asked { All (IsAsAsked (asks_of format)) (exports_seen opened.old) }
     ensures ends { EndsServing (Serves S.tells (S.seen store.old).files opened.old) port connections C.tells
-        (seen_of (S.seen store.old) (C.seen conns.old)) (seen_of (S.seen store.new) (C.seen conns.new)) (result_err result) }
+        (seen_of (S.seen store.old) (C.seen conns.old)) (seen_of (S.seen store.new) (C.seen conns.new))
+        (result_err result) }
     ensures may { IfErr result (λ refusal. AnsweringMayRefuse (asks_of format) file refusal.cause refusal.name) }
     ensures placed { IfErr result (λ refusal. refusal.place ≡ nowhere) }
     ensures late { IfErr result (λ refusal. (status_of refusal.cause ≡ 3) ⊎ (status_of refusal.cause ≡ 4)) }

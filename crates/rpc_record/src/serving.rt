@@ -12,14 +12,14 @@ use network::Conns;
 use outside::Store;
 use rquota_serve::Exports;
 
-/// Accepts exactly `connections` connections, one after another, answers the records of each, at its own moment, and closes
-/// it: at its end, behind a record that is too long, behind 16,777,216 bytes, or behind a fault of its read or write. No
-/// memory is taken.
+/// Accepts exactly `connections` connections, one after another, answers the records of each, at its own moment, and
+/// closes it: at its end, behind a record that is too long, behind 16,777,216 bytes, or behind a fault of its read or
+/// write. No memory is taken.
 ///
 /// # Errors
 ///
-/// No further connection could be accepted, or an exported file failed. Fewer connections than `connections` were served; the
-/// one at hand when a file failed stays open.
+/// No further connection could be accepted, or an exported file failed. Fewer connections than `connections` were
+/// served; the one at hand when a file failed stays open.
 pub fn serve_stream<S: Store, C: Conns>(
     exports: &mut Exports,
     store: &mut S,
@@ -27,9 +27,11 @@ pub fn serve_stream<S: Store, C: Conns>(
     connections: u32,
 ) -> Result<(), StreamFault>
     requires { C.is_open conns.old ≡ false }
-    ensures served { OnOk result (IsTrue C.tells → ServesConns (Serves S.tells (S.seen store.old).files exports.old) connections
+    ensures served { OnOk result
+        (IsTrue C.tells → ServesConns (Serves S.tells (S.seen store.old).files exports.old) connections
         (C.seen conns.old) (C.seen conns.new)) }
-    ensures stopped { OnErr result (IsTrue C.tells → StopsServing (Serves S.tells (S.seen store.old).files exports.old) connections
+    ensures stopped { OnErr result
+        (IsTrue C.tells → StopsServing (Serves S.tells (S.seen store.old).files exports.old) connections
         (C.seen conns.old) (C.seen conns.new)) }
     // A connection is open behind it only where an exported file failed.
     ensures open { C.is_open conns.new ≡ leaves_open result }
@@ -56,7 +58,8 @@ fn serve_next<S: Store, C: Conns>(
     requires { C.is_open conns.old ≡ false }
     ensures served { OnOk result (IsTrue C.tells → ServesConns (Serves S.tells (S.seen store.old).files exports.old) 1
         (C.seen conns.old) (C.seen conns.new)) }
-    ensures stopped { OnErr result (IsTrue C.tells → StopsServing (Serves S.tells (S.seen store.old).files exports.old) 1
+    ensures stopped { OnErr result
+        (IsTrue C.tells → StopsServing (Serves S.tells (S.seen store.old).files exports.old) 1
         (C.seen conns.old) (C.seen conns.new)) }
     ensures open { C.is_open conns.new ≡ leaves_open result }
     ensures looks { LooksUpIn file_in (exports_at S.tells (S.seen store.old) exports.old)

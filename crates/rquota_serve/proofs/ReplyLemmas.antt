@@ -1,5 +1,6 @@
 -- Replies: which calls have none, and values that are told whatever a store tells.
-use Rattle.std.proofs.Common.{◌≡◌, ◌↔◌, ℕ, Bool, true, false, cond, if◌then◌else◌, List, Option, None, Some, IsSome, refl, sym, ap, subst, ◌∙◌}
+use Rattle.std.proofs.Common.{◌≡◌, ◌↔◌, ℕ, Bool, true, false, cond, if◌then◌else◌, List, Option, None, Some, IsSome}
+use Rattle.std.proofs.Common.{refl, sym, ap, subst, ◌∙◌}
 use Rattle.std.specs.FinMap.{empty, get, get-insert, insert}
 use Rattle.std.specs.Cmp.{nat_cmp_is, nat_cmp_total}
 use Rattle.std.specs.Option.{is_some, option_map, unwrap_or}
@@ -12,7 +13,8 @@ use Rattle.quota_types.specs.declared.record.Rec.{Rec}
 use Rattle.quota_types.specs.Rec.{zero_record}
 use Rattle.quota_value.specs.QuotaValue.{QuotaValue, Records}
 use Rattle.rquota_xdr.specs.declared.call.Call.{Call}
-use Rattle.rquota_xdr.specs.declared.call.Call.TheVariants.{Silent, OldRpc, NoProgram, NoVersion, NoProcedure, Auth, Garbage, Null, Get, Set}
+use Rattle.rquota_xdr.specs.declared.call.Call.TheVariants.{Silent, OldRpc, NoProgram, NoVersion, NoProcedure, Auth}
+use Rattle.rquota_xdr.specs.declared.call.Call.TheVariants.{Garbage, Null, Get, Set}
 use Rattle.rquota_xdr.specs.declared.call.Caller.{Caller}
 use Rattle.rquota_xdr.specs.declared.call.Span.{Span}
 use Rattle.rquota_xdr.specs.declared.reply.Reply.{Reply}
@@ -28,7 +30,8 @@ abbrev pub IsPlain : Call → Type 0
 IsPlain call = (xid : ℕ) (caller : Caller) (path : Span) (type id : ℕ) → call ≡ Get xid caller path type id → ⊥
 
 -- its reply rests on nothing that is exported
-pub plain-reply : (exported : ExportedValues) (datagram : List ℕ) (now : ℕ) (call : Call) → IsPlain call → plain_reply call ≡ reply_to exported datagram now call
+pub plain-reply : (exported : ExportedValues) (datagram : List ℕ) (now : ℕ) (call : Call) → IsPlain call
+    → plain_reply call ≡ reply_to exported datagram now call
 plain-reply exported datagram now Silent plain = refl
 plain-reply exported datagram now (OldRpc xid) plain = refl
 plain-reply exported datagram now (NoProgram xid) plain = refl
@@ -76,7 +79,8 @@ record-with id rec =
     (get-insert nat_cmp_total none id rec id ∙ ap (λ (b : Bool). cond b (Some rec) (get none id)) (same-key id))
 
 -- what was looked up is what is told by some values under the same paths
-pub told-found : (seen : List ExportSeen) (path : List ℕ) (kind : Kind) (id : ℕ) (found : Option Rec) → is_some found ≡ is_exported seen path kind
+pub told-found : (seen : List ExportSeen) (path : List ℕ) (kind : Kind) (id : ℕ) (found : Option Rec)
+    → is_some found ≡ is_exported seen path kind
     → found ≡ record_under (told_by seen id (unwrap_or found zero_record)) path kind id
 unfolding told_by
 told-found seen path kind id None is =
@@ -86,20 +90,26 @@ told-found seen path kind id (Some rec) is =
     (ap (λ (r : Rec). Some r) (sym (record-with id rec)))
 
 -- whoever may ask is told what is found
-pub reply-allowed : (exported : ExportedValues) (xid now : ℕ) (caller : Caller) (path : List ℕ) (kind : Kind) (id : ℕ) (found : Option Rec) → may_ask kind caller id ≡ true
-    → found ≡ record_under exported path kind id → reply_with xid now found ≡ reply_for exported xid now caller path (Some kind) id
+pub reply-allowed : (exported : ExportedValues) (xid now : ℕ) (caller : Caller) (path : List ℕ) (kind : Kind) (id : ℕ)
+    (found : Option Rec) → may_ask kind caller id ≡ true
+    → found ≡ record_under exported path kind id
+    → reply_with xid now found ≡ reply_for exported xid now caller path (Some kind) id
 reply-allowed exported xid now caller path kind id found may is =
     ap (reply_with xid now) is
-    ∙ ap (λ (b : Bool). if b then reply_with xid now (record_under exported path kind id) else reply.Denied xid) (sym may)
+    ∙ ap
+    (λ (b : Bool). if b then reply_with xid now (record_under exported path kind id) else reply.Denied xid) (sym may)
 
 -- whoever may not is denied
-pub reply-denied : (exported : ExportedValues) (xid now : ℕ) (caller : Caller) (path : List ℕ) (kind : Kind) (id : ℕ) → may_ask kind caller id ≡ false
+pub reply-denied : (exported : ExportedValues) (xid now : ℕ) (caller : Caller) (path : List ℕ) (kind : Kind) (id : ℕ)
+    → may_ask kind caller id ≡ false
     → reply.Denied xid ≡ reply_for exported xid now caller path (Some kind) id
 reply-denied exported xid now caller path kind id may =
     ap (λ (b : Bool). if b then reply_with xid now (record_under exported path kind id) else reply.Denied xid) (sym may)
 
 -- a datagram of which limits would be told is one that is replied to
-pub quota-not-silent : (seen : List ExportSeen) (datagram : List ℕ) (now : ℕ) (call : Call) → ((exported : ExportedValues) → HasPaths seen exported → IsQuota (reply_to exported datagram now call)) → call ≡ Silent → ⊥
+pub quota-not-silent : (seen : List ExportSeen) (datagram : List ℕ) (now : ℕ) (call : Call)
+    → ((exported : ExportedValues) → HasPaths seen exported → IsQuota (reply_to exported datagram now call))
+    → call ≡ Silent → ⊥
 quota-not-silent seen datagram now call quota is =
     let told : ExportedValues = told_by seen 0 zero_record in
     subst (λ (c : Call). IsQuota (reply_to told datagram now c)) is (quota told (told-paths seen 0 zero_record))
@@ -109,5 +119,6 @@ some-not-none None is absent = cc
 some-not-none (Some reply) is absent = cc
 
 -- one with a reply is no silent one
-pub reply-not-silent : (reply : Option Reply) (call : Call) → ((reply ≡ None) ↔ (call ≡ Silent)) → IsSome reply → call ≡ Silent → ⊥
+pub reply-not-silent : (reply : Option Reply) (call : Call) → ((reply ≡ None) ↔ (call ≡ Silent)) → IsSome reply
+    → call ≡ Silent → ⊥
 reply-not-silent reply call silent is quiet = some-not-none reply is (silent.1 quiet)

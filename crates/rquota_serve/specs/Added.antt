@@ -1,5 +1,6 @@
 -- What adding quota files to exports leaves, file by file.
-use Rattle.std.specs.Prelude.{◌≡◌, ◌+◌, ℕ, zero, suc, Bool, true, false, List, [], ◌∷◌, ◌++◌, map, take, Result, Ok, Err}
+use Rattle.std.specs.Prelude.{◌≡◌, ◌+◌, ℕ, zero, suc, Bool, true, false, List, [], ◌∷◌, ◌++◌, map, take, Result, Ok}
+use Rattle.std.specs.Prelude.{Err}
 use Rattle.quota_types.specs.declared.file_kind.Format.{Format}
 use Rattle.outside.specs.Frame.{OnlyReads}
 use Rattle.outside.specs.Seen.{StoreSeen}
@@ -35,7 +36,8 @@ abbrev pub one_later : Result (Unit {0}) AddFault → Result (Unit {0}) AddFault
 one_later (Ok done) = Ok done
 one_later (Err met) = Err (record met { place = met.place + 1 })
 
--- The exports are the old ones, and behind them these files in their order, each opened as the format that is asked for.
+-- The exports are the old ones, and behind them these files in their order, each opened as the format that is asked
+-- for.
 abbrev pub AreAdded : Asked → List NewSeen → (old new : List ExportSeen) → Type 0
 AreAdded asked [] old new = new ≡ old
 AreAdded asked (one ∷ news) old new =
@@ -45,7 +47,8 @@ AreAdded asked (one ∷ news) old new =
 -- The store was only read: each of these files, one after another.
 abbrev pub ReadsEach : List NewSeen → (old new : StoreSeen) → Type 0
 ReadsEach [] old new = new ≡ old
-ReadsEach (one ∷ news) old new = (between : StoreSeen) × OnlyReads true one.file old between × ReadsEach news between new
+ReadsEach (one ∷ news) old new =
+    (between : StoreSeen) × OnlyReads true one.file old between × ReadsEach news between new
 
 -- The file at this place was not opened, for this reason, once those before it were read; none behind it was tried.
 abbrev pub IsRefusedAt : Bool → Asked → ℕ → List NewSeen → OpenFault → (old new : StoreSeen) → Type 0

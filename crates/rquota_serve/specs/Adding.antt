@@ -16,15 +16,16 @@ pub record NewSeen : Type 0 where
   pub kind : Kind
   pub file : List ℕ
 
--- These files may be exported one after another behind those that are exported before: there are 16 at most, and no two have the same
--- path and kind.
+-- These files may be exported one after another behind those that are exported before: there are 16 at most, and no two
+-- have the same path and kind.
 abbrev pub MayAddAll : (before : List ExportSeen) → List NewSeen → Type 0
 MayAddAll before [] = ⊤
 MayAddAll before (new ∷ news) =
     IsTrue (may_add before new.path new.kind)
     × ((file : FileSeen) → MayAddAll (before ++ record { path = new.path; kind = new.kind; file = file } ∷ []) news)
 
--- These files are told of beside what is exported before: each is seen as a value, which is exported under its path for its kind.
+-- These files are told of beside what is exported before: each is seen as a value, which is exported under its path for
+-- its kind.
 abbrev pub AreToldOf : Asked → World → List NewSeen → (before exported : ExportedValues) → Type 0
 AreToldOf asked files [] before exported = exported ≡ before
 AreToldOf asked files (new ∷ news) before exported =

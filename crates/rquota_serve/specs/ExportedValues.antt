@@ -19,4 +19,5 @@ names_eq path kind path' kind' = bytes_eq path path' && kinds_eq kind kind'
 
 -- a value is exported under one path more; all others are as before
 abbrev pub with_export : ExportedValues → (path : List ℕ) → Kind → QuotaValue → ExportedValues
-with_export exported path kind value path' kind' = if names_eq path kind path' kind' then Some value else exported path' kind'
+with_export exported path kind value path' kind' =
+    if names_eq path kind path' kind' then Some value else exported path' kind'

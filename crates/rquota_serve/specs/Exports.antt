@@ -42,13 +42,15 @@ pub record IsServed (tells : Bool) (files : World) (exported : ExportedValues) (
   pub there : exported (string_bytes export.path) export.kind ≡ Some value
   pub held : HoldsAny tells files export.file value
 
--- The exports with a store, which tells its files or does not, stand for these values: those that their opened files hold, each
--- under its path and for its kind, and no others.
+-- The exports with a store, which tells its files or does not, stand for these values: those that their opened files
+-- hold, each under its path and for its kind, and no others.
 pub record Serves (tells : Bool) (files : World) (exports : Exports) (exported : ExportedValues) : Type 0 where
   pub each : All (IsServed tells files exported) (kept_in exports)
-  pub others : (path : List ℕ) (kind : Kind) → is_exported (exports_seen exports) path kind ≡ false → exported path kind ≡ None
+  pub others : (path : List ℕ) (kind : Kind) → is_exported (exports_seen exports) path kind ≡ false
+      → exported path kind ≡ None
 
--- A look-up in one of the files was refused: that file counts it, and all else that is seen of the exports is as before.
+-- A look-up in one of the files was refused: that file counts it, and all else that is seen of the exports is as
+-- before.
 pub record CountsOne (old new : List ExportSeen) : Type 0 where
   pub place : ℕ
   pub export : ExportSeen
@@ -59,10 +61,11 @@ pub record CountsOne (old new : List ExportSeen) : Type 0 where
 
 -- the opened file of one of the exports has this name
 abbrev pub IsOfExport : List ExportSeen → List ℕ → Type 0
-IsOfExport seen name = (place : ℕ) × (export : ExportSeen) × (slice_get seen place ≡ Some export) × (export.file.name ≡ name)
+IsOfExport seen name =
+    (place : ℕ) × (export : ExportSeen) × (slice_get seen place ≡ Some export) × (export.file.name ≡ name)
 
--- Look-ups in the files of exports: all files are as before, no call of `write` was made, and all names but those of these files
--- are as unsynced as they were.
+-- Look-ups in the files of exports: all files are as before, no call of `write` was made, and all names but those of
+-- these files are as unsynced as they were.
 pub record OnlyLooksUp (seen : List ExportSeen) (old new : StoreSeen) : Type 0 where
   pub files : new.files ≡ old.files
   pub unsynced : (name : List ℕ) → ¬ (IsOfExport seen name) → new.unsynced name ≡ old.unsynced name

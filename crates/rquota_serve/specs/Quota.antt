@@ -1,5 +1,6 @@
--- The limits and the usage of an identifier as they are sent: ten numbers of 32 bits (`struct rquota` of `rquota.x` of the quota
--- tools). Which size of a block is chosen, and what is sent of a number that does not fit, is this project's own.
+-- The limits and the usage of an identifier as they are sent: ten numbers of 32 bits (`struct rquota` of `rquota.x` of
+-- the quota tools). Which size of a block is chosen, and what is sent of a number that does not fit, is this project's
+-- own.
 use Rattle.std.specs.Prelude.{ℕ, ◌-◌, ◌^◌, Bool, ◌&&◌, nat_lt, nat_le, min, if◌then◌else◌, List, find, unwrap_or}
 use Rattle.std.specs.Int.{div_ceil}
 use Rattle.std.specs.List.{range_with_len}
@@ -37,7 +38,8 @@ block_power rec = unwrap_or (find (fit_blocks rec) block_powers) 30
 abbrev pub seconds_left : (timer now : ℕ) → ℕ
 seconds_left timer now = if nat_le timer now then 0 else narrowed (timer - now)
 
--- The ten numbers of a record at a moment. Limits are always told as enforced, and the time left rests on the timer alone.
+-- The ten numbers of a record at a moment. Limits are always told as enforced, and the time left rests on the timer
+-- alone.
 abbrev pub quota_of_record : Rec → (now : ℕ) → Quota
 quota_of_record rec now = record {
   bsize = 2 ^ block_power rec;

@@ -1,6 +1,8 @@
--- The reply to a datagram. Source: `rquota.x` of the quota tools and rpc.rquotad(8), who may ask; RFC 5531 for the refusals of a
--- call. The order of the checks is this project's own: whoever may not ask does not learn whether a path is exported.
-use Rattle.std.specs.Prelude.{ℕ, Bool, false, ◌||◌, ◌==◌, if◌then◌else◌, ◌+◌, List, slice_range, Option, None, Some, option_map, unwrap_or}
+-- The reply to a datagram. Source: `rquota.x` of the quota tools and rpc.rquotad(8), who may ask; RFC 5531 for the
+-- refusals of a call. The order of the checks is this project's own: whoever may not ask does not learn whether a path
+-- is exported.
+use Rattle.std.specs.Prelude.{ℕ, Bool, false, ◌||◌, ◌==◌, if◌then◌else◌, ◌+◌, List, slice_range, Option, None, Some}
+use Rattle.std.specs.Prelude.{option_map, unwrap_or}
 use Rattle.std.specs.FinMap.{get}
 use Rattle.std.specs.List.{list_any}
 use Rattle.quota_types.specs.Kind.{kind_numbered}
@@ -11,7 +13,8 @@ use Rattle.quota_types.specs.Rec.{zero_record}
 use Rattle.quota_value.specs.QuotaValue.{QuotaValue}
 use Rattle.rquota_xdr.specs.Call.{call_of}
 use Rattle.rquota_xdr.specs.declared.call.Call.{Call}
-use Rattle.rquota_xdr.specs.declared.call.Call.TheVariants.{Silent, OldRpc, NoProgram, NoVersion, NoProcedure, Auth, Garbage, Null, Get, Set}
+use Rattle.rquota_xdr.specs.declared.call.Call.TheVariants.{Silent, OldRpc, NoProgram, NoVersion, NoProcedure, Auth}
+use Rattle.rquota_xdr.specs.declared.call.Call.TheVariants.{Garbage, Null, Get, Set}
 use Rattle.rquota_xdr.specs.declared.call.Caller.{Caller}
 use Rattle.rquota_xdr.specs.declared.reply.Reply.{Reply}
 use Rattle.rquota_xdr.specs.declared.reply.Reply.TheVariants as reply
@@ -69,7 +72,8 @@ plain_reply (Set xid) = Some (reply.Denied xid)
 -- the reply to what a datagram asks at a moment, or none
 abbrev pub reply_to : ExportedValues → (datagram : List ℕ) → (now : ℕ) → Call → Option Reply
 reply_to exported datagram now (Get xid caller path type id) =
-    Some (reply_for exported xid now caller (slice_range datagram path.start (path.start + path.len)) (kind_named type) id)
+    Some
+    (reply_for exported xid now caller (slice_range datagram path.start (path.start + path.len)) (kind_named type) id)
 reply_to exported datagram now call = plain_reply call
 
 -- the reply to a datagram that comes at a moment, or none

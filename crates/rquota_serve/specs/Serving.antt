@@ -25,8 +25,8 @@ answers_of exported datagrams = map spelling_of (filter_map (datagram_reply expo
 abbrev pub HasReply : Datagram → Type 0
 HasReply datagram = ¬ (call_of (read_of datagram) ≡ Silent)
 
--- Serving ended before its time: fewer datagrams were handled than were asked for, and the answers to them were sent, and no
--- others. At most one more was taken; it is one that is replied to, and its reply was not sent.
+-- Serving ended before its time: fewer datagrams were handled than were asked for, and the answers to them were sent,
+-- and no others. At most one more was taken; it is one that is replied to, and its reply was not sent.
 pub record Stopped (serves : ExportedValues → Type 0) (calls : ℕ) (old new : LinkSeen) : Type 0 where
   pub done : List Datagram
   pub at_hand : Option Datagram

@@ -15,8 +15,9 @@ use outside::Store;
 use quota_types::Rec;
 use rquota_xdr::{Call, Reply, read_call};
 
-/// The reply to a datagram that comes at the moment `now`, in seconds since 1970; none where it is no call. A caller who may
-/// not ask is denied before anything is looked up: no call on the store is made unless limits are told. No memory is taken.
+/// The reply to a datagram that comes at the moment `now`, in seconds since 1970; none where it is no call. A caller
+/// who may not ask is denied before anything is looked up: no call on the store is made unless limits are told. No
+/// memory is taken.
 ///
 /// # Errors
 ///
@@ -27,7 +28,8 @@ pub fn answer<S: Store>(
     datagram: &[u8],
     now: u64,
 ) -> Result<Option<Reply>, FileFault>
-    ensures reply { IfOk result (λ reply. (exported : ExportedValues) → Serves S.tells (S.seen store.old).files exports.old exported
+    ensures reply { IfOk result
+        (λ reply. (exported : ExportedValues) → Serves S.tells (S.seen store.old).files exports.old exported
         → reply ≡ reply_of exported datagram.now now) }
     // Whatever the store tells, the reply is that of some values under just the paths that are exported.
     ensures told { IfOk result (λ reply. (exported : ExportedValues) × HasPaths (exports_seen exports.old) exported
@@ -55,7 +57,8 @@ fn answer_call<S: Store>(
     call: Call,
 ) -> Result<Option<Reply>, FileFault>
     requires { HasPathWithin (length datagram.now) call }
-    ensures reply { IfOk result (λ reply. (exported : ExportedValues) → Serves S.tells (S.seen store.old).files exports.old exported
+    ensures reply { IfOk result
+        (λ reply. (exported : ExportedValues) → Serves S.tells (S.seen store.old).files exports.old exported
         → reply ≡ reply_to exported datagram.now now call) }
     ensures told { IfOk result (λ reply. (exported : ExportedValues) × HasPaths (exports_seen exports.old) exported
         × (reply ≡ reply_to exported datagram.now now call)) }

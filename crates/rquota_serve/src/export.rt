@@ -79,7 +79,8 @@ impl Export {
     ///
     /// The store failed, or the file is damaged.
     pub(crate) fn record_of<S: Store>(&mut self, store: &mut S, id: u32) -> Result<Rec, FileFault>
-        ensures found { IfOk result (λ rec. (value : QuotaValue) → HoldsAny S.tells (S.seen store.old).files self.old.file value
+        ensures found { IfOk result
+            (λ rec. (value : QuotaValue) → HoldsAny S.tells (S.seen store.old).files self.old.file value
             → rec ≡ record_of id value) }
         ensures looks { LooksUp Some (any_laws S.tells) (any_at S.tells (S.seen store.old) self.old.file)
             (any_at S.tells (S.seen store.new) self.new.file) any_get_reads result }

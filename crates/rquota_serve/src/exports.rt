@@ -16,7 +16,8 @@ pub struct Exports {
 }
 
 impl Exports {
-    ghost use Rattle.std.specs.Prelude.{Bool, ◌≡◌, ◌+◌, ◌<◌, ◌≤◌, ◌∷◌, ◌++◌, [], Ok, Option, None, Some, IsTrue, IfOk, IfErr, IfSome, OnErr, OnOk, is_some, position, slice_get, is_ok, length};
+    ghost use Rattle.std.specs.Prelude.{Bool, ◌≡◌, ◌+◌, ◌<◌, ◌≤◌, ◌∷◌, ◌++◌, [], Ok, Option, None, Some, IsTrue, IfOk};
+    ghost use Rattle.std.specs.Prelude.{IfErr, IfSome, OnErr, OnOk, is_some, position, slice_get, is_ok, length};
     ghost use Rattle.quota_types.specs.declared.file_kind.Format.{Format};
     ghost use Rattle.outside.specs.Frame.{OnlyReads};
     ghost use Rattle.quota_value.specs.QuotaValue.{QuotaValue};
@@ -43,8 +44,8 @@ impl Exports {
         }
     }
 
-    /// Whether one more file may be exported under this path, for this kind: there are fewer than 16, and none of this path
-    /// and kind.
+    /// Whether one more file may be exported under this path, for this kind: there are fewer than 16, and none of this
+    /// path and kind.
     pub fn may_add(&self, path: &str, kind: Kind) -> bool
         ensures { result ≡ may_add (exports_seen self.now) path.now kind }
     {
@@ -94,8 +95,8 @@ impl Exports {
     ///
     /// # Errors
     ///
-    /// The first file that is refused, by its place and with its refusal. Those before it are exported, and those behind it
-    /// were not tried.
+    /// The first file that is refused, by its place and with its refusal. Those before it are exported, and those
+    /// behind it were not tried.
     pub fn add_all<S: Store>(
         &mut self,
         alloc: Global,
@@ -104,8 +105,10 @@ impl Exports {
         format: Option<Format>,
     ) -> Result<(), AddFault>
         requires { MayAddAll (exports_seen self.old) (news_seen list.now) }
-        ensures added { AreAdded (asked_of format) (added_of (news_seen list.now) result) (exports_seen self.old) (exports_seen self.new) }
-        ensures serves { IsTrue S.tells → (before : ExportedValues) → Serves S.tells (S.seen store.old).files self.old before
+        ensures added { AreAdded (asked_of format) (added_of (news_seen list.now) result) (exports_seen self.old)
+            (exports_seen self.new) }
+        ensures serves { IsTrue S.tells → (before : ExportedValues)
+            → Serves S.tells (S.seen store.old).files self.old before
             → (exported : ExportedValues)
             × AreToldOf (asked_of format) (S.seen store.old).files (added_of (news_seen list.now) result)
             before exported
@@ -159,7 +162,8 @@ impl Exports {
         kind: Kind,
         id: u32,
     ) -> Result<Option<Rec>, FileFault>
-        ensures found { IfOk result (λ found. (exported : ExportedValues) → Serves S.tells (S.seen store.old).files self.old exported
+        ensures found { IfOk result
+            (λ found. (exported : ExportedValues) → Serves S.tells (S.seen store.old).files self.old exported
             → found ≡ record_under exported path.now kind id) }
         ensures told { IfOk result (λ found. is_some found ≡ is_exported (exports_seen self.old) path.now kind) }
         ensures there { OnErr result (IsTrue (is_exported (exports_seen self.old) path.now kind)) }

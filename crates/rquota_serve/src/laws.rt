@@ -7,7 +7,8 @@ ghost use Rattle.rquota_xdr.specs.declared.reply.Reply.{Reply};
 ghost use Rattle.rquota_serve.specs.ExportedValues.{ExportedValues};
 ghost use Rattle.rquota_serve.specs.Reply.{reply_of};
 
-/// A reply has the xid of its call, whatever is exported, and where that is a number of 32 bits each unit of the reply is.
+/// A reply has the xid of its call, whatever is exported, and where that is a number of 32 bits each unit of the reply
+/// is.
 pub fn a_reply_is_known_by_its_call()
     ensures xid { (exported : ExportedValues) (datagram : List ℕ) (now : ℕ) (reply : Reply)
         → reply_of exported datagram now ≡ Some reply → reply_xid reply ≡ xid_of datagram }

@@ -1,11 +1,11 @@
 //! Replies to rquota calls out of quota files that are exported under paths.
 //!
-//! Whoever may ask is told limits and usage: the superuser of every identifier, a user of himself, and the members of a group
-//! of it; of projects the superuser alone. Whoever may not does not learn whether a path is exported. Answering takes no
-//! memory, and nothing is changed by it.
+//! Whoever may ask is told limits and usage: the superuser of every identifier, a user of himself, and the members of a
+//! group of it; of projects the superuser alone. Whoever may not does not learn whether a path is exported. Answering
+//! takes no memory, and nothing is changed by it.
 //!
-//! The one promise: the reply to a datagram is that of the values which the exported files stand for, and `serve` sends the
-//! answers to the given number of datagrams, in their order.
+//! The one promise: the reply to a datagram is that of the values which the exported files stand for, and `serve` sends
+//! the answers to the given number of datagrams, in their order.
 #![tactic(auto)]
 
 mod answering;

@@ -1,5 +1,6 @@
 ghost use Rattle.std.specs.Prelude.{◌≡◌, ◌≤◌};
-ghost use Rattle.rquota_serve.specs.Quota.{block_power, fit_blocks, limit_blocks, narrowed, quota_of_record, seconds_left, space_blocks};
+ghost use Rattle.rquota_serve.specs.Quota.{block_power, fit_blocks, limit_blocks, narrowed, quota_of_record};
+ghost use Rattle.rquota_serve.specs.Quota.{seconds_left, space_blocks};
 
 use quota_types::Rec;
 use rquota_xdr::Quota;
@@ -61,8 +62,8 @@ fn seconds_left(timer: u64, now: u64) -> u32
     narrowed(timer.saturating_sub(now))
 }
 
-/// The limits and the usage of a record as they are sent at the moment `now`, in seconds since 1970. Blocks have the least size
-/// from 1,024 bytes to 2^30 by which their numbers fit; what does not fit is the greatest number of 32 bits.
+/// The limits and the usage of a record as they are sent at the moment `now`, in seconds since 1970. Blocks have the
+/// least size from 1,024 bytes to 2^30 by which their numbers fit; what does not fit is the greatest number of 32 bits.
 pub fn quota_of(rec: &Rec, now: u64) -> Quota
     ensures { result ≡ quota_of_record rec.now now }
 {

@@ -13,13 +13,13 @@ use crate::{Exports, ServeFault, answer};
 use outside::{Link, LinkFault, Store};
 use rquota_xdr::{Reply, write_reply};
 
-/// Takes exactly `calls` datagrams from a link, those without a reply counted too, and sends the reply to each, at its own
-/// moment. A datagram is read by its first 4,096 bytes. The link is not started by it. No memory is taken.
+/// Takes exactly `calls` datagrams from a link, those without a reply counted too, and sends the reply to each, at its
+/// own moment. A datagram is read by its first 4,096 bytes. The link is not started by it. No memory is taken.
 ///
 /// # Errors
 ///
-/// The link failed, or an exported file did. The answers that were sent are then those to the datagrams before the one at hand;
-/// fewer than `calls` were taken, or the reply to the last one that was taken was not sent.
+/// The link failed, or an exported file did. The answers that were sent are then those to the datagrams before the one
+/// at hand; fewer than `calls` were taken, or the reply to the last one that was taken was not sent.
 pub fn serve<S: Store, L: Link>(
     exports: &mut Exports,
     store: &mut S,

@@ -1,11 +1,15 @@
 -- Units and their bytes.
-use Rattle.std.proofs.Common.{◌≡◌, ℕ, zero, suc, ◌+◌, ◌-◌, ◌*◌, ◌<◌, List, [], ◌∷◌, ◌++◌, get_or, drop, refl, ap, ◌∙◌, arith}
+use Rattle.std.proofs.Common.{◌≡◌, ℕ, zero, suc, ◌+◌, ◌-◌, ◌*◌, ◌<◌, List, [], ◌∷◌, ◌++◌, get_or, drop, refl, ap, ◌∙◌}
+use Rattle.std.proofs.Common.{arith}
 use Rattle.std.specs.Int.{w32, from_be_bytes}
 use Rattle.std.proofs.lemmas.List.{get_or-take, get_or-drop}
 use Rattle.rquota_xdr.specs.Units.{unit_at, units_from}
 
 -- the number that the four bytes at a place spell
-pub unit_at-bytes : (bytes : List ℕ) (at : ℕ) → from_be_bytes w32 (get_or bytes at 0 ∷ get_or bytes (at + 1) 0 ∷ get_or bytes (at + 2) 0 ∷ get_or bytes (at + 3) 0 ∷ []) ≡ unit_at bytes at
+pub unit_at-bytes : (bytes : List ℕ) (at : ℕ)
+    → from_be_bytes w32
+    (get_or bytes at 0 ∷ get_or bytes (at + 1) 0 ∷ get_or bytes (at + 2) 0 ∷ get_or bytes (at + 3) 0 ∷ [])
+    ≡ unit_at bytes at
 unfolding unit_at
 unit_at-bytes bytes at =
     let four : at + 4 - at ≡ 4 = omega arith in
@@ -14,7 +18,8 @@ unit_at-bytes bytes at =
     rw (four, byte 0 (omega arith), byte 1 (omega arith), byte 2 (omega arith), byte 3 (omega arith), none) refl
 
 -- one unit more stands behind the others
-pub one_unit_more : (bytes : List ℕ) (at count : ℕ) → units_from bytes at (count + 1) ≡ units_from bytes at count ++ unit_at bytes (at + 4 * count) ∷ []
+pub one_unit_more : (bytes : List ℕ) (at count : ℕ)
+    → units_from bytes at (count + 1) ≡ units_from bytes at count ++ unit_at bytes (at + 4 * count) ∷ []
 unfolding units_from
 one_unit_more bytes at zero =
     let none : at + 4 * 0 ≡ at = omega arith in

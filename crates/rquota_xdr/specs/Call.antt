@@ -1,9 +1,13 @@
 -- What a datagram asks of an rquota server: the table of what must hold of a call, in the order in which it is told.
-use Rattle.std.specs.Prelude.{◌≡◌, ℕ, ◌+◌, ◌<◌, ◌^◌, ◌≤◌, not, ◌||◌, ◌==◌, nat_le, if◌then◌else◌, List, [], ◌∷◌, ◌++◌, length, unwrap_or}
-use Rattle.rquota_xdr.specs.Fields.{caller_of, flavor_of, has_arguments, id_of, is_credential, is_set, is_system_credential, is_verifier, kind_of, message_type_of, path_of, procedure_of, program_of, rpc_version_of, version_of, xid_of}
+use Rattle.std.specs.Prelude.{◌≡◌, ℕ, ◌+◌, ◌<◌, ◌^◌, ◌≤◌, not, ◌||◌, ◌==◌, nat_le, if◌then◌else◌, List, [], ◌∷◌, ◌++◌}
+use Rattle.std.specs.Prelude.{length, unwrap_or}
+use Rattle.rquota_xdr.specs.Fields.{caller_of, flavor_of, has_arguments, id_of, is_credential, is_set}
+use Rattle.rquota_xdr.specs.Fields.{is_system_credential, is_verifier, kind_of, message_type_of, path_of, procedure_of}
+use Rattle.rquota_xdr.specs.Fields.{program_of, rpc_version_of, version_of, xid_of}
 use Rattle.rquota_xdr.specs.Rows.{Row, ◌otherwise◌, first_failing}
 use Rattle.rquota_xdr.specs.declared.call.Call.{Call}
-use Rattle.rquota_xdr.specs.declared.call.Call.TheVariants.{Silent, OldRpc, NoProgram, NoVersion, NoProcedure, Auth, Garbage, Null, Get, Set}
+use Rattle.rquota_xdr.specs.declared.call.Call.TheVariants.{Silent, OldRpc, NoProgram, NoVersion, NoProcedure, Auth}
+use Rattle.rquota_xdr.specs.declared.call.Call.TheVariants.{Garbage, Null, Get, Set}
 
 -- the head (RFC 5531, section 9)
 unfoldable pub head_rows : List ℕ → List Row

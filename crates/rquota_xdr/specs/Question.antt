@@ -57,7 +57,9 @@ kind_with (Some kind) = kind
 -- the credential: the fields of `struct authsys_parms`
 abbrev pub credential : Question → Padded
 credential q = record {
-  text = bytes_of (q.stamp ∷ []) ++ (opaque q.machine ++ (bytes_of (q.caller.uid ∷ q.caller.gid ∷ length q.caller.gids ∷ q.caller.gids) ++ q.behind_caller));
+  text = bytes_of (q.stamp ∷ [])
+      ++ (opaque q.machine
+      ++ (bytes_of (q.caller.uid ∷ q.caller.gid ∷ length q.caller.gids ∷ q.caller.gids) ++ q.behind_caller));
   padding = q.credential_padding;
 }
 
@@ -87,5 +89,6 @@ pub record IsQuestion (q : Question) : Type 0 where
 -- the datagram asks for the limits of this question, by a path of these bytes
 pub record Asks (datagram : List ℕ) (q : Question) : Type 0 where
   pub start : ℕ
-  pub call : call_of datagram ≡ Get q.xid q.caller (record { start = start; len = length q.path.text }) (kind_with q.kind) q.id
+  pub call : call_of datagram
+      ≡ Get q.xid q.caller (record { start = start; len = length q.path.text }) (kind_with q.kind) q.id
   pub path : slice_range datagram start (start + length q.path.text) ≡ q.path.text

@@ -4,7 +4,8 @@ use Rattle.std.specs.Int.{w32, to_be_bytes}
 use Rattle.std.specs.List.{AllByRecursion, flat_map}
 use Rattle.rquota_xdr.specs.declared.reply.Quota.{Quota}
 use Rattle.rquota_xdr.specs.declared.reply.Reply.{Reply}
-use Rattle.rquota_xdr.specs.declared.reply.Reply.TheVariants.{OldRpc, NoProgram, NoVersion, NoProcedure, Auth, Garbage, Null, NoQuota, Denied}
+use Rattle.rquota_xdr.specs.declared.reply.Reply.TheVariants.{OldRpc, NoProgram, NoVersion, NoProcedure, Auth, Garbage}
+use Rattle.rquota_xdr.specs.declared.reply.Reply.TheVariants.{Null, NoQuota, Denied}
 use Rattle.rquota_xdr.specs.declared.reply.Reply.TheVariants as reply
 
 -- the ten units of a quota, in the order of `struct rquota`

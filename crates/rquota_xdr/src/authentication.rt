@@ -1,8 +1,10 @@
-ghost use Rattle.std.specs.Prelude.{◌≡◌, ◌+◌, ◌≤◌, ◌==◌, if◌then◌else◌, length, None, Some, is_some, IfSome, OnOk, IfOk, IfErr};
+ghost use Rattle.std.specs.Prelude.{◌≡◌, ◌+◌, ◌≤◌, ◌==◌, if◌then◌else◌, length, None, Some, is_some, IfSome, OnOk};
+ghost use Rattle.std.specs.Prelude.{IfOk, IfErr};
 ghost use Rattle.rquota_xdr.specs.Rows.{first_failing};
 ghost use Rattle.rquota_xdr.specs.Units.{unit_at};
 ghost use Rattle.rquota_xdr.specs.Call.{credential_rows, caller_rows};
-ghost use Rattle.rquota_xdr.specs.Fields.{body_end_of, caller_of, flavor_of, is_system_credential, verifier_at, xid_of, arguments_at};
+ghost use Rattle.rquota_xdr.specs.Fields.{body_end_of, caller_of, flavor_of, is_system_credential, verifier_at, xid_of};
+ghost use Rattle.rquota_xdr.specs.Fields.{arguments_at};
 ghost use Rattle.rquota_xdr.specs.declared.call.Call.TheVariants.{Auth};
 
 use crate::units::{opaque_at, unit_at};

@@ -39,8 +39,8 @@ pub enum Call {
     Null {
         xid: u32,
     },
-    /// It asks for limits and usage. `path` is where the path's bytes stand in the datagram, `kind` is 0 for a user, 1 for
-    /// a group and 2 for a project, and any other number names nothing.
+    /// It asks for limits and usage. `path` is where the path's bytes stand in the datagram, `kind` is 0 for a user, 1
+    /// for a group and 2 for a project, and any other number names nothing.
     Get {
         xid: u32,
         caller: Caller,

@@ -1,7 +1,9 @@
-ghost use Rattle.std.specs.Prelude.{◌≡◌, ◌≤◌, length, None, Some, OnOk, IfOk, IfErr, ◌+◌, ◌<◌, ◌^◌, if◌then◌else◌, is_some, IfSome};
+ghost use Rattle.std.specs.Prelude.{◌≡◌, ◌≤◌, length, None, Some, OnOk, IfOk, IfErr, ◌+◌, ◌<◌, ◌^◌, if◌then◌else◌};
+ghost use Rattle.std.specs.Prelude.{is_some, IfSome};
 ghost use Rattle.rquota_xdr.specs.Rows.{first_failing};
 ghost use Rattle.rquota_xdr.specs.Call.{head_rows, HasPathWithin, call_of};
-ghost use Rattle.rquota_xdr.specs.Fields.{has_type, is_set, xid_of, arguments_at, has_arguments, id_of, kind_of, path_of};
+ghost use Rattle.rquota_xdr.specs.Fields.{has_type, is_set, xid_of, arguments_at, has_arguments, id_of, kind_of};
+ghost use Rattle.rquota_xdr.specs.Fields.{path_of};
 
 use crate::authentication::authenticate;
 use crate::units::{opaque_at, unit_at};

@@ -1,4 +1,5 @@
-ghost use Rattle.std.specs.Prelude.{◌≡◌, ◌≢◌, ◌==◌, ◌&&◌, ◌%◌, ◌/◌, nat_le, length, is_some, IfSome, IfNone, Some, ◌*◌, ◌≤◌, ◌++◌, drop};
+ghost use Rattle.std.specs.Prelude.{◌≡◌, ◌≢◌, ◌==◌, ◌&&◌, ◌%◌, ◌/◌, nat_le, length, is_some, IfSome, IfNone, Some, ◌*◌};
+ghost use Rattle.std.specs.Prelude.{◌≤◌, ◌++◌, drop};
 ghost use Rattle.rquota_xdr.specs.Units.{units_from};
 ghost use Rattle.rquota_xdr.specs.Reply.{FitsUnits, quota_units, spelling_of, units_of, AreNumbers, bytes_of};
 ghost use Rattle.rquota_xdr.specs.declared.reply.Quota.{Quota};

@@ -1,8 +1,9 @@
-//! A server of rquota over TCP as a program: [`rpc_record::run_stream`] over the words, files, streams and network of the
-//! system.
+//! A server of rquota over TCP as a program: [`rpc_record::run_stream`] over the words, files, streams and network of
+//! the system.
 #![tactic(auto)]
 
 use command_reasons::{Program, program_reason};
+use file_locks::sharing::Sharing;
 use help::text_asked;
 use journal_store::JournalStore;
 use program_help::tell_asked;
@@ -17,17 +18,17 @@ use run_notes::Teller;
 use std::alloc::{AllocError, Global};
 use std::fs::{File, Files};
 use std::io;
-use std::io::{Eprint, IsTerminal};
+use std::io::{Eprint, IsTerminal, Write};
 use std::process::ExitCode;
 use stream_words::read_words;
 use system_network::TcpConns;
-use system_objects::{DiskFailure, FileDisk, Sharing};
+use system_objects::{DiskFailure, FileDisk};
 use system_streams::{LinkFailure, StreamSink};
 
 mod help;
 
-/// Tells a disk beside which files undo files stand, and that each file is read as it is opened, so that no lock is held
-/// while connections are waited for. Words that are outside the grammar name no files, and are refused by the run.
+/// Tells a disk beside which files undo files stand, and that each file is read as it is opened, so that no lock is
+/// held while connections are waited for. Words that are outside the grammar name no files, and are refused by the run.
 fn share_files<R: Files<File = File> + Eprint>(
     disk: &mut FileDisk<'_, R>,
     words: &[String],
@@ -50,8 +51,8 @@ fn output_reason<'a>(output: Option<io::Error>) -> Option<Reason<'a>> {
     })
 }
 
-/// What the system refused, and why, of the disk or of the connections. A run ends with the first call on the disk that fails,
-/// and goes on behind a fault of a connection.
+/// What the system refused, and why, of the disk or of the connections. A run ends with the first call on the disk that
+/// fails, and goes on behind a fault of a connection.
 fn system_reason<'a>(
     disk: Option<&'a DiskFailure>,
     conns: Option<LinkFailure>,
@@ -89,6 +90,44 @@ fn text_of(
     program_reason(alloc, Program::Server, error_line?, words).unwrap_or(None)
 }
 
+/// Serves as words ask for it, and says on the error output why it could not, where that is asked for. Answers the
+/// status with which the program ends.
+fn serve<'a, E: Write>(
+    rt: &'a HostRuntime,
+    called: &'a str,
+    words: &[String],
+    is_asked: bool,
+    err: &mut StreamSink<E>,
+) -> u8 {
+    let teller = Teller::of(name_in(called), rt.stderr().is_terminal());
+    let mut disk = FileDisk::new(rt.alloc(), rt);
+    disk.tell(teller);
+    if share_files(&mut disk, words).is_err() {
+        return stop(err, Cause::Memory, rt.alloc());
+    }
+    let mut conns = TcpConns::new(rt);
+    conns.tell_port(teller);
+    if is_asked {
+        err.keep();
+    }
+    let mut store = JournalStore::new(disk);
+    let status = run_stream(rt.alloc(), words, &mut store, &mut conns, err);
+    let disk = store.into_disk();
+    let text = text_of(rt.alloc(), is_asked, status, err.last_line(), words);
+    let refused = system_reason(disk.failure(), conns.failure());
+    let reason = run_reason(status, text.as_ref().map(|text| text.as_str()), refused);
+    add_reason(err, is_asked, status, called, reason, rt.alloc());
+    tell_undo_files(
+        err,
+        is_asked,
+        name_in(called),
+        disk.failure(),
+        disk.gates(),
+        rt.alloc(),
+    );
+    status
+}
+
 fn main(rt: HostRuntime) -> ExitCode {
     let held = hold_closed_streams(&rt);
     let mut err = StreamSink::new(rt.stderr());
@@ -107,33 +146,7 @@ fn main(rt: HostRuntime) -> ExitCode {
                 add_reason(&mut err, is_asked, status, called, reason, rt.alloc());
                 return ExitCode::from(status);
             }
-            let teller = Teller::of(name_in(called), is_terminal);
-            let mut disk = FileDisk::new(rt.alloc(), &rt);
-            disk.tell(teller);
-            if share_files(&mut disk, &words).is_err() {
-                return ExitCode::from(stop(&mut err, Cause::Memory, rt.alloc()));
-            }
-            let mut conns = TcpConns::new(&rt);
-            conns.tell_port(teller);
-            if is_asked {
-                err.keep();
-            }
-            let mut store = JournalStore::new(disk);
-            let status = run_stream(rt.alloc(), &words, &mut store, &mut conns, &mut err);
-            let disk = store.into_disk();
-            let text = text_of(rt.alloc(), is_asked, status, err.last_line(), &words);
-            let refused = system_reason(disk.failure(), conns.failure());
-            let reason = run_reason(status, text.as_ref().map(|text| text.as_str()), refused);
-            add_reason(&mut err, is_asked, status, called, reason, rt.alloc());
-            tell_undo_files(
-                &mut err,
-                is_asked,
-                name_in(called),
-                disk.failure(),
-                disk.gates(),
-                rt.alloc(),
-            );
-            status
+            serve(&rt, called, &words, is_asked, &mut err)
         }
         Err(error) => {
             let cause = words_cause(UsageKind::WrongOperands, error.kind());

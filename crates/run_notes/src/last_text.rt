@@ -11,8 +11,8 @@ const LEAST: usize = 4096;
 /// How many bytes are kept at most.
 const MOST: usize = 8192;
 
-/// The bytes of a text that were taken last, with the number of the line in which they begin. A line of at most 4,096 bytes
-/// which ends in the last 4,096 bytes is kept whole.
+/// The bytes of a text that were taken last, with the number of the line in which they begin. A line of at most 4,096
+/// bytes which ends in the last 4,096 bytes is kept whole.
 #[derive(Debug, Drop)]
 pub struct LastText {
     kept: ArrayVec<u8, MOST>,
@@ -68,8 +68,8 @@ impl LastText {
         self.taken > self.kept.len() as u64
     }
 
-    /// The line of this number, counted from 1, without its newline and as far as it was taken; none where it was not, or is
-    /// not kept from its beginning on.
+    /// The line of this number, counted from 1, without its newline and as far as it was taken; none where it was not,
+    /// or is not kept from its beginning on.
     pub fn line(&self, number: u64) -> Option<&[u8]> {
         let before = number.checked_sub(1)?.checked_sub(self.ended)?;
         if before == 0 && self.has_forgotten() {

@@ -7,6 +7,7 @@ pub mod InARowLemmas
 pub mod LookLemmas
 pub mod LookingLemmas
 pub mod MeaningLemmas
+pub mod TakenLemmas
 pub mod OneCommandLemmas
 pub mod OpeningLemmas
 pub mod PartLemmas
@@ -14,6 +15,7 @@ pub mod PhaseLemmas
 pub mod ReasonLemmas
 pub mod RoomLemmas
 pub mod RowLemmas
+pub mod SeenAlikeLemmas
 pub mod SameViewLemmas
 pub mod ShowingLemmas
 pub mod StartingLemmas

@@ -1,5 +1,6 @@
 -- Laws of what steps mean.
-use Rattle.std.proofs.Common.{◌≡◌, ◌⊎◌, inl, inr, ℕ, suc, ◌+◌, Bool, true, false, IsTrue, List, [], ◌∷◌, ◌++◌, length, length-append, take, Option, None, Some, Ok, refl, sym, ap, subst, ◌∙◌, append_assoc}
+use Rattle.std.proofs.Common.{◌≡◌, ◌⊎◌, inl, inr, ℕ, Bool, true, false, IsTrue, List, [], ◌∷◌, ◌++◌}
+use Rattle.std.proofs.Common.{take, Option, None, Some, Ok, refl, sym, ap, subst, ◌∙◌}
 use Rattle.std.specs.Prelude.{◌&&◌}
 use Rattle.std.proofs.lemmas.Bool.{false≢true}
 use Rattle.std.proofs.lemmas.Option.{none-some}
@@ -15,8 +16,8 @@ use Rattle.refusals.specs.Refusals.{in_line}
 use Rattle.run_steps.specs.Act.{Act, Change, Replace, Start, Follows, FollowsAct}
 use Rattle.run_steps.specs.Done.{Outside}
 use Rattle.run_steps.specs.Meaning.{EndsBy, HasBegun, IsSure}
-use Rattle.run_steps.specs.OneCommand.{AreSameSteps, IsFirstPart, LooksFirst, LooksFirstBy, ReadsToEnd, RestsOnNone, UnlessFull, leaves_files}
-use Rattle.run_steps.specs.Received.{AreReceived, Receives}
+use Rattle.run_steps.specs.OneCommand.{AreSameSteps, IsFirstPart, LooksFirst, LooksFirstBy, RestsOnNone}
+use Rattle.run_steps.specs.OneCommand.{UnlessFull, leaves_files}
 use Rattle.run_steps.specs.Steps.{Steps, Ending, Doing, Looking, Opening, Reading, Starting, Receiving, Before, InLine}
 use Rattle.run_steps.proofs.ActLemmas.{follows-append}
 use Rattle.run_steps.proofs.RoomLemmas.{full_begun, full_ended, full_in_line, strictly, unless_full}
@@ -25,16 +26,24 @@ use Rattle.quota_map.proofs.SeenOnceLemmas.{seen_once}
 -- What has ended has begun.
 
 -- steps that have ended have begun, with all their acts, and none is at hand
-pub ended_begun : (steps : Steps) (old : Outside) (acts : List Act) (new : Outside) (refusal : Option Refusal) → EndsBy steps old acts new refusal → HasBegun steps old acts [] new
-ended_begun (Ending stated) old acts new refusal is = record { done_none = is.acts_none; at_hand = refl; same = is.same }
-ended_begun (Doing act next) old acts new refusal by = inr (by.0, by.1, by.2, by.3, ended_begun next (record old { files = by.1 }) by.0 new refusal by.4)
+pub ended_begun : (steps : Steps) (old : Outside) (acts : List Act) (new : Outside) (refusal : Option Refusal)
+    → EndsBy steps old acts new refusal → HasBegun steps old acts [] new
+ended_begun (Ending stated) old acts new refusal is =
+    record { done_none = is.acts_none; at_hand = refl; same = is.same }
+ended_begun (Doing act next) old acts new refusal by =
+    inr (by.0, by.1, by.2, by.3, ended_begun next (record old { files = by.1 }) by.0 new refusal by.4)
 ended_begun (Looking next) old acts new refusal by = ended_begun (next old.files) old acts new refusal by
-ended_begun (Opening kind asked name next) old acts new refusal (inl seen) = inr (seen.0, seen.1, ended_begun (next seen.0) old acts new refusal seen.2)
-ended_begun (Opening kind asked name next) old acts new refusal (inr bad) = inl (record { done_none = bad.2.acts_none; at_hand = refl; same = bad.2.same })
-ended_begun (Reading whole next) old acts new refusal by = inr (by.0, by.1, ended_begun (next old.input) (record old { input = by.0 }) acts new refusal by.2)
+ended_begun (Opening kind asked name next) old acts new refusal (inl seen) =
+    inr (seen.0, seen.1, ended_begun (next seen.0) old acts new refusal seen.2)
+ended_begun (Opening kind asked name next) old acts new refusal (inr bad) =
+    inl (record { done_none = bad.2.acts_none; at_hand = refl; same = bad.2.same })
+ended_begun (Reading whole next) old acts new refusal by =
+    inr (by.0, by.1, ended_begun (next old.input) (record old { input = by.0 }) acts new refusal by.2)
 ended_begun (Starting port next) old acts new refusal by = inr (by.0, by.1, ended_begun next old by.0 new refusal by.2)
-ended_begun (Receiving next) old acts new refusal by = inr (by.0, by.1, by.2, ended_begun (next by.0) (record old { datagrams = by.1 }) acts new refusal by.3)
-ended_begun (Before one others) old acts new refusal (inl stopped) = inl (ended_begun one old acts new (Some stopped.0) stopped.2)
+ended_begun (Receiving next) old acts new refusal by =
+    inr (by.0, by.1, by.2, ended_begun (next by.0) (record old { datagrams = by.1 }) acts new refusal by.3)
+ended_begun (Before one others) old acts new refusal (inl stopped) =
+    inl (ended_begun one old acts new (Some stopped.0) stopped.2)
 ended_begun (Before one others) old acts new refusal (inr passed) =
     inr (passed.0, passed.1, passed.2, passed.3, passed.4, ended_begun others passed.1 passed.2 new refusal passed.5)
 ended_begun (InLine line steps) old acts new refusal by = ended_begun steps old acts new by.0 by.2
@@ -54,79 +63,107 @@ unbegun (InLine line steps) old = unbegun steps old
 -- Files follow the acts.
 
 none_follow : (acts : List Act) (old new : Outside) → acts ≡ [] → new ≡ old → Follows acts old.files new.files
-none_follow acts old new none same = subst (λ (a : List Act). Follows a old.files new.files) (sym none) (ap (λ (o : Outside). o.files) same)
+none_follow acts old new none same =
+    subst (λ (a : List Act). Follows a old.files new.files) (sym none) (ap (λ (o : Outside). o.files) same)
 
-pub begun_follow : (steps : Steps) (old : Outside) (done hand : List Act) (now : Outside) → HasBegun steps old done hand now → Follows done old.files now.files
+pub begun_follow : (steps : Steps) (old : Outside) (done hand : List Act) (now : Outside)
+    → HasBegun steps old done hand now → Follows done old.files now.files
 begun_follow (Ending stated) old done hand now is = none_follow done old now is.done_none is.same
 begun_follow (Doing act next) old done hand now (inl is) = none_follow done old now is.done_none is.same
 begun_follow (Doing act next) old done hand now (inr by) =
-    subst (λ (a : List Act). Follows a old.files now.files) (sym by.2) (by.1, by.3, begun_follow next (record old { files = by.1 }) by.0 hand now by.4)
+    subst (λ (a : List Act). Follows a old.files now.files) (sym by.2)
+    (by.1, by.3, begun_follow next (record old { files = by.1 }) by.0 hand now by.4)
 begun_follow (Looking next) old done hand now by = begun_follow (next old.files) old done hand now by
 begun_follow (Opening kind asked name next) old done hand now (inl is) = none_follow done old now is.done_none is.same
 begun_follow (Opening kind asked name next) old done hand now (inr by) = begun_follow (next by.0) old done hand now by.2
 begun_follow (Reading whole next) old done hand now (inl is) = none_follow done old now is.done_none is.same
-begun_follow (Reading whole next) old done hand now (inr by) = begun_follow (next old.input) (record old { input = by.0 }) done hand now by.2
+begun_follow (Reading whole next) old done hand now (inr by) =
+    begun_follow (next old.input) (record old { input = by.0 }) done hand now by.2
 begun_follow (Starting port next) old done hand now (inl is) = none_follow done old now is.done_none is.same
 begun_follow (Starting port next) old done hand now (inr by) =
-    subst (λ (a : List Act). Follows a old.files now.files) (sym by.1) (old.files, refl, begun_follow next old by.0 hand now by.2)
+    subst (λ (a : List Act). Follows a old.files now.files) (sym by.1)
+    (old.files, refl, begun_follow next old by.0 hand now by.2)
 begun_follow (Receiving next) old done hand now (inl is) = none_follow done old now is.done_none is.same
-begun_follow (Receiving next) old done hand now (inr by) = begun_follow (next by.0) (record old { datagrams = by.1 }) done hand now by.3
+begun_follow (Receiving next) old done hand now (inr by) =
+    begun_follow (next by.0) (record old { datagrams = by.1 }) done hand now by.3
 begun_follow (Before one others) old done hand now (inl by) = begun_follow one old done hand now by
 begun_follow (Before one others) old done hand now (inr by) =
     subst (λ (a : List Act). Follows a old.files now.files) (sym by.3)
-    (follows-append by.0 by.2 old.files by.1.files now.files (begun_follow one old by.0 [] by.1 (ended_begun one old by.0 by.1 None by.4))
+    (follows-append by.0 by.2 old.files by.1.files now.files
+    (begun_follow one old by.0 [] by.1 (ended_begun one old by.0 by.1 None by.4))
     (begun_follow others by.1 by.2 hand now by.5))
 begun_follow (InLine line steps) old done hand now by = begun_follow steps old done hand now by
 
-pub ends_follow : (steps : Steps) (old : Outside) (acts : List Act) (new : Outside) (refusal : Option Refusal) → EndsBy steps old acts new refusal → Follows acts old.files new.files
-ends_follow steps old acts new refusal by = begun_follow steps old acts [] new (ended_begun steps old acts new refusal by)
+pub ends_follow : (steps : Steps) (old : Outside) (acts : List Act) (new : Outside) (refusal : Option Refusal)
+    → EndsBy steps old acts new refusal → Follows acts old.files new.files
+ends_follow steps old acts new refusal by =
+    begun_follow steps old acts [] new (ended_begun steps old acts new refusal by)
 
 -- Steps that are sure.
 
 -- they end with no refusal
-pub sure_ends : (steps : Steps) (old : Outside) (acts : List Act) (new : Outside) (refusal : Option Refusal) → IsSure steps old → EndsBy steps old acts new refusal → refusal ≡ None
+pub sure_ends : (steps : Steps) (old : Outside) (acts : List Act) (new : Outside) (refusal : Option Refusal)
+    → IsSure steps old → EndsBy steps old acts new refusal → refusal ≡ None
 sure_ends (Ending stated) old acts new refusal sure is = is.ends ∙ sure
-sure_ends (Doing act next) old acts new refusal sure by = sure_ends next (record old { files = by.1 }) by.0 new refusal (sure by.1 by.3) by.4
+sure_ends (Doing act next) old acts new refusal sure by =
+    sure_ends next (record old { files = by.1 }) by.0 new refusal (sure by.1 by.3) by.4
 sure_ends (Looking next) old acts new refusal sure by = sure_ends (next old.files) old acts new refusal sure by
-sure_ends (Opening kind asked name next) old acts new refusal sure (inl seen) = sure_ends (next seen.0) old acts new refusal (sure.1 seen.0 seen.1) seen.2
+sure_ends (Opening kind asked name next) old acts new refusal sure (inl seen) =
+    sure_ends (next seen.0) old acts new refusal (sure.1 seen.0 seen.1) seen.2
 sure_ends (Opening kind asked name next) old acts new refusal sure (inr bad) = absurd (sure.0 bad.0 bad.1)
-sure_ends (Reading whole next) old acts new refusal sure by = sure_ends (next old.input) (record old { input = by.0 }) acts new refusal (sure by.0 by.1) by.2
+sure_ends (Reading whole next) old acts new refusal sure by =
+    sure_ends (next old.input) (record old { input = by.0 }) acts new refusal (sure by.0 by.1) by.2
 sure_ends (Starting port next) old acts new refusal sure by = sure_ends next old by.0 new refusal sure by.2
-sure_ends (Receiving next) old acts new refusal sure by = sure_ends (next by.0) (record old { datagrams = by.1 }) acts new refusal (sure by.0 by.1 by.2) by.3
-sure_ends (Before one others) old acts new refusal sure (inl stopped) = absurd (none-some stopped.0 (sym (sure_ends one old acts new (Some stopped.0) sure.0 stopped.2)))
-sure_ends (Before one others) old acts new refusal sure (inr passed) = sure_ends others passed.1 passed.2 new refusal (sure.1 passed.0 passed.1 passed.4) passed.5
-sure_ends (InLine line steps) old acts new refusal sure by = by.1 ∙ ap (in_line line) (sure_ends steps old acts new by.0 sure by.2)
+sure_ends (Receiving next) old acts new refusal sure by =
+    sure_ends (next by.0) (record old { datagrams = by.1 }) acts new refusal (sure by.0 by.1 by.2) by.3
+sure_ends (Before one others) old acts new refusal sure (inl stopped) =
+    absurd (none-some stopped.0 (sym (sure_ends one old acts new (Some stopped.0) sure.0 stopped.2)))
+sure_ends (Before one others) old acts new refusal sure (inr passed) =
+    sure_ends others passed.1 passed.2 new refusal (sure.1 passed.0 passed.1 passed.4) passed.5
+sure_ends (InLine line steps) old acts new refusal sure by =
+    by.1 ∙ ap (in_line line) (sure_ends steps old acts new by.0 sure by.2)
 
 -- steps are sure where they end with no refusal, whatever is chosen
-pub unrefused_sure : (steps : Steps) (old : Outside) → ((acts : List Act) (new : Outside) (refusal : Refusal) → ¬ EndsBy steps old acts new (Some refusal)) → IsSure steps old
+pub unrefused_sure : (steps : Steps) (old : Outside)
+    → ((acts : List Act) (new : Outside) (refusal : Refusal) → ¬ EndsBy steps old acts new (Some refusal))
+    → IsSure steps old
 unrefused_sure (Ending None) old never = refl
-unrefused_sure (Ending (Some refusal)) old never = absurd (never [] old refusal (record { acts_none = refl; same = refl; ends = refl }))
+unrefused_sure (Ending (Some refusal)) old never =
+    absurd (never [] old refusal (record { acts_none = refl; same = refl; ends = refl }))
 unrefused_sure (Doing act next) old never = λ middle follows.
-    unrefused_sure next (record old { files = middle }) (λ acts new refusal by. never (act ∷ acts) new refusal (acts, middle, refl, follows, by))
+    unrefused_sure next (record old { files = middle })
+    (λ acts new refusal by. never (act ∷ acts) new refusal (acts, middle, refl, follows, by))
 unrefused_sure (Looking next) old never = unrefused_sure (next old.files) old never
 unrefused_sure (Opening kind asked name next) old never = (
   λ fault view. never [] old _ (inr (fault, view, record { acts_none = refl; same = refl; ends = refl })),
   λ value view. unrefused_sure (next value) old (λ acts new refusal by. never acts new refusal (inl (value, view, by))),
 )
 unrefused_sure (Reading whole next) old never = λ left taken.
-    unrefused_sure (next old.input) (record old { input = left }) (λ acts new refusal by. never acts new refusal (left, taken, by))
+    unrefused_sure (next old.input) (record old { input = left })
+    (λ acts new refusal by. never acts new refusal (left, taken, by))
 unrefused_sure (Starting port next) old never =
-    unrefused_sure next old (λ acts new refusal by. never (Start port old.datagrams ∷ acts) new refusal (acts, refl, by))
+    unrefused_sure next old
+    (λ acts new refusal by. never (Start port old.datagrams ∷ acts) new refusal (acts, refl, by))
 unrefused_sure (Receiving next) old never = λ datagram left is.
-    unrefused_sure (next datagram) (record old { datagrams = left }) (λ acts new refusal by. never acts new refusal (datagram, left, is, by))
+    unrefused_sure (next datagram) (record old { datagrams = left })
+    (λ acts new refusal by. never acts new refusal (datagram, left, is, by))
 unrefused_sure (Before one others) old never = (
   unrefused_sure one old (λ acts new refusal by. never acts new refusal (inl (refusal, refl, by))),
-  λ first middle ends. unrefused_sure others middle (λ acts new refusal by. never (first ++ acts) new refusal (inr (first, middle, acts, refl, ends, by))),
+  λ first middle ends. unrefused_sure others middle
+      (λ acts new refusal by. never (first ++ acts) new refusal (inr (first, middle, acts, refl, ends, by))),
 )
-unrefused_sure (InLine line steps) old never = unrefused_sure steps old (λ acts new refusal by. never acts new _ (Some refusal, refl, by))
+unrefused_sure (InLine line steps) old never =
+    unrefused_sure steps old (λ acts new refusal by. never acts new _ (Some refusal, refl, by))
 
 -- One command.
 
 first_none : (done hand acts : List Act) → done ≡ [] → hand ≡ [] → IsFirstPart done hand acts
-first_none done hand acts none is = record { rest = acts; whole = ap (λ (d : List Act). d ++ acts) (sym none); next = inl is }
+first_none done hand acts none is =
+    record { rest = acts; whole = ap (λ (d : List Act). d ++ acts) (sym none); next = inl is }
 
 -- files that may still be looked at are the same after the same act
-same_after : (looks : Bool) (act : Act) (one other one' other' : World) → (IsTrue looks → one ≡ other) → FollowsAct act one one' → FollowsAct act other other'
+same_after : (looks : Bool) (act : Act) (one other one' other' : World) → (IsTrue looks → one ≡ other)
+    → FollowsAct act one one' → FollowsAct act other other'
     → IsTrue (looks && leaves_files act) → one' ≡ other'
 same_after false act one other one' other' same first second is = absurd (false≢true is)
 same_after true (Change way name value) one other one' other' same first second is = absurd (false≢true is)
@@ -139,7 +176,8 @@ pub record LooksSame (looks takes : Bool) (one other : Outside) : Type 0 where
   pub input : IsTrue takes → one.input ≡ other.input
   pub datagrams : one.datagrams ≡ other.datagrams
 
-same_done : (looks takes : Bool) (act : Act) (one other : Outside) (one' other' : World) → LooksSame looks takes one other → FollowsAct act one.files one' → FollowsAct act other.files other'
+same_done : (looks takes : Bool) (act : Act) (one other : Outside) (one' other' : World)
+    → LooksSame looks takes one other → FollowsAct act one.files one' → FollowsAct act other.files other'
     → LooksSame (looks && leaves_files act) takes (record one { files = one' }) (record other { files = other' })
 same_done looks takes act one other one' other' same first second = record {
   files = same_after looks act one.files other.files one' other' same.files first second;
@@ -147,70 +185,97 @@ same_done looks takes act one other one' other' same first second = record {
   datagrams = same.datagrams;
 }
 
-same_taken : (looks takes : Bool) (one other : Outside) (one' other' : List ℕ) → LooksSame looks takes one other → LooksSame looks false (record one { input = one' }) (record other { input = other' })
-same_taken looks takes one other one' other' same = record { files = same.files; input = λ no. absurd (false≢true no); datagrams = same.datagrams }
+same_taken : (looks takes : Bool) (one other : Outside) (one' other' : List ℕ) → LooksSame looks takes one other
+    → LooksSame looks false (record one { input = one' }) (record other { input = other' })
+same_taken looks takes one other one' other' same =
+    record { files = same.files; input = λ no. absurd (false≢true no); datagrams = same.datagrams }
 
-same_received : (looks takes : Bool) (one other : Outside) (datagram datagram' : Datagram) (one' other' : List Datagram) → LooksSame looks takes one other
+same_received : (looks takes : Bool) (one other : Outside) (datagram datagram' : Datagram) (one' other' : List Datagram)
+    → LooksSame looks takes one other
     → one.datagrams ≡ datagram ∷ one' → other.datagrams ≡ datagram' ∷ other'
-    → (datagram ≡ datagram') × LooksSame looks takes (record one { datagrams = one' }) (record other { datagrams = other' })
+    → (datagram ≡ datagram')
+    × LooksSame looks takes (record one { datagrams = one' }) (record other { datagrams = other' })
 same_received looks takes one other datagram datagram' one' other' same first second =
     let both : (datagram ∷ one') ≡ (datagram' ∷ other') = sym first ∙ same.datagrams ∙ second in
     let left : one' ≡ other' = cc in
     (cc, record { files = same.files; input = same.input; datagrams = left })
 
 -- where files were looked at, one that is seen as a value is seen so in both
-seen_both : (kind : Kind) (asked : Asked) (name : List ℕ) (one other : World) (value value' : QuotaValue) → one ≡ other → IsView (one name) kind asked (Ok value) → IsView (other name) kind asked (Ok value') → value ≡ value'
+seen_both : (kind : Kind) (asked : Asked) (name : List ℕ) (one other : World) (value value' : QuotaValue) → one ≡ other
+    → IsView (one name) kind asked (Ok value) → IsView (other name) kind asked (Ok value') → value ≡ value'
 seen_both kind asked name one other value value' same view view' =
-    seen_once (other name) kind asked value value' (subst (λ (w : World). IsView (w name) kind asked (Ok value)) same view) view'
+    seen_once (other name) kind asked value value'
+    (subst (λ (w : World). IsView (w name) kind asked (Ok value)) same view) view'
 
 -- the same steps come of a look at files that are the same, and of one that rests on none, except for lack of room
-pub same_looked : (rooms looks : Bool) (next : World → Steps) (one other : World) → IsTrue looks ⊎ RestsOnNone rooms next → (IsTrue looks → one ≡ other) → AreSameSteps rooms (next one) (next other)
+pub same_looked : (rooms looks : Bool) (next : World → Steps) (one other : World)
+    → IsTrue looks ⊎ RestsOnNone rooms next → (IsTrue looks → one ≡ other) → AreSameSteps rooms (next one) (next other)
 same_looked rooms looks next one other (inl may) same = inl (ap next (same may))
 same_looked rooms looks next one other (inr rests) same = rests one other
 
 -- what has begun of a look, and an end of it
-looked_part : (rooms : Bool) (here there : Steps) (one other : Outside) (done hand acts : List Act) (now new : Outside) (refusal : Option Refusal) → AreSameSteps rooms here there
+looked_part : (rooms : Bool) (here there : Steps) (one other : Outside) (done hand acts : List Act) (now new : Outside)
+    (refusal : Option Refusal) → AreSameSteps rooms here there
     → HasBegun here one done hand now → EndsBy there other acts new refusal
-    → (HasBegun there one done hand now → UnlessFull rooms refusal (IsFirstPart done hand acts)) → UnlessFull rooms refusal (IsFirstPart done hand acts)
-looked_part rooms here there one other done hand acts now new refusal (inl same) begun ends rest = rest (subst (λ (s : Steps). HasBegun s one done hand now) same begun)
+    → (HasBegun there one done hand now → UnlessFull rooms refusal (IsFirstPart done hand acts))
+    → UnlessFull rooms refusal (IsFirstPart done hand acts)
+looked_part rooms here there one other done hand acts now new refusal (inl same) begun ends rest =
+    rest (subst (λ (s : Steps). HasBegun s one done hand now) same begun)
 looked_part rooms here there one other done hand acts now new refusal (inr (is, inl full)) begun ends rest =
     let at = full_begun here one done hand now full begun in
     inl (first_none done hand acts at.done_none at.at_hand)
-looked_part rooms here there one other done hand acts now new refusal (inr (is, inr full)) begun ends rest = inr (is, full_ended there other acts new refusal full ends)
+looked_part rooms here there one other done hand acts now new refusal (inr (is, inr full)) begun ends rest =
+    inr (is, full_ended there other acts new refusal full ends)
 
 -- what has begun is a first part of every end of the same steps, except for ends for lack of room
-pub first_part : (rooms looks takes : Bool) (steps : Steps) (one other : Outside) (done hand acts : List Act) (now new : Outside) (refusal : Option Refusal)
-    → LooksFirstBy rooms looks takes steps → LooksSame looks takes one other → HasBegun steps one done hand now → EndsBy steps other acts new refusal
+pub first_part : (rooms looks takes : Bool) (steps : Steps) (one other : Outside) (done hand acts : List Act)
+    (now new : Outside) (refusal : Option Refusal)
+    → LooksFirstBy rooms looks takes steps → LooksSame looks takes one other → HasBegun steps one done hand now
+    → EndsBy steps other acts new refusal
     → UnlessFull rooms refusal (IsFirstPart done hand acts)
-first_part rooms looks takes (Ending stated) one other done hand acts now new refusal first same begun ends = inl (first_none done hand acts begun.done_none begun.at_hand)
-first_part rooms looks takes (Doing act next) one other done hand acts now new refusal first same (inl is) ends = inl (record {
-  rest = acts;
-  whole = ap (λ (d : List Act). d ++ acts) (sym is.done_none);
-  next = inr (is.at_hand ∙ ap (λ (a : List Act). take 1 a) (sym ends.2));
-})
+first_part rooms looks takes (Ending stated) one other done hand acts now new refusal first same begun ends =
+    inl (first_none done hand acts begun.done_none begun.at_hand)
+first_part rooms looks takes (Doing act next) one other done hand acts now new refusal first same (inl is) ends =
+    inl (record {
+      rest = acts;
+      whole = ap (λ (d : List Act). d ++ acts) (sym is.done_none);
+      next = inr (is.at_hand ∙ ap (λ (a : List Act). take 1 a) (sym ends.2));
+    })
 first_part rooms looks takes (Doing act next) one other done hand acts now new refusal first same (inr by) ends =
     unless_full rooms refusal refusal (λ full. full) (λ (part : IsFirstPart by.0 hand ends.0). record {
       rest = part.rest;
       whole = ends.2 ∙ ap (λ (a : List Act). act ∷ a) part.whole ∙ ap (λ (d : List Act). d ++ part.rest) (sym by.2);
       next = part.next;
     })
-    (first_part rooms (looks && leaves_files act) takes next (record one { files = by.1 }) (record other { files = ends.1 }) by.0 hand ends.0 now new refusal first
+    (first_part rooms (looks && leaves_files act) takes next (record one { files = by.1 })
+    (record other { files = ends.1 }) by.0 hand ends.0 now new refusal first
     (same_done looks takes act one other by.1 ends.1 same by.3 ends.3) by.4 ends.4)
 first_part rooms looks takes (Looking next) one other done hand acts now new refusal first same begun ends =
-    looked_part rooms (next one.files) (next other.files) one other done hand acts now new refusal (same_looked rooms looks next one.files other.files first.0 same.files) begun ends
-    (λ from. first_part rooms looks takes (next other.files) one other done hand acts now new refusal (first.1 other.files) same from ends)
-first_part rooms looks takes (Opening kind asked name next) one other done hand acts now new refusal first same (inl is) ends = inl (first_none done hand acts is.done_none is.at_hand)
-first_part rooms looks takes (Opening kind asked name next) one other done hand acts now new refusal first same (inr by) (inl seen) =
+    looked_part rooms (next one.files) (next other.files) one other done hand acts now new refusal
+    (same_looked rooms looks next one.files other.files first.0 same.files) begun ends
+    (λ from. first_part rooms looks takes (next other.files) one other done hand acts now new refusal
+    (first.1 other.files) same from ends)
+first_part rooms looks takes (Opening kind asked name next) one other done hand acts now new refusal first same (inl is)
+    ends = inl (first_none done hand acts is.done_none is.at_hand)
+first_part rooms looks takes (Opening kind asked name next) one other done hand acts now new refusal first same
+    (inr by) (inl seen) =
     first_part rooms looks takes (next seen.0) one other done hand acts now new refusal (first.1 seen.0) same
-    (subst (λ (v : QuotaValue). HasBegun (next v) one done hand now) (seen_both kind asked name one.files other.files by.0 seen.0 (same.files first.0) by.1 seen.1) by.2) seen.2
-first_part rooms looks takes (Opening kind asked name next) one other done hand acts now new refusal first same (inr by) (inr bad) =
-    absurd (view_or_refused (other.files name) kind asked by.0 bad.0 (subst (λ (w : World). IsView (w name) kind asked (Ok by.0)) (same.files first.0) by.1) bad.1)
-first_part rooms looks takes (Reading whole next) one other done hand acts now new refusal first same (inl is) ends = inl (first_none done hand acts is.done_none is.at_hand)
+    (subst (λ (v : QuotaValue). HasBegun (next v) one done hand now)
+    (seen_both kind asked name one.files other.files by.0 seen.0 (same.files first.0) by.1 seen.1) by.2) seen.2
+first_part rooms looks takes (Opening kind asked name next) one other done hand acts now new refusal first same
+    (inr by) (inr bad) =
+    absurd (view_or_refused (other.files name) kind asked by.0 bad.0
+    (subst (λ (w : World). IsView (w name) kind asked (Ok by.0)) (same.files first.0) by.1) bad.1)
+first_part rooms looks takes (Reading whole next) one other done hand acts now new refusal first same (inl is) ends =
+    inl (first_none done hand acts is.done_none is.at_hand)
 first_part rooms looks takes (Reading whole next) one other done hand acts now new refusal first same (inr by) ends =
-    first_part rooms looks false (next other.input) (record one { input = by.0 }) (record other { input = ends.0 }) done hand acts now new refusal (first.1 other.input)
+    first_part rooms looks false (next other.input) (record one { input = by.0 }) (record other { input = ends.0 }) done
+    hand acts now new refusal (first.1 other.input)
     (same_taken looks takes one other by.0 ends.0 same)
-    (subst (λ (b : List ℕ). HasBegun (next b) (record one { input = by.0 }) done hand now) (same.input first.0) by.2) ends.2
-first_part rooms looks takes (Starting port next) one other done hand acts now new refusal first same (inl is) ends = inl (first_none done hand acts is.done_none is.at_hand)
+    (subst (λ (b : List ℕ). HasBegun (next b) (record one { input = by.0 }) done hand now) (same.input first.0) by.2)
+    ends.2
+first_part rooms looks takes (Starting port next) one other done hand acts now new refusal first same (inl is) ends =
+    inl (first_none done hand acts is.done_none is.at_hand)
 first_part rooms looks takes (Starting port next) one other done hand acts now new refusal first same (inr by) ends =
     unless_full rooms refusal refusal (λ full. full) (λ (part : IsFirstPart by.0 hand ends.0). record {
       rest = part.rest;
@@ -220,21 +285,28 @@ first_part rooms looks takes (Starting port next) one other done hand acts now n
       next = part.next;
     })
     (first_part rooms looks takes next one other by.0 hand ends.0 now new refusal first same by.2 ends.2)
-first_part rooms looks takes (Receiving next) one other done hand acts now new refusal first same (inl is) ends = inl (first_none done hand acts is.done_none is.at_hand)
+first_part rooms looks takes (Receiving next) one other done hand acts now new refusal first same (inl is) ends =
+    inl (first_none done hand acts is.done_none is.at_hand)
 first_part rooms looks takes (Receiving next) one other done hand acts now new refusal first same (inr by) ends =
     let left = same_received looks takes one other by.0 ends.0 by.1 ends.1 same by.2 ends.2 in
-    first_part rooms looks takes (next ends.0) (record one { datagrams = by.1 }) (record other { datagrams = ends.1 }) done hand acts now new refusal (first ends.0) left.1
+    first_part rooms looks takes (next ends.0) (record one { datagrams = by.1 }) (record other { datagrams = ends.1 })
+    done hand acts now new refusal (first ends.0) left.1
     (subst (λ (d : Datagram). HasBegun (next d) (record one { datagrams = by.1 }) done hand now) left.0 by.3) ends.3
-first_part rooms looks takes (Before first_steps others) one other done hand acts now new refusal first same begun ends = absurd first
+first_part rooms looks takes (Before first_steps others) one other done hand acts now new refusal first same begun
+    ends = absurd first
 first_part rooms looks takes (InLine line steps) one other done hand acts now new refusal first same begun ends =
-    unless_full rooms ends.0 refusal (full_in_line line ends.0 refusal ends.1) (λ (part : IsFirstPart done hand acts). part)
+    unless_full rooms ends.0 refusal (full_in_line line ends.0 refusal ends.1)
+    (λ (part : IsFirstPart done hand acts). part)
     (first_part rooms looks takes steps one other done hand acts now new ends.0 first same begun ends.2)
 
 -- where room may count, steps that look first do so all the more
-pub looks_wider : (rooms more looks takes : Bool) (steps : Steps) → (IsTrue rooms → IsTrue more) → LooksFirstBy rooms looks takes steps → LooksFirstBy more looks takes steps
+pub looks_wider : (rooms more looks takes : Bool) (steps : Steps) → (IsTrue rooms → IsTrue more)
+    → LooksFirstBy rooms looks takes steps → LooksFirstBy more looks takes steps
 looks_wider rooms more looks takes (Ending stated) wider first = tt
-looks_wider rooms more looks takes (Doing act next) wider first = looks_wider rooms more (looks && leaves_files act) takes next wider first
-looks_wider rooms more looks takes (Looking next) wider first = (looks_or_rests first.0, λ files. looks_wider rooms more looks takes (next files) wider (first.1 files))
+looks_wider rooms more looks takes (Doing act next) wider first =
+    looks_wider rooms more (looks && leaves_files act) takes next wider first
+looks_wider rooms more looks takes (Looking next) wider first =
+    (looks_or_rests first.0, λ files. looks_wider rooms more looks takes (next files) wider (first.1 files))
   where
     rests_wider : (one other : Steps) → AreSameSteps rooms one other → AreSameSteps more one other
     rests_wider one other (inl same) = inl same
@@ -243,12 +315,17 @@ looks_wider rooms more looks takes (Looking next) wider first = (looks_or_rests 
     looks_or_rests : IsTrue looks ⊎ RestsOnNone rooms next → IsTrue looks ⊎ RestsOnNone more next
     looks_or_rests (inl may) = inl may
     looks_or_rests (inr rests) = inr (λ one other. rests_wider (next one) (next other) (rests one other))
-looks_wider rooms more looks takes (Opening kind asked name next) wider first = (first.0, λ value. looks_wider rooms more looks takes (next value) wider (first.1 value))
-looks_wider rooms more looks takes (Reading whole next) wider first = (first.0, λ bytes. looks_wider rooms more looks false (next bytes) wider (first.1 bytes))
-looks_wider rooms more looks takes (Starting port next) wider first = looks_wider rooms more looks takes next wider first
-looks_wider rooms more looks takes (Receiving next) wider first = λ datagram. looks_wider rooms more looks takes (next datagram) wider (first datagram)
+looks_wider rooms more looks takes (Opening kind asked name next) wider first =
+    (first.0, λ value. looks_wider rooms more looks takes (next value) wider (first.1 value))
+looks_wider rooms more looks takes (Reading whole next) wider first =
+    (first.0, λ bytes. looks_wider rooms more looks false (next bytes) wider (first.1 bytes))
+looks_wider rooms more looks takes (Starting port next) wider first =
+    looks_wider rooms more looks takes next wider first
+looks_wider rooms more looks takes (Receiving next) wider first =
+    λ datagram. looks_wider rooms more looks takes (next datagram) wider (first datagram)
 looks_wider rooms more looks takes (Before one others) wider first = absurd first
-looks_wider rooms more looks takes (InLine line steps) wider first = looks_wider rooms more looks takes steps wider first
+looks_wider rooms more looks takes (InLine line steps) wider first =
+    looks_wider rooms more looks takes steps wider first
 
 -- a refusal in a line is none where there is none
 pub none_in_line : (line : ℕ) (own : Option Refusal) → None ≡ in_line line own → own ≡ None
@@ -257,107 +334,44 @@ none_in_line line (Some refusal) is = absurd (none-some _ is)
 
 -- where one end has no refusal, the steps are sure
 pub passed_sure : (looks takes : Bool) (steps : Steps) (one other : Outside) (acts : List Act) (new : Outside)
-    → LooksFirst looks takes steps → LooksSame looks takes one other → EndsBy steps one acts new None → IsSure steps other
+    → LooksFirst looks takes steps → LooksSame looks takes one other → EndsBy steps one acts new None
+    → IsSure steps other
 passed_sure looks takes (Ending stated) one other acts new first same ends = sym ends.ends
 passed_sure looks takes (Doing act next) one other acts new first same ends = λ middle follows.
-    passed_sure (looks && leaves_files act) takes next (record one { files = ends.1 }) (record other { files = middle }) ends.0 new first
+    passed_sure (looks && leaves_files act) takes next (record one { files = ends.1 }) (record other { files = middle })
+    ends.0 new first
     (same_done looks takes act one other ends.1 middle same ends.3 follows) ends.4
 passed_sure looks takes (Looking next) one other acts new first same ends =
     passed_sure looks takes (next other.files) one other acts new (first.1 other.files) same
-    (subst (λ (s : Steps). EndsBy s one acts new None) (strictly (next one.files) (next other.files) (same_looked false looks next one.files other.files first.0 same.files)) ends)
+    (subst (λ (s : Steps). EndsBy s one acts new None)
+    (strictly (next one.files) (next other.files)
+    (same_looked false looks next one.files other.files first.0 same.files)) ends)
 passed_sure looks takes (Opening kind asked name next) one other acts new first same (inl seen) = (
-  λ fault view. view_or_refused (other.files name) kind asked seen.0 fault (subst (λ (w : World). IsView (w name) kind asked (Ok seen.0)) (same.files first.0) seen.1) view,
+  λ fault view. view_or_refused (other.files name) kind asked seen.0 fault
+      (subst (λ (w : World). IsView (w name) kind asked (Ok seen.0)) (same.files first.0) seen.1) view,
   λ value view. passed_sure looks takes (next value) one other acts new (first.1 value) same
-      (subst (λ (v : QuotaValue). EndsBy (next v) one acts new None) (seen_both kind asked name one.files other.files seen.0 value (same.files first.0) seen.1 view) seen.2),
+      (subst (λ (v : QuotaValue). EndsBy (next v) one acts new None)
+      (seen_both kind asked name one.files other.files seen.0 value (same.files first.0) seen.1 view) seen.2),
 )
-passed_sure looks takes (Opening kind asked name next) one other acts new first same (inr bad) = absurd (none-some _ bad.2.ends)
+passed_sure looks takes (Opening kind asked name next) one other acts new first same (inr bad) =
+    absurd (none-some _ bad.2.ends)
 passed_sure looks takes (Reading whole next) one other acts new first same ends = λ left taken.
-    passed_sure looks false (next other.input) (record one { input = ends.0 }) (record other { input = left }) acts new (first.1 other.input)
+    passed_sure looks false (next other.input) (record one { input = ends.0 }) (record other { input = left }) acts new
+    (first.1 other.input)
     (same_taken looks takes one other ends.0 left same)
     (subst (λ (b : List ℕ). EndsBy (next b) (record one { input = ends.0 }) acts new None) (same.input first.0) ends.2)
-passed_sure looks takes (Starting port next) one other acts new first same ends = passed_sure looks takes next one other ends.0 new first same ends.2
+passed_sure looks takes (Starting port next) one other acts new first same ends =
+    passed_sure looks takes next one other ends.0 new first same ends.2
 passed_sure looks takes (Receiving next) one other acts new first same ends = λ datagram left is.
     let rest = same_received looks takes one other ends.0 datagram ends.1 left same ends.2 is in
-    passed_sure looks takes (next datagram) (record one { datagrams = ends.1 }) (record other { datagrams = left }) acts new (first datagram) rest.1
+    passed_sure looks takes (next datagram) (record one { datagrams = ends.1 }) (record other { datagrams = left }) acts
+    new (first datagram) rest.1
     (subst (λ (d : Datagram). EndsBy (next d) (record one { datagrams = ends.1 }) acts new None) rest.0 ends.3)
 passed_sure looks takes (Before first_steps others) one other acts new first same ends = absurd first
 passed_sure looks takes (InLine line steps) one other acts new first same ends =
-    passed_sure looks takes steps one other acts new first same (subst (λ (r : Option Refusal). EndsBy steps one acts new r) (none_in_line line ends.0 ends.1) ends.2)
+    passed_sure looks takes steps one other acts new first same
+    (subst (λ (r : Option Refusal). EndsBy steps one acts new r) (none_in_line line ends.0 ends.1) ends.2)
 
 -- nothing is outside that differs
 pub looks_same : (looks takes : Bool) (old : Outside) → LooksSame looks takes old old
 looks_same looks takes old = record { files = λ is. refl; input = λ is. refl; datagrams = refl }
-
--- The standard input.
-
--- where nothing is left of it, nothing is left later on
-none_left : (steps : Steps) (old : Outside) (acts : List Act) (new : Outside) (refusal : Option Refusal) → EndsBy steps old acts new refusal → old.input ≡ [] → new.input ≡ []
-none_left (Ending stated) old acts new refusal is none = ap (λ (o : Outside). o.input) is.same ∙ none
-none_left (Doing act next) old acts new refusal by none = none_left next (record old { files = by.1 }) by.0 new refusal by.4 none
-none_left (Looking next) old acts new refusal by none = none_left (next old.files) old acts new refusal by none
-none_left (Opening kind asked name next) old acts new refusal (inl seen) none = none_left (next seen.0) old acts new refusal seen.2 none
-none_left (Opening kind asked name next) old acts new refusal (inr bad) none = ap (λ (o : Outside). o.input) bad.2.same ∙ none
-none_left (Reading whole next) old acts new refusal by none =
-    none_left (next old.input) (record old { input = by.0 }) acts new refusal by.2 (nothing_behind by.1.taken by.0 (sym by.1.behind ∙ none))
-  where
-    nothing_behind : (taken left : List ℕ) → taken ++ left ≡ [] → left ≡ []
-    nothing_behind [] left is = is
-    nothing_behind (b ∷ taken) left is = absurd (cc)
-none_left (Starting port next) old acts new refusal by none = none_left next old by.0 new refusal by.2 none
-none_left (Receiving next) old acts new refusal by none = none_left (next by.0) (record old { datagrams = by.1 }) acts new refusal by.3 none
-none_left (Before one others) old acts new refusal (inl stopped) none = none_left one old acts new (Some stopped.0) stopped.2 none
-none_left (Before one others) old acts new refusal (inr passed) none = none_left others passed.1 passed.2 new refusal passed.5 (none_left one old passed.0 passed.1 None passed.4 none)
-none_left (InLine line steps) old acts new refusal by none = none_left steps old acts new by.0 by.2 none
-
-taken_to_end : (whole : Bool) (next : Steps) (old : Outside) (acts : List Act) (left : List ℕ) (new : Outside) → (IsTrue whole → left ≡ []) → EndsBy next (record old { input = left }) acts new None
-    → (ReadsToEnd next → new.input ≡ []) → IsTrue whole ⊎ ReadsToEnd next → new.input ≡ []
-taken_to_end whole next old acts left new all by later (inl is) = none_left next (record old { input = left }) acts new None by (all is)
-taken_to_end whole next old acts left new all by later (inr reads) = later reads
-
--- steps that read the input to its end leave nothing of it where they pass
-pub to_end : (steps : Steps) (old : Outside) (acts : List Act) (new : Outside) → ReadsToEnd steps → EndsBy steps old acts new None → new.input ≡ []
-to_end (Ending None) old acts new reads is = absurd reads
-to_end (Ending (Some refusal)) old acts new reads is = absurd (none-some refusal is.ends)
-to_end (Doing act next) old acts new reads by = to_end next (record old { files = by.1 }) by.0 new reads by.4
-to_end (Looking next) old acts new reads by = to_end (next old.files) old acts new (reads old.files) by
-to_end (Opening kind asked name next) old acts new reads (inl seen) = to_end (next seen.0) old acts new (reads seen.0) seen.2
-to_end (Opening kind asked name next) old acts new reads (inr bad) = absurd (none-some _ bad.2.ends)
-to_end (Reading whole next) old acts new reads by =
-    taken_to_end (whole old.input) (next old.input) old acts by.0 new by.1.all by.2 (λ later. to_end (next old.input) (record old { input = by.0 }) acts new later by.2) (reads old.input)
-to_end (Starting port next) old acts new reads by = to_end next old by.0 new reads by.2
-to_end (Receiving next) old acts new reads by = to_end (next by.0) (record old { datagrams = by.1 }) acts new (reads by.0) by.3
-to_end (Before one others) old acts new reads (inl stopped) = absurd (none-some stopped.0 stopped.1)
-to_end (Before one others) old acts new (inl reads) (inr passed) = none_left others passed.1 passed.2 new None passed.5 (to_end one old passed.0 passed.1 reads passed.4)
-to_end (Before one others) old acts new (inr reads) (inr passed) = to_end others passed.1 passed.2 new reads passed.5
-to_end (InLine line steps) old acts new reads by =
-    to_end steps old acts new reads (subst (λ (r : Option Refusal). EndsBy steps old acts new r) (none_in_line line by.0 by.1) by.2)
-
--- Datagrams.
-
-none_received : (old new : Outside) (count : ℕ) → new ≡ old → count ≡ 0 → AreReceived count old.datagrams new.datagrams
-none_received old new count same none = record { taken = []; behind = ap (λ (o : Outside). o.datagrams) (sym same); counted = sym none }
-
--- steps that pass have received as many datagrams as they say
-pub received : (count : ℕ) (steps : Steps) (old : Outside) (acts : List Act) (new : Outside) → Receives count steps → EndsBy steps old acts new None → AreReceived count old.datagrams new.datagrams
-received count (Ending None) old acts new receives is = none_received old new count is.same receives
-received count (Ending (Some refusal)) old acts new receives is = absurd (none-some refusal is.ends)
-received count (Doing act next) old acts new receives by = received count next (record old { files = by.1 }) by.0 new receives by.4
-received count (Looking next) old acts new receives by = received count (next old.files) old acts new (receives old.files) by
-received count (Opening kind asked name next) old acts new receives (inl seen) = received count (next seen.0) old acts new (receives seen.0) seen.2
-received count (Opening kind asked name next) old acts new receives (inr bad) = absurd (none-some _ bad.2.ends)
-received count (Reading whole next) old acts new receives by = received count (next old.input) (record old { input = by.0 }) acts new (receives old.input) by.2
-received count (Starting port next) old acts new receives by = received count next old by.0 new receives by.2
-received count (Receiving next) old acts new receives by =
-    let more = received receives.0 (next by.0) (record old { datagrams = by.1 }) acts new (receives.2 by.0) by.3 in
-    record { taken = by.0 ∷ more.taken; behind = by.2 ∙ ap (λ (d : List Datagram). by.0 ∷ d) more.behind; counted = ap suc more.counted ∙ sym receives.1 }
-received count (Before one others) old acts new receives (inl stopped) = absurd (none-some stopped.0 stopped.1)
-received count (Before one others) old acts new receives (inr passed) =
-    let first = received receives.0 one old passed.0 passed.1 receives.3 passed.4 in
-    let more = received receives.1 others passed.1 passed.2 new receives.4 passed.5 in
-    record {
-      taken = first.taken ++ more.taken;
-      behind = first.behind ∙ ap (λ (d : List Datagram). first.taken ++ d) more.behind ∙ sym (append_assoc first.taken more.taken new.datagrams);
-      counted = length-append first.taken more.taken ∙ ap (λ (n : ℕ). n + length more.taken) first.counted ∙ ap (λ (n : ℕ). receives.0 + n) more.counted ∙ sym receives.2;
-    }
-received count (InLine line steps) old acts new receives by =
-    received count steps old acts new receives (subst (λ (r : Option Refusal). EndsBy steps old acts new r) (none_in_line line by.0 by.1) by.2)

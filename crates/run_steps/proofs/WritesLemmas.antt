@@ -41,22 +41,31 @@ pub writes_for-same : (acts : List Act) (old new : ℕ) → new ≡ old → Writ
 writes_for-same acts old new same = record { none = λ none. same; few = λ none. omega (arith, same) }
 
 -- acts, and then others
-pub writes_for-then : (acts more : List Act) (old middle new : ℕ) → WritesFor acts old middle → WritesFor more middle new → WritesFor (acts ++ more) old new
+pub writes_for-then : (acts more : List Act) (old middle new : ℕ) → WritesFor acts old middle
+    → WritesFor more middle new → WritesFor (acts ++ more) old new
 writes_for-then acts more old middle new one two = record {
   none = λ none. two.none (changes_none_behind acts more none) ∙ one.none (changes_none_before acts more none);
-  few = λ none. omega (arith, one.few (replaces_none_before acts more none), two.few (replaces_none_behind acts more none), edits_in-append acts more);
+  few = λ none. omega (
+    arith,
+    one.few (replaces_none_before acts more none),
+    two.few (replaces_none_behind acts more none),
+    edits_in-append acts more,
+  );
 }
 
 -- acts before others that write nothing
 pub writes_for-before : (acts more : List Act) (old new : ℕ) → WritesFor acts old new → WritesFor (acts ++ more) old new
-writes_for-before acts more old new writes = writes_for-then acts more old new new writes (writes_for-same more new new refl)
+writes_for-before acts more old new writes =
+    writes_for-then acts more old new new writes (writes_for-same more new new refl)
 
 -- an edit of an opened file
-pub writes_for-edit : (way : Way) (name : List ℕ) (value : QuotaValue) (old new : ℕ) → new ≤ old + 12 → WritesFor (Change way name value ∷ []) old new
+pub writes_for-edit : (way : Way) (name : List ℕ) (value : QuotaValue) (old new : ℕ) → new ≤ old + 12
+    → WritesFor (Change way name value ∷ []) old new
 writes_for-edit way name value old new few = record { none = λ none. absurd none; few = λ none. omega (arith, few) }
 
 -- a file that is replaced, and then other acts
-pub writes_for-replacement : (name : List ℕ) (value : QuotaValue) (acts : List Act) (old new : ℕ) → WritesFor (Replace name value ∷ acts) old new
+pub writes_for-replacement : (name : List ℕ) (value : QuotaValue) (acts : List Act) (old new : ℕ)
+    → WritesFor (Replace name value ∷ acts) old new
 writes_for-replacement name value acts old new = record { none = λ none. absurd none; few = λ none. absurd none }
 
 -- Acts of which the one at hand may be done in part.
@@ -66,14 +75,21 @@ pub writes_in_part : (hand acts : List Act) (old new : ℕ) → WritesFor acts o
 writes_in_part hand acts old new writes = record { none = writes.none; few = λ none. omega (arith, writes.few none) }
 
 -- acts, and then others of which one is at hand
-pub writes_in_part-then : (hand acts more : List Act) (old middle new : ℕ) → WritesFor acts old middle → WritesInPart hand more middle new → WritesInPart hand (acts ++ more) old new
+pub writes_in_part-then : (hand acts more : List Act) (old middle new : ℕ) → WritesFor acts old middle
+    → WritesInPart hand more middle new → WritesInPart hand (acts ++ more) old new
 writes_in_part-then hand acts more old middle new one two = record {
   none = λ none. two.none (changes_none_behind acts more none) ∙ one.none (changes_none_before acts more none);
-  few = λ none. omega (arith, one.few (replaces_none_before acts more none), two.few (replaces_none_behind acts more none), edits_in-append acts more);
+  few = λ none. omega (
+    arith,
+    one.few (replaces_none_before acts more none),
+    two.few (replaces_none_behind acts more none),
+    edits_in-append acts more,
+  );
 }
 
 -- nothing is at hand, and any act comes next
-pub writes_in_part-next : (next acts : List Act) (old new : ℕ) → WritesInPart [] acts old new → WritesInPart next (acts ++ next) old new
+pub writes_in_part-next : (next acts : List Act) (old new : ℕ) → WritesInPart [] acts old new
+    → WritesInPart next (acts ++ next) old new
 writes_in_part-next next acts old new writes = record {
   none = λ none. writes.none (changes_none_before acts next none);
   few = λ none. omega (arith, writes.few (replaces_none_before acts next none), edits_in-append acts next);

@@ -8,16 +8,17 @@ use Rattle.quota_map.specs.Asked.{InFormat}
 use Rattle.quota_map.specs.AnyChange.{AnyLeaves}
 use Rattle.quota_map.specs.View.{IsView}
 
--- How an opened file is edited: in its place; as the first change of edits that are made together, with this many others, either in
--- its place or, for all of them, by one replacement of the file; or behind that first one, which is made where it was made.
+-- How an opened file is edited: in its place; as the first change of edits that are made together, with this many
+-- others, either in its place or, for all of them, by one replacement of the file; or behind that first one, which is
+-- made where it was made.
 pub data Way : Type 0 where
   InPlace : Way
   Together : (others : ℕ) → Way
   Behind : Way
 
--- One act: bytes to the output, bytes to the error output, a link that is started at a port when these datagrams are left, an
--- answer to a datagram, a file that from then on stands for another value: an opened one that is edited, or one that is replaced as
--- a whole; or an edit, together with others, that has nothing to do.
+-- One act: bytes to the output, bytes to the error output, a link that is started at a port when these datagrams are
+-- left, an answer to a datagram, a file that from then on stands for another value: an opened one that is edited, or
+-- one that is replaced as a whole; or an edit, together with others, that has nothing to do.
 pub data Act : Type 0 where
   ToOut : List ℕ → Act
   ToErr : List ℕ → Act
@@ -62,8 +63,9 @@ ChangesNone (_ ∷ acts) = ChangesNone acts
 abbrev pub IsSeenAs : List ℕ → QuotaValue → World → Type 0
 IsSeenAs name value files = IsView (files name) value.kind (InFormat value.format) (Ok value)
 
--- Files follow one act. After an edit and after a replacement the named file stands for the new value; an edit leaves all other
--- files, and a replacement all others but the one with `.new` added to the name. The other acts leave all files.
+-- Files follow one act. After an edit and after a replacement the named file stands for the new value; an edit leaves
+-- all other files, and a replacement all others but the one with `.new` added to the name. The other acts leave all
+-- files.
 abbrev pub FollowsAct : Act → World → World → Type 0
 FollowsAct (Change way name value) old new = IsSeenAs name value new × KeepsOthers name old new
 FollowsAct (Replace name value) old new = IsSeenAs name value new × ReplacesOnly name old new
@@ -74,24 +76,27 @@ abbrev pub Follows : List Act → World → World → Type 0
 Follows [] old new = new ≡ old
 Follows (act ∷ acts) old new = (middle : World) × FollowsAct act old middle × Follows acts middle new
 
--- What an edit of a file to this value that failed may leave of it: what was there, or what lies between that and a file that stands
--- for the value, as the format allows.
+-- What an edit of a file to this value that failed may leave of it: what was there, or what lies between that and a
+-- file that stands for the value, as the format allows.
 abbrev pub MayBeLeft : QuotaValue → (old left : Option (List ℕ)) → Type 0
 MayBeLeft value old left =
     (left ≡ old)
-    ⊎ ((after : Option (List ℕ)) × IsView after value.kind (InFormat value.format) (Ok value) × AnyLeaves value.format old after left)
+    ⊎ ((after : Option (List ℕ)) × IsView after value.kind (InFormat value.format) (Ok value)
+    × AnyLeaves value.format old after left)
 
--- what an edit that failed leaves of other files than the named one: all; or, where it may be made by a replacement, all but the one
--- with `.new` added to the name, and then the named file is as it was
+-- what an edit that failed leaves of other files than the named one: all; or, where it may be made by a replacement,
+-- all but the one with `.new` added to the name, and then the named file is as it was
 abbrev pub LeavesOthers : Way → List ℕ → World → World → Type 0
-LeavesOthers (Together others) name old new = KeepsOthers name old new ⊎ ((new name ≡ old name) × ReplacesOnly name old new)
+LeavesOthers (Together others) name old new =
+    KeepsOthers name old new ⊎ ((new name ≡ old name) × ReplacesOnly name old new)
 LeavesOthers _ name old new = KeepsOthers name old new
 
--- Files after acts of which at most the first was begun. An edit leaves what an edit that failed may leave of the named file, and
--- of all other files what its way leaves; a replacement leaves the named file as it was, and all others but the one with `.new` added
--- to the name.
+-- Files after acts of which at most the first was begun. An edit leaves what an edit that failed may leave of the named
+-- file, and of all other files what its way leaves; a replacement leaves the named file as it was, and all others but
+-- the one with `.new` added to the name.
 abbrev pub FollowsInPart : List Act → World → World → Type 0
 FollowsInPart [] old new = new ≡ old
-FollowsInPart (Change way name value ∷ _) old new = MayBeLeft value (old name) (new name) × LeavesOthers way name old new
+FollowsInPart (Change way name value ∷ _) old new =
+    MayBeLeft value (old name) (new name) × LeavesOthers way name old new
 FollowsInPart (Replace name value ∷ _) old new = (new name ≡ old name) × ReplacesOnly name old new
 FollowsInPart (_ ∷ _) old new = new ≡ old

@@ -19,11 +19,21 @@ abbrev pub idle_acts : Way → List Act
 idle_acts InPlace = []
 idle_acts _ = Idle ∷ []
 
--- a file of this name is edited and stands for the value from then on, where it has room for this many blocks and something is to
--- be done
+-- a file of this name is edited and stands for the value from then on, where it has room for this many blocks and
+-- something is to be done
 abbrev pub written : Way → List ℕ → (blocks : ℕ) → QuotaValue → (idle too_large : Bool) → Outcome (List Act)
-written way name blocks new idle too_large = if idle then Passed (idle_acts way) else if_room name blocks too_large (Change way name new)
+written way name blocks new idle too_large =
+    if idle then Passed (idle_acts way) else if_room name blocks too_large (Change way name new)
 
 -- a change of a file changes the store, and where it is refused it has written nothing, unless something outside failed
 abbrev pub edit_uses : (warns : Bool) → Uses
-edit_uses warns = record { input = false; out = false; link = false; changes = true; all_or_nothing = true; warns = warns; reads_commands = false; reads_edits = false }
+edit_uses warns = record {
+  input = false;
+  out = false;
+  link = false;
+  changes = true;
+  all_or_nothing = true;
+  warns = warns;
+  reads_commands = false;
+  reads_edits = false;
+}

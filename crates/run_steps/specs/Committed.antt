@@ -18,10 +18,11 @@ pub record ComesTo (steps : Steps) (old : Outside) (files : World) : Type 0 wher
 abbrev pub IsOneMoment : (ended : Bool) → World → List World → Type 0
 IsOneMoment ended new worlds = (world : World) × (worlds ≡ world ∷ []) × (IsTrue ended → world ≡ new)
 
--- All that was committed along steps were the files of these worlds, in this order, or of some of them. The steps come to each of them,
--- and each has changed only as is allowed. Where the steps change files at one moment alone it is one of them, which is that of the end
--- where they ended well.
-pub record CommitsSteps (once : Type 0) (ended : Bool) (steps : Steps) (allowed : World → Type 0) (old : Outside) (new : World) (commits : List World → Type 0) : Type 0 where
+-- All that was committed along steps were the files of these worlds, in this order, or of some of them. The steps come
+-- to each of them, and each has changed only as is allowed. Where the steps change files at one moment alone it is one
+-- of them, which is that of the end where they ended well.
+pub record CommitsSteps (once : Type 0) (ended : Bool) (steps : Steps) (allowed : World → Type 0) (old : Outside)
+    (new : World) (commits : List World → Type 0) : Type 0 where
   pub worlds : List World
   pub commits_them : commits worlds
   pub reached : All (ComesTo steps old) worlds

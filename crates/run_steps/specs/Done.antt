@@ -68,8 +68,8 @@ pub record Outside : Type 0 where
 abbrev pub outside_of : RunSeen → Outside
 outside_of seen = record { files = seen.store.files; input = seen.input.left; datagrams = seen.link.left }
 
--- Acts were done: the files follow, the sinks got exactly their bytes and the link exactly their answers, the link was started
--- exactly as they say, and there were no more calls of `write` to the store than they take.
+-- Acts were done: the files follow, the sinks got exactly their bytes and the link exactly their answers, the link was
+-- started exactly as they say, and there were no more calls of `write` to the store than they take.
 pub record AreDone (tells : RunTells) (acts : List Act) (old new : RunSeen) : Type 0 where
   pub files : Follows acts old.store.files new.store.files
   pub out : IsTrue tells.out → new.out.written ≡ old.out.written ++ out_bytes acts

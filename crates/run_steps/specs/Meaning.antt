@@ -1,5 +1,6 @@
 -- What the steps of a command mean: how they end, how far they have begun, and that they are sure to succeed. They are
--- relations, since a damage of a file that is named, and the bytes of a file that stands for a changed value, are choices.
+-- relations, since a damage of a file that is named, and the bytes of a file that stands for a changed value, are
+-- choices.
 use Rattle.std.specs.Prelude.{◌≡◌, ◌⊎◌, ℕ, Bool, IsTrue, List, [], ◌∷◌, ◌++◌, Option, Some, None, Ok, Err}
 use Rattle.outside.specs.Seen.{Datagram}
 use Rattle.outside.specs.World.{World}
@@ -18,7 +19,8 @@ use Rattle.run_steps.specs.Steps.{Steps, Ending, Doing, Looking, Opening, Readin
 -- How steps end.
 
 -- nothing more is done, and this is the end
-pub record IsEnd (stated : Option Refusal) (old : Outside) (acts : List Act) (new : Outside) (refusal : Option Refusal) : Type 0 where
+pub record IsEnd (stated : Option Refusal) (old : Outside) (acts : List Act) (new : Outside)
+    (refusal : Option Refusal) : Type 0 where
   pub acts_none : acts ≡ []
   pub same : new ≡ old
   pub ends : refusal ≡ stated
@@ -63,8 +65,8 @@ pub record IsAt (next : List Act) (old : Outside) (done hand : List Act) (now : 
   pub at_hand : hand ≡ next
   pub same : now ≡ old
 
--- Steps have begun: from what was outside, these acts were done, and what is outside now was left by them; and if an act is at
--- hand, it is the one that comes next, and may have been done in part. Nothing was done that no step does.
+-- Steps have begun: from what was outside, these acts were done, and what is outside now was left by them; and if an
+-- act is at hand, it is the one that comes next, and may have been done in part. Nothing was done that no step does.
 abbrev pub HasBegun : Steps → Outside → (done hand : List Act) → Outside → Type 0
 HasBegun (Ending stated) old done hand now = IsAt [] old done hand now
 HasBegun (Doing act next) old done hand now =
@@ -97,7 +99,8 @@ HasBegun (InLine line steps) old done hand now = HasBegun steps old done hand no
 -- Steps are sure: whatever is chosen, none of them is refused.
 abbrev pub IsSure : Steps → Outside → Type 0
 IsSure (Ending stated) old = stated ≡ None
-IsSure (Doing act next) old = (middle : World) → FollowsAct act old.files middle → IsSure next (record old { files = middle })
+IsSure (Doing act next) old =
+    (middle : World) → FollowsAct act old.files middle → IsSure next (record old { files = middle })
 IsSure (Looking next) old = IsSure (next old.files) old
 IsSure (Opening kind asked name next) old =
     ((fault : OpenFault) → ¬ IsView (old.files name) kind asked (Err fault))

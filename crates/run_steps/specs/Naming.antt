@@ -1,5 +1,5 @@
--- The names that a command is given. Source: passwd(5), group(5) and projid(5); that the file of names is named on the command
--- line, and how large it may be, is this project's own.
+-- The names that a command is given. Source: passwd(5), group(5) and projid(5); that the file of names is named on the
+-- command line, and how large it may be, is this project's own.
 use Rattle.std.specs.Prelude.{◌≡◌, ℕ, nat_lt, if◌then◌else◌, List, [], length, Option, Some, None, ⊤}
 use Rattle.quota_types.specs.declared.file_kind.Kind.{Kind}
 use Rattle.outside.specs.World.{World}

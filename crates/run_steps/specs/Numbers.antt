@@ -1,6 +1,7 @@
--- What the words say that stand for identifiers, limits and times. Source: the manual pages of setquota and edquota; that a
--- word of digits is a number and no name is this project's own.
-use Rattle.std.specs.Prelude.{ℕ, ◌^◌, Bool, true, false, ◌&&◌, nat_lt, if◌then◌else◌, List, [], ◌∷◌, length, Option, Some, None, codes}
+-- What the words say that stand for identifiers, limits and times. Source: the manual pages of setquota and edquota;
+-- that a word of digits is a number and no name is this project's own.
+use Rattle.std.specs.Prelude.{ℕ, ◌^◌, Bool, true, false, ◌&&◌, nat_lt, if◌then◌else◌, List, [], ◌∷◌, length, Option}
+use Rattle.std.specs.Prelude.{Some, None, codes}
 use Rattle.std.specs.Str.{all_ascii_digits, bytes_eq}
 use Rattle.id_names.specs.FirstMatch.{first_id}
 use Rattle.id_names.specs.NamesFile.{NameLine}
@@ -36,7 +37,8 @@ number_or_refused word None = Refused (refusal_of BadNumber word)
 abbrev pub limit_read : Bool → List ℕ → Outcome ℕ
 limit_read blocks word = number_or_refused word (limit_of blocks word)
 
--- the four limits that words spell, read from left to right: the soft and the hard limit of blocks, then those of inodes
+-- the four limits that words spell, read from left to right: the soft and the hard limit of blocks, then those of
+-- inodes
 abbrev pub limits_read : List (List ℕ) → Outcome Limits
 limits_read (bsoft ∷ bhard ∷ isoft ∷ ihard ∷ []) =
     and_then (limit_read true bsoft) (λ (b : ℕ).

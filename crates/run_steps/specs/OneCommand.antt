@@ -47,14 +47,15 @@ UnlessOneFull rooms one other fact = fact ⊎ (IsTrue rooms × (IsFull one ⊎ I
 
 -- Steps that look first.
 
--- what comes of a look at the files is the same whatever files are seen, except for lack of room where steps may rest on that
+-- what comes of a look at the files is the same whatever files are seen, except for lack of room where steps may rest
+-- on that
 abbrev pub RestsOnNone : (rooms : Bool) → (World → Steps) → Type 0
 RestsOnNone rooms next = (one other : World) → AreSameSteps rooms (next one) (next other)
 
--- No file is looked at once one was changed, but by looks of which the same comes whatever they see, and the standard input is taken
--- once at most: whether such a look may find too little room, whether a file may still be looked at, and whether the input may still
--- be taken. Such steps have the same acts whatever bytes are chosen for a changed file, as far as room does not count, and commands
--- after one another are none.
+-- No file is looked at once one was changed, but by looks of which the same comes whatever they see, and the standard
+-- input is taken once at most: whether such a look may find too little room, whether a file may still be looked at, and
+-- whether the input may still be taken. Such steps have the same acts whatever bytes are chosen for a changed file, as
+-- far as room does not count, and commands after one another are none.
 abbrev pub LooksFirstBy : (rooms looks takes : Bool) → Steps → Type 0
 LooksFirstBy rooms looks takes (Ending stated) = ⊤
 LooksFirstBy rooms looks takes (Doing act next) = LooksFirstBy rooms (looks && leaves_files act) takes next
@@ -62,7 +63,8 @@ LooksFirstBy rooms looks takes (Looking next) =
     (IsTrue looks ⊎ RestsOnNone rooms next) × ((files : World) → LooksFirstBy rooms looks takes (next files))
 LooksFirstBy rooms looks takes (Opening kind asked name next) =
     IsTrue looks × ((value : QuotaValue) → LooksFirstBy rooms looks takes (next value))
-LooksFirstBy rooms looks takes (Reading whole next) = IsTrue takes × ((bytes : List ℕ) → LooksFirstBy rooms looks false (next bytes))
+LooksFirstBy rooms looks takes (Reading whole next) =
+    IsTrue takes × ((bytes : List ℕ) → LooksFirstBy rooms looks false (next bytes))
 LooksFirstBy rooms looks takes (Starting port next) = LooksFirstBy rooms looks takes next
 LooksFirstBy rooms looks takes (Receiving next) = (datagram : Datagram) → LooksFirstBy rooms looks takes (next datagram)
 LooksFirstBy rooms looks takes (Before one others) = ⊥

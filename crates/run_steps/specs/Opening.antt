@@ -1,11 +1,17 @@
 -- What is said where a file is not opened, or where a call on an opened file was refused.
 use Rattle.std.specs.Prelude.{◌≡◌, ℕ, IsTrue, List, ⊤}
 use Rattle.opened_file.specs.declared.quota_file.FileFault.{FileFault}
-use Rattle.opened_file.specs.declared.quota_file.FileFault.TheVariants.{Store as StoreFailed, Damage as FileDamaged, Full as NoBlocks, Memory as NoMemory}
+use Rattle.opened_file.specs.declared.quota_file.FileFault.TheVariants.{Store as StoreFailed, Damage as FileDamaged}
+use Rattle.opened_file.specs.declared.quota_file.FileFault.TheVariants.{Full as NoBlocks, Memory as NoMemory}
 use Rattle.opened_file.specs.declared.quota_file.OpenFault.{OpenFault}
-use Rattle.opened_file.specs.declared.quota_file.OpenFault.TheVariants.{Store, NoFile, TooLarge, Memory, NotQuota, WrongKind, UnknownVersion, BadBlockCount, FormatMismatch, Damage as NotWhole}
+use Rattle.opened_file.specs.declared.quota_file.OpenFault.TheVariants.{Store, NoFile, TooLarge, Memory, NotQuota}
+use Rattle.opened_file.specs.declared.quota_file.OpenFault.TheVariants.{WrongKind, UnknownVersion, BadBlockCount}
+use Rattle.opened_file.specs.declared.quota_file.OpenFault.TheVariants.{FormatMismatch, Damage as NotWhole}
 use Rattle.refusals.specs.declared.cause.Cause.{Cause}
-use Rattle.refusals.specs.declared.cause.Cause.TheVariants.{StoreFault, NoFile as NoSuchFile, TooLarge as FileTooLarge, Memory as WantOfMemory, NotQuota as NoQuotaFile, WrongKind as OtherKind, UnknownVersion as OtherVersion, BadBlockCount as TooFewBlocks, OtherFormat, Damaged, Full}
+use Rattle.refusals.specs.declared.cause.Cause.TheVariants.{StoreFault, NoFile as NoSuchFile, TooLarge as FileTooLarge}
+use Rattle.refusals.specs.declared.cause.Cause.TheVariants.{Memory as WantOfMemory, NotQuota as NoQuotaFile}
+use Rattle.refusals.specs.declared.cause.Cause.TheVariants.{WrongKind as OtherKind, UnknownVersion as OtherVersion}
+use Rattle.refusals.specs.declared.cause.Cause.TheVariants.{BadBlockCount as TooFewBlocks, OtherFormat, Damaged, Full}
 use Rattle.quota_map.specs.Asked.{Asked, asks_format}
 use Rattle.quota_map.specs.View.{IsDamageAs, asks_tree}
 

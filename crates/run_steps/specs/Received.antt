@@ -14,8 +14,10 @@ Receives count (Looking next) = (files : World) → Receives count (next files)
 Receives count (Opening kind asked name next) = (value : QuotaValue) → Receives count (next value)
 Receives count (Reading whole next) = (bytes : List ℕ) → Receives count (next bytes)
 Receives count (Starting port next) = Receives count next
-Receives count (Receiving next) = (more : ℕ) × (count ≡ suc more) × ((datagram : Datagram) → Receives more (next datagram))
-Receives count (Before one others) = (first : ℕ) × (more : ℕ) × (count ≡ first + more) × Receives first one × Receives more others
+Receives count (Receiving next) =
+    (more : ℕ) × (count ≡ suc more) × ((datagram : Datagram) → Receives more (next datagram))
+Receives count (Before one others) =
+    (first : ℕ) × (more : ℕ) × (count ≡ first + more) × Receives first one × Receives more others
 Receives count (InLine line steps) = Receives count steps
 
 -- this many datagrams were taken, and these are left

@@ -12,8 +12,8 @@ abbrev pub next_of : List Steps → Steps
 next_of [] = Finish
 next_of (one ∷ others) = one
 
--- A list of commands has begun so far: its first commands ended and none of them was refused, and the next one, where there is
--- one, has begun from what they left.
+-- A list of commands has begun so far: its first commands ended and none of them was refused, and the next one, where
+-- there is one, has begun from what they left.
 pub record IsBegunAt (list : List Steps) (old : Outside) (done hand : List Act) (now : Outside) : Type 0 where
   pub first : List Steps
   pub rest : List Steps
@@ -25,9 +25,10 @@ pub record IsBegunAt (list : List Steps) (old : Outside) (done hand : List Act) 
   pub all : done ≡ acts ++ more
   pub begun : HasBegun (next_of rest) middle more hand now
 
--- A list of commands was refused at one of them: those before it ended and none of them was refused, it was refused in what they
--- left, and none behind it came.
-pub record IsRefusedAtOne (list : List Steps) (old : Outside) (acts : List Act) (new : Outside) (refusal : Refusal) : Type 0 where
+-- A list of commands was refused at one of them: those before it ended and none of them was refused, it was refused in
+-- what they left, and none behind it came.
+pub record IsRefusedAtOne (list : List Steps) (old : Outside) (acts : List Act) (new : Outside)
+    (refusal : Refusal) : Type 0 where
   pub first : List Steps
   pub one : Steps
   pub others : List Steps

@@ -18,7 +18,16 @@ ShowingSteps kind asked file text =
 
 -- a command that shows something reads the store and writes to the output
 abbrev pub showing_uses : Uses
-showing_uses = record { input = false; out = true; link = false; changes = false; all_or_nothing = true; warns = false; reads_commands = false; reads_edits = false }
+showing_uses = record {
+  input = false;
+  out = true;
+  link = false;
+  changes = false;
+  all_or_nothing = true;
+  warns = false;
+  reads_commands = false;
+  reads_edits = false;
+}
 
 -- the causes for which a text about a file may not be shown, whatever is told
 abbrev pub ShowingMayRefuse : Asked → List ℕ → Cause → List ℕ → Type 0

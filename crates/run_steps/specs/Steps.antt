@@ -1,6 +1,6 @@
--- The steps of a command. They come in order, each from what the steps before it left outside, and the first one that is
--- refused ends the command. Each form of steps holds the steps that come behind it. What steps mean, whole, begun, and sure to
--- succeed, is said of these forms once, in Meaning.
+-- The steps of a command. They come in order, each from what the steps before it left outside, and the first one that
+-- is refused ends the command. Each form of steps holds the steps that come behind it. What steps mean, whole, begun,
+-- and sure to succeed, is said of these forms once, in Meaning.
 use Rattle.std.specs.Prelude.{ℕ, Bool, List, [], ◌∷◌, Option, Some, None}
 use Rattle.quota_types.specs.declared.file_kind.Kind.{Kind}
 use Rattle.outside.specs.Seen.{Datagram}
@@ -13,11 +13,11 @@ use Rattle.run_steps.specs.Act.{Act}
 use Rattle.run_steps.specs.Naming.{names_seen}
 use Rattle.quota_map.specs.Asked.{Asked}
 
--- Steps are one of these: the end, with a refusal or none; an act, and the steps behind it; a look at the files as they are; a
--- quota file of a kind that is opened, in the format that is asked for, by its name, and what comes of its value; the standard
--- input, the whole of it where its bytes ask for that, and what comes of its bytes; a link that is started at a port, and the
--- steps behind it; the first datagram that is left, and what comes of it; steps, and the ones behind them where they pass; and
--- steps that stand in a line of a script.
+-- Steps are one of these: the end, with a refusal or none; an act, and the steps behind it; a look at the files as they
+-- are; a quota file of a kind that is opened, in the format that is asked for, by its name, and what comes of its
+-- value; the standard input, the whole of it where its bytes ask for that, and what comes of its bytes; a link that is
+-- started at a port, and the steps behind it; the first datagram that is left, and what comes of it; steps, and the
+-- ones behind them where they pass; and steps that stand in a line of a script.
 pub data Steps : Type 0 where
   Ending : Option Refusal → Steps
   Doing : Act → Steps → Steps

@@ -4,7 +4,8 @@ use Rattle.std.specs.Prelude.{◌≡◌, ℕ, Bool, true, false, ◌||◌, IsTru
 use Rattle.input_text.specs.InputLeft.{left_from}
 use Rattle.outside.specs.World.{World}
 use Rattle.refusals.specs.declared.cause.Cause.{Cause}
-use Rattle.refusals.specs.declared.cause.Cause.TheVariants.{NoFile, StoreFault, SourceFault, Memory, TooLarge, LongLine, BadForm, BadLine, Conflict}
+use Rattle.refusals.specs.declared.cause.Cause.TheVariants.{NoFile, StoreFault, SourceFault, Memory, TooLarge, LongLine}
+use Rattle.refusals.specs.declared.cause.Cause.TheVariants.{BadForm, BadLine, Conflict}
 use Rattle.refusals.specs.Refusals.{refusal_of}
 use Rattle.refusals.specs.Outcome.{Outcome, Passed, Refused}
 use Rattle.run_steps.specs.Run.{Uses}
@@ -40,8 +41,8 @@ Taking (Some name) is_whole read next = Looking (λ (files : World). Then (file_
 abbrev pub reading : Option (List ℕ) → Uses → Uses
 reading from uses = record uses { input = is_none from }
 
--- What an input is to a command: a form, which takes no memory and is refused as a whole; lines that are read one by one, each
--- of which may be refused; or a listing, which is refused as a whole.
+-- What an input is to a command: a form, which takes no memory and is refused as a whole; lines that are read one by
+-- one, each of which may be refused; or a listing, which is refused as a whole.
 pub data InputKind : Type 0 where
   AForm : InputKind
   Lines : InputKind

@@ -16,7 +16,8 @@ edits_in (Change way name value ∷ acts) = 1 + edits_in acts
 edits_in (Idle ∷ acts) = 1 + edits_in acts
 edits_in (_ ∷ acts) = edits_in acts
 
--- Acts take this many calls of `write`: none where they change no file, and twelve at most for each edit where they replace none.
+-- Acts take this many calls of `write`: none where they change no file, and twelve at most for each edit where they
+-- replace none.
 pub record WritesFor (acts : List Act) (old new : ℕ) : Type 0 where
   pub none : ChangesNone acts → new ≡ old
   pub few : ReplacesNone acts → new ≤ old + 12 * edits_in acts
@@ -26,9 +27,9 @@ abbrev pub others_at : List Act → ℕ
 others_at (Change (Together others) name value ∷ acts) = others
 others_at _ = 0
 
--- Acts, of which the one at hand may be done in part, take this many calls of `write`: as many as if it was done whole; and where it
--- is an edit that may be made together with others, as many as if these were done too, since a replacement that makes all of them may
--- fail.
+-- Acts, of which the one at hand may be done in part, take this many calls of `write`: as many as if it was done whole;
+-- and where it is an edit that may be made together with others, as many as if these were done too, since a replacement
+-- that makes all of them may fail.
 pub record WritesInPart (hand acts : List Act) (old new : ℕ) : Type 0 where
   pub none : ChangesNone acts → new ≡ old
   pub few : ReplacesNone acts → new ≤ old + 12 * (edits_in acts + others_at hand)

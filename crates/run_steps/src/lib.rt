@@ -1,5 +1,6 @@
 //! What all commands are made of: the acts of a run, the steps of a command, what it means to carry steps out, and the
-//! steps that commands share: the names, the words that stand for identifiers, limits and times, and the opening of a file.
+//! steps that commands share: the names, the words that stand for identifiers, limits and times, and the opening of a
+//! file.
 //!
 //! The one promise: each helper meets its step.
 #![tactic(auto)]

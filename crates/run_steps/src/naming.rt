@@ -27,7 +27,8 @@ pub fn read_names<S: Store>(
     names: Option<Word>,
     store: &mut S,
 ) -> Result<Names, Refusal>
-    ensures read { IfOk result (λ lines. IsTrue S.tells → names_seen kind names (S.seen store.old).files ≡ Passed lines) }
+    ensures read { IfOk result
+        (λ lines. IsTrue S.tells → names_seen kind names (S.seen store.old).files ≡ Passed lines) }
     ensures given { IfOk result (MayBeNames names) }
     ensures refused { IfErr result (λ refusal. IsNamesFault (S.seen store.old).faults (S.seen store.new).faults S.tells
         (names_seen kind names (S.seen store.old).files) refusal refusal.cause) }
@@ -50,7 +51,8 @@ fn read_names_file<S: Store>(
     name: Word,
     store: &mut S,
 ) -> Result<Names, Refusal>
-    ensures read { IfOk result (λ lines. IsTrue S.tells → names_of_file kind name ((S.seen store.old).files name) ≡ Passed lines) }
+    ensures read { IfOk result
+        (λ lines. IsTrue S.tells → names_of_file kind name ((S.seen store.old).files name) ≡ Passed lines) }
     ensures refused { IfErr result (λ refusal. IsNamesFault (S.seen store.old).faults (S.seen store.new).faults S.tells
         (names_of_file kind name ((S.seen store.old).files name)) refusal refusal.cause) }
     ensures may { IfErr result (λ refusal. FileOfNamesMayRefuse name refusal.cause refusal.name) }

@@ -31,9 +31,9 @@ pub fn read_identifier(names: &Names, word: Word) -> Result<u32, Refusal>
     }
 }
 
-/// Reads the bytes of the word that names an identifier: one or more digits with a value below 2^32, or one of the names.
-/// Any number of leading zeros is allowed. Another word of digits is no number, and any other word is the name of no
-/// identifier.
+/// Reads the bytes of the word that names an identifier: one or more digits with a value below 2^32, or one of the
+/// names. Any number of leading zeros is allowed. Another word of digits is no number, and any other word is the name
+/// of no identifier.
 fn identifier_from(names: &Names, word: &[u8]) -> Result<u32, Cause>
     ensures { MatchResult result (λ id. identifier_of names.now word.now ≡ Passed id)
         (λ cause. identifier_of names.now word.now ≡ Refused (refusal_of cause word.now)) }

@@ -1,5 +1,5 @@
--- The lines of a script: the commands that an input gives, a line each, read whole before the first of them runs. Source:
--- this project's own.
+-- The lines of a script: the commands that an input gives, a line each, read whole before the first of them runs.
+-- Source: this project's own.
 use Rattle.std.specs.Prelude.{◌≡◌, ℕ, ◌+◌, List, [], ◌∷◌, codes, Option, Some, None, if◌then◌else◌}
 use Rattle.std.specs.Str.{is_utf8}
 use Rattle.input_text.specs.InputLines.{InputLines, NoLine, LineThen, LongNext, PastNext, input_lines}
@@ -30,7 +30,8 @@ script_name = codes "script"
 abbrev pub script_refusal : Cause → Refusal
 script_refusal cause = refusal_of cause script_name
 
--- What a line says, by its number: nothing, a command, which is UTF-8, or else it is refused. A comment need not be UTF-8.
+-- What a line says, by its number: nothing, a command, which is UTF-8, or else it is refused. A comment need not be
+-- UTF-8.
 abbrev pub line_says : ℕ → List ℕ → Outcome (Option LineSaid)
 line_says number line =
     if says_nothing line then Passed None

@@ -45,7 +45,8 @@ pub fn read_line(alloc: Global, number: u64, line: &[u8]) -> Result<ScriptLineRe
 
 /// A line as text, or `None` where it is not UTF-8.
 fn as_text(line: &[u8]) -> Option<&str>
-    ensures { MatchOption result (is_utf8 line.now ≡ false) (λ text. (is_utf8 line.now ≡ true) × (text.now ≡ line.now)) }
+    ensures { MatchOption result (is_utf8 line.now ≡ false)
+        (λ text. (is_utf8 line.now ≡ true) × (text.now ≡ line.now)) }
 {
     match std::str::from_utf8(line) {
         Ok(text) => Some(text),

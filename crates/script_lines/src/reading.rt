@@ -1,11 +1,13 @@
-ghost use Rattle.std.specs.Prelude.{◌≡◌, ◌≤◌, ◌<◌, ◌-◌, [], IfErr, IfOk, IfSome, IsSome, IsTrue, MatchResult, None, Some, false, true};
+ghost use Rattle.std.specs.Prelude.{◌≡◌, ◌≤◌, ◌<◌, ◌-◌, [], IfErr, IfOk, IfSome, IsSome, IsTrue, MatchResult, None};
+ghost use Rattle.std.specs.Prelude.{Some, false, true};
 ghost use Rattle.outside.specs.Behind.{IsBehind};
 ghost use Rattle.outside.specs.Count.{Rose};
 ghost use Rattle.input_text.specs.LineReading.{lines_left};
 ghost use Rattle.script_lines.specs.Script.{lines_say, script_refusal, script_said};
 ghost use Rattle.script_lines.specs.ScriptReading.{IsOfScript, read_then, refusal_read, script_read};
 ghost use Rattle.script_lines.specs.declared.line.ScriptLineRead.TheVariants.{Refused as Faulty};
-ghost use Rattle.script_lines.specs.declared.script.ScriptFault.TheVariants.{Source as SourceFailed, Memory as NoMemory};
+ghost use Rattle.script_lines.specs.declared.script.ScriptFault.TheVariants.{Source as SourceFailed};
+ghost use Rattle.script_lines.specs.declared.script.ScriptFault.TheVariants.{Memory as NoMemory};
 
 use crate::line::{ScriptLineRead, read_line, refused_script};
 use crate::{Script, ScriptFault};
@@ -21,8 +23,8 @@ const MAX_LINE: usize = 4096;
 /// How many bytes of a script are read at most.
 const MAX_SCRIPT: u64 = 16_777_216;
 
-/// Reads the lines of a script that say something, up to the first line that is refused, or up to the end of the input. Of
-/// the input it keeps those lines and no more.
+/// Reads the lines of a script that say something, up to the first line that is refused, or up to the end of the input.
+/// Of the input it keeps those lines and no more.
 ///
 /// A line says nothing where it begins with `#` or has no words; any other line has to be UTF-8. A line has 4,096 bytes
 /// at most, and all lines 16,777,216.
@@ -35,7 +37,8 @@ pub fn read_script<I: Source>(alloc: Global, input: &mut I) -> Result<Script, Sc
     ensures ended { IfOk result (λ script. script.refusal ≡ None → IsTrue I.tells → (I.seen input.new).left ≡ []) }
     ensures behind { IsTrue I.tells → IsBehind (I.seen input.old).left (I.seen input.new).left }
     ensures may { IfOk result (λ script. IfSome script.refusal IsOfScript) }
-    ensures cause { IfErr result (λ fault. fault ≡ SourceFailed → Rose (I.seen input.old).faults (I.seen input.new).faults) }
+    ensures cause { IfErr result
+        (λ fault. fault ≡ SourceFailed → Rose (I.seen input.old).faults (I.seen input.new).faults) }
     ensures later { (I.seen input.old).faults ≤ (I.seen input.new).faults }
     ensures keeps { I.keeps false input.old input.new }
     ensures kept { IfOk result (λ script. script.refusal ≡ None → I.keeps true input.old input.new) }
@@ -48,7 +51,8 @@ fn read_lines<I: Source>(alloc: Global, input: &mut I) -> Result<Script, ScriptF
     ensures read { IfOk result (λ script. IsTrue I.tells → script_said (I.seen input.old).left ≡ script_read script) }
     ensures ended { IfOk result (λ script. script.refusal ≡ None → IsTrue I.tells → (I.seen input.new).left ≡ []) }
     ensures may { IfOk result (λ script. IfSome script.refusal IsOfScript) }
-    ensures cause { IfErr result (λ fault. fault ≡ SourceFailed → Rose (I.seen input.old).faults (I.seen input.new).faults) }
+    ensures cause { IfErr result
+        (λ fault. fault ≡ SourceFailed → Rose (I.seen input.old).faults (I.seen input.new).faults) }
     ensures later { (I.seen input.old).faults ≤ (I.seen input.new).faults }
     ensures keeps { I.keeps false input.old input.new }
     ensures kept { IfOk result (λ script. script.refusal ≡ None → I.keeps true input.old input.new) }
@@ -94,7 +98,8 @@ fn take_line<I: Source>(
     ensures may { IfOk result (λ read. IfSome (refusal_read read) IsOfScript) }
     ensures nearer { IfOk result (λ read. IsSome read → refusal_read read ≡ None
         → 16777216 - reader.new.given < 16777216 - reader.old.given) }
-    ensures cause { IfErr result (λ fault. fault ≡ SourceFailed → Rose (I.seen input.old).faults (I.seen input.new).faults) }
+    ensures cause { IfErr result
+        (λ fault. fault ≡ SourceFailed → Rose (I.seen input.old).faults (I.seen input.new).faults) }
     ensures later { (I.seen input.old).faults ≤ (I.seen input.new).faults }
     ensures keeps { I.keeps false input.old input.new }
     ensures kept { IfOk result (λ read. refusal_read read ≡ None → I.keeps true input.old input.new) }

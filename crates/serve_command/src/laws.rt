@@ -27,14 +27,16 @@ pub fn serving_looks_first()
 pub fn serving_receives_its_calls()
     ensures receives { (asked : Asked) (calls port : ℕ) (exports : List ExportOption) (invocation : Invocation)
         → Receives calls (ServeSteps asked calls port exports invocation) }
-    ensures received { (asked : Asked) (calls port : ℕ) (exports : List ExportOption) (invocation : Invocation) (old new : Outside) (acts : List Act)
+    ensures received { (asked : Asked) (calls port : ℕ) (exports : List ExportOption) (invocation : Invocation)
+        (old new : Outside) (acts : List Act)
         → EndsBy (ServeSteps asked calls port exports invocation) old acts new None
         → AreReceived calls old.datagrams new.datagrams }
 {}
 
 /// The steps are sure where each file is seen as a value: no datagram is refused.
 pub fn serving_is_sure_where_the_files_are_accepted()
-    ensures { (asked : Asked) (calls port : ℕ) (exports : List ExportOption) (invocation : Invocation) (old : Outside) (exported : ExportedValues)
+    ensures { (asked : Asked) (calls port : ℕ) (exports : List ExportOption) (invocation : Invocation) (old : Outside)
+        (exported : ExportedValues)
         → AreExported asked old.files exports nothing_exported exported
         → IsSure (ServeSteps asked calls port exports invocation) old }
 {}

@@ -1,4 +1,5 @@
-//! The command `rquotad`: quota files are exported under paths, and a given number of rquota calls is answered out of them.
+//! The command `rquotad`: quota files are exported under paths, and a given number of rquota calls is answered out of
+//! them.
 //!
 //! The one promise: it carries out its steps. No memory is taken from the first datagram on.
 #![tactic(auto)]

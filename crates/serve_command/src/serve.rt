@@ -25,8 +25,8 @@ use rquota_serve::{Exports, serve};
 use serve_steps::{add_all, first_file, serve_cause};
 use std::alloc::Global;
 
-/// Exports quota files under paths, starts the link at a port, once, takes exactly `calls` datagrams that are sent to it, those
-/// without a reply counted too, and sends the reply to each. Port 0 stands for one that the system chooses.
+/// Exports quota files under paths, starts the link at a port, once, takes exactly `calls` datagrams that are sent to
+/// it, those without a reply counted too, and sends the reply to each. Port 0 stands for one that the system chooses.
 ///
 /// # Errors
 ///
@@ -42,7 +42,8 @@ pub fn serve_files<S: Store, L: Link>(
 ) -> Result<(), Refusal>
     requires some { 0 < calls }
     requires apart { MayExport [] exports }
-    ensures carries { (input : SourceSeen) (out err : SinkSeen) (input_tells out_tells err_tells : Bool) (invocation : Invocation)
+    ensures carries { (input : SourceSeen) (out err : SinkSeen) (input_tells out_tells err_tells : Bool)
+        (invocation : Invocation)
         → CarriesOut (ServeSteps (asked_of format) calls port exports invocation) serve_uses
         (ServeMayRefuse (asked_of format) exports)
         (tells_of S.tells input_tells out_tells err_tells L.tells)
@@ -52,9 +53,11 @@ pub fn serve_files<S: Store, L: Link>(
     ensures taken { OnOk result (IsTrue L.tells → AreReceived calls (L.seen link.old).left (L.seen link.new).left) }
     // Where there was not enough memory, no call on the link was made.
     ensures untaken { IfErr result (λ refusal. status_of refusal.cause ≡ 5 → link.new ≡ link.old) }
-    // The link is said to have failed only where not all was done: fewer datagrams were taken, or the last reply was not sent.
+    // The link is said to have failed only where not all was done: fewer datagrams were taken, or the last reply was
+    // not sent.
     ensures stopped { IfErr result (λ refusal. refusal.cause ≡ LinkFault → IsTrue L.tells
-        → Stopped (λ exported. IsTrue S.tells × AreExported (asked_of format) (S.seen store.old).files exports nothing_exported exported) calls
+        → Stopped (λ exported.
+        IsTrue S.tells × AreExported (asked_of format) (S.seen store.old).files exports nothing_exported exported) calls
         (L.seen link.old) (L.seen link.new)) }
     // Where it was done, no more was read than the opening of each file takes, and five blocks for each datagram.
     ensures reads { OnOk result (IsTrue S.tells → (S.seen store.new).reads
@@ -73,8 +76,8 @@ pub fn serve_files<S: Store, L: Link>(
     }
 }
 
-/// Starts the link at a port, takes this many datagrams that are sent to it, and answers them. It takes no memory. Where a file
-/// is found damaged, the refusal gives this name.
+/// Starts the link at a port, takes this many datagrams that are sent to it, and answers them. It takes no memory.
+/// Where a file is found damaged, the refusal gives this name.
 fn answer_calls<S: Store, L: Link>(
     opened: &mut Exports,
     format: Option<Format>,
@@ -86,7 +89,8 @@ fn answer_calls<S: Store, L: Link>(
 ) -> Result<(), Refusal>
     requires some { 0 < calls }
     requires asked { All (IsAsAsked (asked_of format)) (exports_seen opened.old) }
-    ensures carries { (exported : ExportedValues) (input : SourceSeen) (out err : SinkSeen) (input_tells out_tells err_tells : Bool)
+    ensures carries { (exported : ExportedValues) (input : SourceSeen) (out err : SinkSeen)
+        (input_tells out_tells err_tells : Bool)
         → (IsTrue S.tells → Serves S.tells (S.seen store.old).files opened.old exported)
         → CarriesOut (Starting port (AnsweringSteps exported calls)) serve_uses
         (AnsweringMayRefuse (asked_of format) file)

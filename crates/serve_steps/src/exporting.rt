@@ -1,4 +1,5 @@
-ghost use Rattle.std.specs.Prelude.{ℕ, Option, [], ◌≡◌, ◌≤◌, ◌+◌, ◌⊎◌, Bool, List, Result, IsTrue, OnOk, OnErr, length, is_ok};
+ghost use Rattle.std.specs.Prelude.{ℕ, Option, [], ◌≡◌, ◌≤◌, ◌+◌, ◌⊎◌, Bool, List, Result, IsTrue, OnOk, OnErr, length};
+ghost use Rattle.std.specs.Prelude.{is_ok};
 ghost use Rattle.std.specs.List.{All};
 ghost use Rattle.outside.specs.Seen.{LinkSeen, SinkSeen, SourceSeen};
 ghost use Rattle.outside.specs.ManyCalls.{Syncs};
@@ -12,7 +13,8 @@ ghost use Rattle.rquota_serve.specs.Adding.{reads_of};
 ghost use Rattle.rquota_serve.specs.Added.{news_seen};
 ghost use Rattle.rquota_serve.specs.ExportedValues.{ExportedValues};
 ghost use Rattle.rquota_serve.specs.Exports.{Serves, exports_seen};
-ghost use Rattle.serve_steps.specs.Exporting.{AnsweringMayRefuse, AreExported, ExportingMayRefuse, MayExport, OpeningAll, news_of, serve_uses};
+ghost use Rattle.serve_steps.specs.Exporting.{AnsweringMayRefuse, AreExported, ExportingMayRefuse, MayExport};
+ghost use Rattle.serve_steps.specs.Exporting.{OpeningAll, news_of, serve_uses};
 ghost use Rattle.serve_steps.specs.ServeCauses.{IsAsAsked};
 ghost use Rattle.quota_map.specs.Asked.{asked_of};
 
@@ -40,17 +42,22 @@ pub fn add_all<S: Store>(
     requires may { MayExport (exports_seen exports.old) list.now }
     requires asked { All (IsAsAsked (asked_of format)) (exports_seen exports.old) }
     // What is exported then is what the files are seen as, and whatever is carried out of it is carried out of them.
-    ensures opened { OnOk result ((before : ExportedValues) → (IsTrue S.tells → Serves S.tells (S.seen store.old).files exports.old before)
+    ensures opened { OnOk result
+        ((before : ExportedValues) → (IsTrue S.tells → Serves S.tells (S.seen store.old).files exports.old before)
         → (exported : ExportedValues)
         × (IsTrue S.tells → AreExported (asked_of format) (S.seen store.old).files list.now before exported)
         × (IsTrue S.tells → Serves S.tells (S.seen store.new).files exports.new exported)
         × ((next : ExportedValues → Steps) (file : List ℕ) (input : SourceSeen) (out err : SinkSeen) (link : LinkSeen)
         (input_tells out_tells err_tells link_tells : Bool) (new : RunSeen) (ended : Result (Unit {0}) Refusal)
-        → CarriesOut (next exported) serve_uses (AnsweringMayRefuse (asked_of format) file) (tells_of S.tells input_tells out_tells err_tells link_tells)
+        → CarriesOut (next exported) serve_uses (AnsweringMayRefuse (asked_of format) file)
+        (tells_of S.tells input_tells out_tells err_tells link_tells)
         (seen_of (S.seen store.new) input out err link) new ended
-        → CarriesOut (OpeningAll (asked_of format) list.now before next) serve_uses (AnsweringMayRefuse (asked_of format) file) (tells_of S.tells input_tells out_tells err_tells link_tells)
+        → CarriesOut (OpeningAll (asked_of format) list.now before next) serve_uses
+        (AnsweringMayRefuse (asked_of format) file) (tells_of S.tells input_tells out_tells err_tells link_tells)
         (seen_of (S.seen store.old) input out err link) new ended)) }
-    ensures unopened { OnErr result ((before : ExportedValues) (next : ExportedValues → Steps) (input : SourceSeen) (out err : SinkSeen) (link : LinkSeen)
+    ensures unopened { OnErr result
+        ((before : ExportedValues) (next : ExportedValues → Steps) (input : SourceSeen) (out err : SinkSeen)
+        (link : LinkSeen)
         (input_tells out_tells err_tells link_tells : Bool)
         → (IsTrue S.tells → Serves S.tells (S.seen store.old).files exports.old before)
         → CarriesOut (OpeningAll (asked_of format) list.now before next) serve_uses

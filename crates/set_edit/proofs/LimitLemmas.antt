@@ -1,5 +1,6 @@
 -- A limit by its last byte.
-use Rattle.std.proofs.Common.{◌≡◌, ℕ, Bool, true, false, ◌&&◌, List, [], ◌∷◌, ◌++◌, length, Option, Some, None, refl, sym, ap, ◌∙◌, subst, append_assoc, append-nil, arith}
+use Rattle.std.proofs.Common.{◌≡◌, ℕ, Bool, true, false, ◌&&◌, List, [], ◌∷◌, ◌++◌, length, Option, Some, None, refl}
+use Rattle.std.proofs.Common.{sym, ap, ◌∙◌, subst, append_assoc, append-nil, arith}
 use Rattle.std.specs.Char.{is_ascii_digit}
 use Rattle.std.specs.List.{prefix_len}
 use Rattle.std.specs.Str.{all_ascii_digits}
@@ -21,7 +22,8 @@ times digits factor = product_of (number_of digits) (Some factor)
 abbrev BeginsOther : List ℕ → Type 0
 BeginsOther behind = prefix_len is_ascii_digit behind ≡ 0
 
-prefix_len-digits : (front behind : List ℕ) → all_ascii_digits front ≡ true → BeginsOther behind → prefix_len is_ascii_digit (front ++ behind) ≡ length front
+prefix_len-digits : (front behind : List ℕ) → all_ascii_digits front ≡ true → BeginsOther behind
+    → prefix_len is_ascii_digit (front ++ behind) ≡ length front
 prefix_len-digits [] behind all other = other
 prefix_len-digits (digit ∷ front) behind all other =
     let parts = and_parts (is_ascii_digit digit) (all_ascii_digits front) all in
@@ -33,7 +35,8 @@ begins_other : (byte : ℕ) (more : List ℕ) → is_ascii_digit byte ≡ false 
 begins_other byte more other = rw other
 
 -- a limit in its two parts
-limit_of-parts : (blocks : Bool) (front behind : List ℕ) → all_ascii_digits front ≡ true → BeginsOther behind → limit_of blocks (front ++ behind) ≡ limit_from blocks front behind
+limit_of-parts : (blocks : Bool) (front behind : List ℕ) → all_ascii_digits front ≡ true → BeginsOther behind
+    → limit_of blocks (front ++ behind) ≡ limit_from blocks front behind
 unfolding limit_of
 limit_of-parts blocks front behind all other =
     let at = prefix_len-digits front behind all other in
@@ -48,7 +51,8 @@ record HasOther (word : List ℕ) : Type 0 where
   digits : all_ascii_digits front ≡ true
   other : is_ascii_digit byte ≡ false
 
-has_other_by : (byte : ℕ) (word : List ℕ) (digit : Bool) → is_ascii_digit byte ≡ digit → (digit ≡ true → HasOther word) → HasOther (byte ∷ word)
+has_other_by : (byte : ℕ) (word : List ℕ) (digit : Bool) → is_ascii_digit byte ≡ digit → (digit ≡ true → HasOther word)
+    → HasOther (byte ∷ word)
 has_other_by byte word true e h =
     let later = h refl in
     record {
@@ -79,7 +83,8 @@ factor_of-long : (blocks : Bool) (one two : ℕ) (more : List ℕ) → factor_of
 factor_of-long true one two more = grind arith
 factor_of-long false one two more = grind arith
 
-factor_of-behind : (blocks : Bool) (one : ℕ) (more : List ℕ) (last : ℕ) → factor_of blocks (one ∷ (more ++ last ∷ [])) ≡ None
+factor_of-behind : (blocks : Bool) (one : ℕ) (more : List ℕ) (last : ℕ)
+    → factor_of blocks (one ∷ (more ++ last ∷ [])) ≡ None
 factor_of-behind blocks one [] last = factor_of-long blocks one last []
 factor_of-behind blocks one (two ∷ more) last = factor_of-long blocks one two (more ++ last ∷ [])
 
@@ -92,45 +97,58 @@ factor_of-none : (blocks : Bool) → factor_of blocks [] ≡ Some 1
 factor_of-none true = refl
 factor_of-none false = refl
 
-limit_from-none : (blocks : Bool) (front behind : List ℕ) (number : Option ℕ) → number ≡ number_of front → factor_of blocks behind ≡ None → limit_from blocks front behind ≡ None
+limit_from-none : (blocks : Bool) (front behind : List ℕ) (number : Option ℕ) → number ≡ number_of front
+    → factor_of blocks behind ≡ None → limit_from blocks front behind ≡ None
 limit_from-none blocks front behind None e f = rw (← e)
 limit_from-none blocks front behind (Some n) e f = rw (← e, f)
 
-limit_from-times : (blocks : Bool) (front behind : List ℕ) (factor : ℕ) → factor_of blocks behind ≡ Some factor → limit_from blocks front behind ≡ times front factor
+limit_from-times : (blocks : Bool) (front behind : List ℕ) (factor : ℕ) → factor_of blocks behind ≡ Some factor
+    → limit_from blocks front behind ≡ times front factor
 limit_from-times blocks front behind factor f = rw f
 
 number_of-other : (word : List ℕ) → all_ascii_digits word ≡ false → number_of word ≡ None
 unfolding number_of
 number_of-other word none = grind arith
 
-all_ascii_digits-push : (digits : List ℕ) (last : ℕ) → all_ascii_digits (digits ++ last ∷ []) ≡ (all_ascii_digits digits && is_ascii_digit last)
+all_ascii_digits-push : (digits : List ℕ) (last : ℕ)
+    → all_ascii_digits (digits ++ last ∷ []) ≡ (all_ascii_digits digits && is_ascii_digit last)
 all_ascii_digits-push [] last = grind arith
 all_ascii_digits-push (digit ∷ digits) last = let e = all_ascii_digits-push digits last in grind arith
 
 -- a word with a byte before the last one that is no digit is no limit
-limit_of-other : (blocks : Bool) (digits : List ℕ) (last : ℕ) → all_ascii_digits digits ≡ false → limit_of blocks (digits ++ last ∷ []) ≡ None
+limit_of-other : (blocks : Bool) (digits : List ℕ) (last : ℕ) → all_ascii_digits digits ≡ false
+    → limit_of blocks (digits ++ last ∷ []) ≡ None
 limit_of-other blocks digits last none =
     let h = has_other digits none in
-    let whole : digits ++ last ∷ [] ≡ h.front ++ (h.byte ∷ (h.behind ++ last ∷ [])) = ap (λ (w : List ℕ). w ++ last ∷ []) h.parts ∙ append_assoc h.front (h.byte ∷ h.behind) (last ∷ []) in
+    let whole : digits ++ last ∷ [] ≡ h.front ++ (h.byte ∷ (h.behind ++ last ∷ [])) =
+    ap (λ (w : List ℕ). w ++ last ∷ []) h.parts ∙ append_assoc h.front (h.byte ∷ h.behind) (last ∷ []) in
     ap (limit_of blocks) whole
-    ∙ limit_of-parts blocks h.front (h.byte ∷ (h.behind ++ last ∷ [])) h.digits (begins_other h.byte (h.behind ++ last ∷ []) h.other)
-    ∙ limit_from-none blocks h.front (h.byte ∷ (h.behind ++ last ∷ [])) (number_of h.front) refl (factor_of-behind blocks h.byte h.behind last)
+    ∙ limit_of-parts blocks h.front (h.byte ∷ (h.behind ++ last ∷ [])) h.digits
+    (begins_other h.byte (h.behind ++ last ∷ []) h.other)
+    ∙ limit_from-none blocks h.front (h.byte ∷ (h.behind ++ last ∷ [])) (number_of h.front) refl
+    (factor_of-behind blocks h.byte h.behind last)
 
 times-none : (digits : List ℕ) (factor : ℕ) → all_ascii_digits digits ≡ false → None ≡ times digits factor
 times-none digits factor none = let e = number_of-other digits none in rw e
 
-suffix_by : (blocks : Bool) (digits : List ℕ) (suffix factor : ℕ) → factor_of blocks (suffix ∷ []) ≡ Some factor → (all : Bool) → all_ascii_digits digits ≡ all → limit_of blocks (digits ++ suffix ∷ []) ≡ times digits factor
+suffix_by : (blocks : Bool) (digits : List ℕ) (suffix factor : ℕ) → factor_of blocks (suffix ∷ []) ≡ Some factor
+    → (all : Bool) → all_ascii_digits digits ≡ all → limit_of blocks (digits ++ suffix ∷ []) ≡ times digits factor
 suffix_by blocks digits suffix factor f true all =
-    let other : is_ascii_digit suffix ≡ false = false_from_ne_true _ (λ digit. let none = factor_of-digit blocks suffix digit in cc) in
-    limit_of-parts blocks digits (suffix ∷ []) all (begins_other suffix [] other) ∙ limit_from-times blocks digits (suffix ∷ []) factor f
+    let other : is_ascii_digit suffix ≡ false =
+    false_from_ne_true _ (λ digit. let none = factor_of-digit blocks suffix digit in cc) in
+    limit_of-parts blocks digits (suffix ∷ []) all (begins_other suffix [] other)
+    ∙ limit_from-times blocks digits (suffix ∷ []) factor f
 suffix_by blocks digits suffix factor f false none =
     limit_of-other blocks digits suffix none ∙ times-none digits factor none
 
 -- a word that ends in a suffix
-pub limit_of-suffix : (blocks : Bool) (digits : List ℕ) (suffix factor : ℕ) → factor_of blocks (suffix ∷ []) ≡ Some factor → limit_of blocks (digits ++ suffix ∷ []) ≡ times digits factor
+pub limit_of-suffix : (blocks : Bool) (digits : List ℕ) (suffix factor : ℕ)
+    → factor_of blocks (suffix ∷ []) ≡ Some factor → limit_of blocks (digits ++ suffix ∷ []) ≡ times digits factor
 limit_of-suffix blocks digits suffix factor f = suffix_by blocks digits suffix factor f (all_ascii_digits digits) refl
 
-plain_by : (blocks : Bool) (digits : List ℕ) (last : ℕ) → factor_of blocks (last ∷ []) ≡ None → (all digit : Bool) → all_ascii_digits digits ≡ all → is_ascii_digit last ≡ digit → limit_of blocks (digits ++ last ∷ []) ≡ times (digits ++ last ∷ []) 1
+plain_by : (blocks : Bool) (digits : List ℕ) (last : ℕ) → factor_of blocks (last ∷ []) ≡ None → (all digit : Bool)
+    → all_ascii_digits digits ≡ all → is_ascii_digit last ≡ digit
+    → limit_of blocks (digits ++ last ∷ []) ≡ times (digits ++ last ∷ []) 1
 plain_by blocks digits last f true true all digit =
     let word = digits ++ last ∷ [] in
     ap (limit_of blocks) (sym (append-nil word))
@@ -145,5 +163,7 @@ plain_by blocks digits last f false digit none e =
     ∙ times-none (digits ++ last ∷ []) 1 (all_ascii_digits-push digits last ∙ and_left _ _ none)
 
 -- a word that does not end in a suffix
-pub limit_of-plain : (blocks : Bool) (digits : List ℕ) (last : ℕ) → factor_of blocks (last ∷ []) ≡ None → limit_of blocks (digits ++ last ∷ []) ≡ times (digits ++ last ∷ []) 1
-limit_of-plain blocks digits last f = plain_by blocks digits last f (all_ascii_digits digits) (is_ascii_digit last) refl refl
+pub limit_of-plain : (blocks : Bool) (digits : List ℕ) (last : ℕ) → factor_of blocks (last ∷ []) ≡ None
+    → limit_of blocks (digits ++ last ∷ []) ≡ times (digits ++ last ∷ []) 1
+limit_of-plain blocks digits last f =
+    plain_by blocks digits last f (all_ascii_digits digits) (is_ascii_digit last) refl refl

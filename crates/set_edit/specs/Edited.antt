@@ -1,5 +1,5 @@
--- What an edit of one identifier's record makes of a quota value. Source: setquota(8), whose four limits replace those of
--- the record, and `update_grace_times` of the quota tools.
+-- What an edit of one identifier's record makes of a quota value. Source: setquota(8), whose four limits replace those
+-- of the record, and `update_grace_times` of the quota tools.
 use Rattle.std.specs.Prelude.{ℕ, if◌then◌else◌, Option, Some, None, unwrap_or, Result, Ok, Err}
 use Rattle.std.specs.FinMap.{get}
 use Rattle.quota_types.specs.Kept.{kept_of}
@@ -16,19 +16,21 @@ use Rattle.set_edit.specs.declared.limits.Limits.{Limits}
 
 -- the record with these four limits
 abbrev pub with_limits : Rec → Limits → Rec
-with_limits rec limits = record rec { ihard = limits.ihard; isoft = limits.isoft; bhard = limits.bhard; bsoft = limits.bsoft }
+with_limits rec limits =
+    record rec { ihard = limits.ihard; isoft = limits.isoft; bhard = limits.bhard; bsoft = limits.bsoft }
 
--- the record that is wanted of an identifier: the one that it has, or one of zeros, with these four limits, and then with
--- both timers as they are to be
+-- the record that is wanted of an identifier: the one that it has, or one of zeros, with these four limits, and then
+-- with both timers as they are to be
 abbrev pub wanted_limits : Option Rec → Limits → Grace → ℕ → Rec
 wanted_limits old limits grace now = timers_of (with_limits (unwrap_or old zero_record) limits) grace now
 
--- the change that gives an identifier what the format keeps of this record, or takes the one that it has away where this
--- one is null
+-- the change that gives an identifier what the format keeps of this record, or takes the one that it has away where
+-- this one is null
 abbrev pub kept_change : Format → ℕ → Rec → FileChange
 kept_change format id rec = if is_null_of rec then Remove id else Put id (kept_of format id rec)
 
--- the value with no record of the identifier where this one is null, and otherwise with what the format keeps of this one
+-- the value with no record of the identifier where this one is null, and otherwise with what the format keeps of this
+-- one
 abbrev pub with_kept : QuotaValue → ℕ → Rec → QuotaValue
 with_kept value id rec = changed_value (kept_change value.format id rec) value
 

@@ -1,5 +1,5 @@
--- The edits of an opened quota file. Source: setquota(8), whose forms set four limits, copy those of another user, set the
--- grace periods of the file, and set the times of one user.
+-- The edits of an opened quota file. Source: setquota(8), whose forms set four limits, copy those of another user, set
+-- the grace periods of the file, and set the times of one user.
 use Rattle.std.specs.Prelude.{◌≡◌, ℕ, Bool, true, false, ◌&&◌, None, Some, Option, IfSome, is_none}
 use Rattle.std.specs.FinMap.{get}
 use Rattle.quota_types.specs.Kept.{IsKept}
@@ -19,10 +19,11 @@ use Rattle.set_edit.specs.declared.time_word.TimeWord.{TimeWord}
 
 -- the identifier has no record, and the one with these limits is null, so that there is none afterwards either
 abbrev pub limits_idle : QuotaValue → ℕ → Limits → ℕ → Bool
-limits_idle value id limits now = is_none (get value.records id) && is_null_of (wanted_limits None limits value.grace now)
+limits_idle value id limits now =
+    is_none (get value.records id) && is_null_of (wanted_limits None limits value.grace now)
 
--- the format has no room for this field of the record with these limits, which is made of one that it keeps and of grace
--- periods that fit
+-- the format has no room for this field of the record with these limits, which is made of one that it keeps and of
+-- grace periods that fit
 abbrev pub LimitsMayLack : ℕ → Limits → ℕ → Format → (Field × ℕ) → Type 0
 LimitsMayLack id limits now format out =
     (old : Option Rec) × (grace : Grace) × IfSome old (IsKept format id) × (grace_unfit format grace ≡ None)

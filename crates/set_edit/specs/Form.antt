@@ -30,8 +30,8 @@ form_heading = codes "  Filesystem blocks soft hard inodes soft hard"
 abbrev pub number_column : ℕ → List ℕ
 number_column number = codes " " ++ decimal number
 
--- what stands behind the file's name: the KiB of the space, rounded up, the soft and the hard limit of blocks, the inodes,
--- and the soft and the hard limit of inodes
+-- what stands behind the file's name: the KiB of the space, rounded up, the soft and the hard limit of blocks, the
+-- inodes, and the soft and the hard limit of inodes
 abbrev pub form_columns : Rec → List ℕ
 form_columns rec =
     number_column (kib_of rec.space) ++ number_column rec.bsoft ++ number_column rec.bhard

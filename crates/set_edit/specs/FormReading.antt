@@ -1,6 +1,7 @@
--- What a form says that an editor gives back. Source: edquota(8), whose usage columns are shown and never set; the words
--- that are needed, and the bounds, are this project's own.
-use Rattle.std.specs.Prelude.{ℕ, ◌+◌, Bool, true, false, ◌&&◌, is_some, if◌then◌else◌, List, [], ◌∷◌, Option, Some, None, Result, Ok, Err}
+-- What a form says that an editor gives back. Source: edquota(8), whose usage columns are shown and never set; the
+-- words that are needed, and the bounds, are this project's own.
+use Rattle.std.specs.Prelude.{ℕ, ◌+◌, Bool, true, false, ◌&&◌, is_some, if◌then◌else◌, List, [], ◌∷◌, Option, Some}
+use Rattle.std.specs.Prelude.{None, Result, Ok, Err}
 use Rattle.std.specs.Str.{bytes_eq}
 use Rattle.quota_types.specs.declared.file_kind.Kind.{Kind}
 use Rattle.input_text.specs.InputLines.{InputLines, NoLine, LineThen, LongNext, PastNext, input_lines}
@@ -41,8 +42,8 @@ all_limits (Some bsoft) (Some bhard) (Some isoft) (Some ihard) =
     Some (record { bsoft = bsoft; bhard = bhard; isoft = isoft; ihard = ihard })
 all_limits bsoft bhard isoft ihard = None
 
--- The limits in the words of the third line: the file's name, a number, the soft and the hard limit of blocks, a number,
--- and the soft and the hard limit of inodes. The two numbers tell the usage, and set nothing.
+-- The limits in the words of the third line: the file's name, a number, the soft and the hard limit of blocks, a
+-- number, and the soft and the hard limit of inodes. The two numbers tell the usage, and set nothing.
 unfoldable pub limits_in : (file : List ℕ) → List (List ℕ) → Option Limits
 limits_in file (name ∷ used ∷ bsoft ∷ bhard ∷ inodes ∷ isoft ∷ ihard ∷ []) =
     if bytes_eq name file && is_some (number_of used) && is_some (number_of inodes)

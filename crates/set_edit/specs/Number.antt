@@ -1,6 +1,7 @@
 -- Limits as words of a command. A word is its bytes. Source: the suffixes of setquota(8), which are K, M, G and T for
 -- blocks of 1 KiB, and k, m, g and t for inodes.
-use Rattle.std.specs.Prelude.{ℕ, ◌*◌, ◌^◌, Bool, if◌then◌else◌, List, [], ◌∷◌, take, drop, find, Option, Some, None, codes}
+use Rattle.std.specs.Prelude.{ℕ, ◌*◌, ◌^◌, Bool, if◌then◌else◌, List, [], ◌∷◌, take, drop, find, Option, Some, None}
+use Rattle.std.specs.Prelude.{codes}
 use Rattle.std.specs.Char.{is_ascii_digit}
 use Rattle.std.specs.List.{prefix_len}
 use Rattle.std.specs.Option.{option_map}

@@ -1,5 +1,5 @@
--- Ends of grace periods that are set by hand. Source: `setquota -T` of setquota(8), which sets the times of a user whose soft
--- limit is exceeded to a number of seconds from now, or unsets them.
+-- Ends of grace periods that are set by hand. Source: `setquota -T` of setquota(8), which sets the times of a user
+-- whose soft limit is exceeded to a number of seconds from now, or unsets them.
 use Rattle.std.specs.Prelude.{ℕ, ◌+◌, Bool, ◌&&◌, not, if◌then◌else◌, Option, unwrap_or, Result}
 use Rattle.std.specs.FinMap.{get}
 use Rattle.quota_types.specs.Range.{unfit}

@@ -10,8 +10,8 @@ use outside::Store;
 use quota_types::Rec;
 
 /// Sets the four limits of the identifier `to` to those of `from`, which are 0 where `from` has no record, and then its
-/// timers at the moment `now`, in seconds since 1970. Nothing but the limits is copied. What the format keeps of the record
-/// is put, and a null record is removed.
+/// timers at the moment `now`, in seconds since 1970. Nothing but the limits is copied. What the format keeps of the
+/// record is put, and a null record is removed.
 ///
 /// # Errors
 ///
@@ -25,12 +25,15 @@ pub fn copy_limits<S: Store, F: QuotaFile<S>>(
 ) -> Result<(), EditFault>
     requires { IsTrue (F.seen file.old).usable }
     ensures edits { Edits (copy_edit from to now)
-        (laws_of S.tells F.stands_for F.makes F.may_leave F.lacks_room F.may_refuse F.change_reads F.change_writes F.done_writes)
+        (laws_of S.tells F.stands_for F.makes F.may_leave F.lacks_room F.may_refuse F.change_reads
+        F.change_writes F.done_writes)
         (file_at (F.holds file.old store.old) (F.seen file.old) (S.seen store.old))
         (file_at (F.holds file.new store.new) (F.seen file.new) (S.seen store.new)) result }
-    // Nothing is committed, or once the files as they are told then, of which the named one stands for what the edit makes of it.
+    // Nothing is committed, or once the files as they are told then, of which the named one stands for what the edit
+    // makes of it.
     ensures commits { CommitsOnce (λ worlds. S.commits worlds store.old store.new) (StandsEdited (copy_edit from to now)
-        (F.holds file.old store.old) (F.stands_for (F.seen file.old).format) ((S.seen store.new).files (F.seen file.old).name))
+        (F.holds file.old store.old) (F.stands_for (F.seen file.old).format)
+        ((S.seen store.new).files (F.seen file.old).name))
         (S.seen store.new).files }
 {
     let source = file.get(store, from)?;

@@ -13,9 +13,9 @@ use quota_types::{Kind, Rec};
 /// How many bytes a part of the form has at most.
 const CAPACITY: usize = 128;
 
-/// Writes the form in which an editor shows the limits of an identifier, for `read_form` to read it back. The identifier
-/// has this name, or `#` and its number where it has none, and `file` is the quota file's name. It takes no memory of the
-/// heap.
+/// Writes the form in which an editor shows the limits of an identifier, for `read_form` to read it back. The
+/// identifier has this name, or `#` and its number where it has none, and `file` is the quota file's name. It takes no
+/// memory of the heap.
 ///
 /// # Errors
 ///
@@ -111,7 +111,8 @@ pub(crate) fn heading() -> &'static [u8]
 
 /// What stands between the name and the file.
 fn middle(kind: Kind, id: u32) -> ArrayVec<u8, CAPACITY>
-    ensures { result.items ≡ id_front kind ++ decimal id ++ codes "):" ++ codes "\n" ++ form_heading ++ codes "\n" ++ codes "  " }
+    ensures { result.items
+        ≡ id_front kind ++ decimal id ++ codes "):" ++ codes "\n" ++ form_heading ++ codes "\n" ++ codes "  " }
 {
     let mut text = title_end(kind, id);
     push(&mut text, b"\n");

@@ -1,10 +1,12 @@
-ghost use Rattle.std.specs.Prelude.{◌≡◌, ◌+◌, ◌-◌, ◌<◌, ◌≤◌, ◌&&◌, [], true, false, map, is_some, is_ok, IsTrue, IfOk, IfErr, OnOk, Ok, if◌then◌else◌};
+ghost use Rattle.std.specs.Prelude.{◌≡◌, ◌+◌, ◌-◌, ◌<◌, ◌≤◌, ◌&&◌, [], true, false, map, is_some, is_ok, IsTrue, IfOk};
+ghost use Rattle.std.specs.Prelude.{IfErr, OnOk, Ok, if◌then◌else◌};
 ghost use Rattle.std.specs.Str.{bytes_eq};
 ghost use Rattle.input_text.specs.LineReading.{line_then};
 ghost use Rattle.input_text.specs.Numeral.{number_of};
 ghost use Rattle.input_text.specs.Words.{words_eq, words_of};
 ghost use Rattle.set_edit.specs.Form.{form_heading, form_title};
-ghost use Rattle.set_edit.specs.FormReading.{all_limits, behind_text, form_read, if_good, limits_at, limits_in, line_at, no_more_words};
+ghost use Rattle.set_edit.specs.FormReading.{all_limits, behind_text, form_read, if_good, limits_at, limits_in};
+ghost use Rattle.set_edit.specs.FormReading.{line_at, no_more_words};
 ghost use Rattle.set_edit.specs.FormFaults.{IsFormFault, IsLinesFault, form_lines};
 ghost use Rattle.set_edit.specs.Number.{limit_of};
 ghost use Rattle.set_edit.specs.declared.form_reading.FormFault.TheVariants.{Lines as LinesFailed};
@@ -41,8 +43,8 @@ impl From<LineFault> for FormFault {
 }
 
 /// Reads the limits in a form that `print_form` wrote and that was changed since, up to the end of the source. The
-/// words of the title, of the line above the limits and the file's name have to be as they were printed; the usage may be
-/// any numbers, which set nothing; and behind the third line no word may stand. It takes no memory of the heap.
+/// words of the title, of the line above the limits and the file's name have to be as they were printed; the usage may
+/// be any numbers, which set nothing; and behind the third line no word may stand. It takes no memory of the heap.
 ///
 /// # Errors
 ///

@@ -1,10 +1,10 @@
-//! What an edit of a quota file sets: the four limits of an identifier, given or copied from another one, the ends of its
-//! grace periods, and the grace periods of the file; how numbers and limits are written as words; and the form in which
-//! the limits of an identifier are printed, changed by hand and read back.
+//! What an edit of a quota file sets: the four limits of an identifier, given or copied from another one, the ends of
+//! its grace periods, and the grace periods of the file; how numbers and limits are written as words; and the form in
+//! which the limits of an identifier are printed, changed by hand and read back.
 //!
-//! The one promise: an edit of an opened quota file, whatever its format, is the edit of its value in `specs/`; a word is
-//! read as a number or as a limit exactly where the grammar in `specs/` gives it one, and then with that value; and a form
-//! is read exactly where its lines have the words that are printed, but for the four limits.
+//! The one promise: an edit of an opened quota file, whatever its format, is the edit of its value in `specs/`; a word
+//! is read as a number or as a limit exactly where the grammar in `specs/` gives it one, and then with that value; and
+//! a form is read exactly where its lines have the words that are printed, but for the four limits.
 #![tactic(auto)]
 
 mod copying;

@@ -1,4 +1,4 @@
-ghost use Rattle.std.specs.Prelude.{◌≡◌, ◌≤◌, ◌^◌, Option, None, Some, true, IsTrue, IfOk, IfErr, IfSome, OnOk, if◌then◌else◌};
+ghost use Rattle.std.specs.Prelude.{◌≡◌, Option, None, Some, true, IsTrue, IfOk, IfErr, IfSome, OnOk, if◌then◌else◌};
 ghost use Rattle.std.specs.FinMap.{get};
 ghost use Rattle.quota_types.specs.Kept.{IsKept, kept_of};
 ghost use Rattle.quota_types.specs.Range.{unfit};
@@ -17,16 +17,16 @@ use opened_file::QuotaFile;
 use outside::Store;
 use quota_types::{Format, NoRoom, Rec, is_exceeded, kept_timed};
 
-/// Sets the ends of an identifier's grace periods. Where a soft limit is not 0 and the usage exceeds it, that timer becomes
-/// the moment `now`, in seconds since 1970, plus the seconds of the word, or 0 where the word unsets it. Otherwise that
-/// timer stays and is told as skipped. What the format keeps of the record is put; where both are skipped nothing is
-/// written.
+/// Sets the ends of an identifier's grace periods. Where a soft limit is not 0 and the usage exceeds it, that timer
+/// becomes the moment `now`, in seconds since 1970, plus the seconds of the word, or 0 where the word unsets it.
+/// Otherwise that timer stays and is told as skipped. What the format keeps of the record is put; where both are
+/// skipped nothing is written.
 ///
 /// # Errors
 ///
-/// It is refused with `NoRoom` by the first field for which the format has no room, with its value: the identifier, even
-/// where both times are skipped, or a timer for which it has no room, that for blocks before that for inodes, whose value
-/// may be a sum beyond 64 bits. Each fault of the opened file is answered as it is.
+/// It is refused with `NoRoom` by the first field for which the format has no room, with its value: the identifier,
+/// even where both times are skipped, or a timer for which it has no room, that for blocks before that for inodes,
+/// whose value may be a sum beyond 64 bits. Each fault of the opened file is answered as it is.
 pub fn set_times<S: Store, F: QuotaFile<S>>(
     file: &mut F,
     store: &mut S,
@@ -37,7 +37,8 @@ pub fn set_times<S: Store, F: QuotaFile<S>>(
 ) -> Result<Skipped, EditFault>
     requires { IsTrue (F.seen file.old).usable }
     ensures edits { Edits (times_edit id block inode now)
-        (laws_of S.tells F.stands_for F.makes F.may_leave F.lacks_room F.may_refuse F.change_reads F.change_writes F.done_writes)
+        (laws_of S.tells F.stands_for F.makes F.may_leave F.lacks_room F.may_refuse F.change_reads
+        F.change_writes F.done_writes)
         (file_at (F.holds file.old store.old) (F.seen file.old) (S.seen store.old))
         (file_at (F.holds file.new store.new) (F.seen file.new) (S.seen store.new)) result }
     ensures skipped { IfOk result (λ skipped. (value : QuotaValue) → F.holds file.old store.old value
@@ -48,9 +49,12 @@ pub fn set_times<S: Store, F: QuotaFile<S>>(
     // Whatever the store tells, nothing is written where both are told as skipped.
     ensures unwritten { IfOk result (λ skipped. IsTrue (skips_both skipped)
         → OnlyReads true (F.seen file.old).name (S.seen store.old) (S.seen store.new)) }
-    // Nothing is committed, or once the files as they are told then, of which the named one stands for what the edit makes of it.
-    ensures commits { CommitsOnce (λ worlds. S.commits worlds store.old store.new) (StandsEdited (times_edit id block inode now)
-        (F.holds file.old store.old) (F.stands_for (F.seen file.old).format) ((S.seen store.new).files (F.seen file.old).name))
+    // Nothing is committed, or once the files as they are told then, of which the named one stands for what the edit
+    // makes of it.
+    ensures commits { CommitsOnce (λ worlds. S.commits worlds store.old store.new)
+        (StandsEdited (times_edit id block inode now)
+        (F.holds file.old store.old) (F.stands_for (F.seen file.old).format)
+        ((S.seen store.new).files (F.seen file.old).name))
         (S.seen store.new).files }
 {
     let rec = found_or_zeros(file.get(store, id)?);

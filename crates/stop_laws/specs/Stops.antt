@@ -23,16 +23,18 @@ IsKept files name disk = EachImage (RecoversTo files name) disk
 abbrev pub MayHaveLeft : (first last : DiskSeen) → World → Type 0
 MayHaveLeft first last image = last.since first.moment image ⊎ last.images image
 
--- At each of these moments a recovery of what a stop leaves makes of each file of a plain name that was kept at the first one, byte for
--- byte, what it was then, or what it is in one of these worlds.
+-- At each of these moments a recovery of what a stop leaves makes of each file of a plain name that was kept at the
+-- first one, byte for byte, what it was then, or what it is in one of these worlds.
 abbrev pub LeaveOldOr : List World → World → (first last : DiskSeen) → Type 0
 LeaveOldOr worlds old first last =
     (name : List ℕ) → kind_of name ≡ Plain → IsKept old name first
     → (image : World) → MayHaveLeft first last image → RecoversTo old name image ⊎ RecoversToSome worlds name image
 
--- What stops along a run leave: at each moment each file of a plain name that was kept recovers to what it was, or to what it is among the
--- files that the steps come to behind some first part of their acts, in which no other one has changed than the command changes; and where
--- the command changes files at one moment, those are the files of one moment alone: with status 0 of the end.
+-- What stops along a run leave: at each moment each file of a plain name that was kept recovers to what it was, or to
+-- what it is among the files that the steps come to behind some first part of their acts, in which no other one has
+-- changed than the command changes; and where the command changes files at one moment, those are the files of one
+-- moment alone: with status 0 of the end.
 abbrev pub StopsLeave : CommandLine → (status : ℕ) → Outside → World → (first last : DiskSeen) → Type 0
 StopsLeave typed status old new first last =
-    CommandCommits (asked typed) typed.invocation (nat_eq status 0) old new (λ (worlds : List World). LeaveOldOr worlds old.files first last)
+    CommandCommits (asked typed) typed.invocation (nat_eq status 0) old new
+    (λ (worlds : List World). LeaveOldOr worlds old.files first last)

@@ -53,9 +53,11 @@ pub fn run_over_a_journal<D: Disk, I: Source, O: Sink, E: Sink, L: Link>(
     link: &mut L,
     now: u64,
 ) -> u8
-    ensures { IsToldAsUsed (uses_asked (command_line (texts_of words.now) now)) (tells_of D.tells I.tells O.tells E.tells L.tells)
+    ensures { IsToldAsUsed (uses_asked (command_line (texts_of words.now) now))
+        (tells_of D.tells I.tells O.tells E.tells L.tells)
         → StopsLeave (command_line (texts_of words.now) now) result
-        (outside_of (seen_of (store_seen store.old) (I.seen input.old) (O.seen out.old) (E.seen err.old) (L.seen link.old)))
+        (outside_of
+        (seen_of (store_seen store.old) (I.seen input.old) (O.seen out.old) (E.seen err.old) (L.seen link.old)))
         (store_seen store.new).files (disk_seen store.old) (disk_seen store.new) }
 {
     run(alloc, words, store, input, out, err, link, now)

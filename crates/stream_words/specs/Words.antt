@@ -1,6 +1,7 @@
--- The words of a run: PORT CONNECTIONS FORMAT, and 1 to 16 times PATH KIND FILE. Source: this project's own; each word has the form
--- and the range of the value of an option of rquotad.
-use Rattle.std.specs.Prelude.{ℕ, ◌+◌, ◌%◌, ◌==◌, Bool, false, not, ◌&&◌, nat_le, if◌then◌else◌, List, [], ◌∷◌, ◌++◌, length, Option, Some, None, Result, Ok, Err, codes}
+-- The words of a run: PORT CONNECTIONS FORMAT, and 1 to 16 times PATH KIND FILE. Source: this project's own; each word
+-- has the form and the range of the value of an option of rquotad.
+use Rattle.std.specs.Prelude.{ℕ, ◌+◌, ◌%◌, ◌==◌, Bool, false, not, ◌&&◌, nat_le, if◌then◌else◌, List, [], ◌∷◌, ◌++◌}
+use Rattle.std.specs.Prelude.{length, Option, Some, None, Result, Ok, Err, codes}
 use Rattle.std.specs.List.{list_any}
 use Rattle.std.specs.Option.{option_map}
 use Rattle.std.specs.Str.{bytes_eq}
@@ -8,7 +9,8 @@ use Rattle.quota_types.specs.Format.{is_flat}
 use Rattle.quota_types.specs.Kind.{kinds_eq}
 use Rattle.quota_types.specs.declared.file_kind.Format.{Format}
 use Rattle.quota_types.specs.declared.file_kind.Kind.TheVariants.{Project}
-use Rattle.refusals.specs.declared.cause.UsageKind.TheVariants.{BadFileName, BadValue, Excludes, Repeated, WrongOperands}
+use Rattle.refusals.specs.declared.cause.UsageKind.TheVariants.{BadFileName, BadValue, Excludes, Repeated}
+use Rattle.refusals.specs.declared.cause.UsageKind.TheVariants.{WrongOperands}
 use Rattle.option_words.specs.Fault.{fault, unless, with_value, ◌>>=◌}
 use Rattle.option_words.specs.FileName.{is_file_name}
 use Rattle.option_words.specs.Given.{exports_given, is_exported}
@@ -30,10 +32,11 @@ are_files count = nat_le 3 count && nat_le count 48 && count % 3 == 0
 
 -- the format that a word asks for; `any` asks for none
 abbrev pub asked_format : List ℕ → Option (Option Format)
-asked_format word = if bytes_eq word (codes "any") then Some None else option_map (λ format. Some format) (format_of word)
+asked_format word =
+    if bytes_eq word (codes "any") then Some None else option_map (λ format. Some format) (format_of word)
 
--- A file behind those before it, whose words begin at this one, or the first fault in them: the path has 1 to 1,024 bytes, and no file
--- before has this path and this kind; the kind is a kind, and the file is the name of one.
+-- A file behind those before it, whose words begin at this one, or the first fault in them: the path has 1 to 1,024
+-- bytes, and no file before has this path and this kind; the kind is a kind, and the file is the name of one.
 abbrev pub export_of : (word : ℕ) → (before : List ExportOption) → (path kind file : List ℕ) → Result ExportOption Fault
 export_of word before path kind file =
     unless (not (is_export_path path)) (fault BadValue word)
@@ -57,9 +60,10 @@ abbrev pub are_flat_projects : Option Format → List ExportOption → Bool
 are_flat_projects None exports = false
 are_flat_projects (Some format) exports = is_flat format && list_any is_of_projects exports
 
--- What words of the right number, `count`, ask for, or the first fault in them: each from left to right, and then flat files of
--- projects.
-abbrev pub run_of : (count : ℕ) → (port connections format : List ℕ) → (files : List (List ℕ)) → Result StreamAsked Fault
+-- What words of the right number, `count`, ask for, or the first fault in them: each from left to right, and then flat
+-- files of projects.
+abbrev pub run_of : (count : ℕ) → (port connections format : List ℕ) → (files : List (List ℕ))
+    → Result StreamAsked Fault
 run_of count port connections format files =
     with_value (number_within 0 65535 port) (fault BadValue 0) (λ port.
     with_value (number_within 1 4294967295 connections) (fault BadValue 1) (λ connections.

@@ -1,10 +1,11 @@
-ghost use Rattle.std.specs.Prelude.{◌≡◌, ◌≤◌, ◌+◌, ◌*◌, ◌%◌, ◌<◌, ◌^◌, [], length, MatchResult, IfOk, Ok, Err};
+ghost use Rattle.std.specs.Prelude.{◌≡◌, ◌≤◌, ◌+◌, ◌%◌, ◌<◌, ◌^◌, [], length, MatchResult, Ok, Err};
 ghost use Rattle.std.specs.List.{list_any};
 ghost use Rattle.option_words.specs.Fault.{fault, with_value};
 ghost use Rattle.option_words.specs.Given.{export_given, exports_given, is_exported, kind_word};
 ghost use Rattle.option_words.specs.Items.{texts_of};
 ghost use Rattle.refusals.specs.declared.cause.UsageKind.TheVariants.{BadValue, WrongOperands};
-ghost use Rattle.stream_words.specs.Words.{are_files, are_flat_projects, asked_format, asked_of, export_of, exports_of, is_of_projects, run_of, stream_asked};
+ghost use Rattle.stream_words.specs.Words.{are_files, are_flat_projects, asked_format, asked_of, export_of, exports_of};
+ghost use Rattle.stream_words.specs.Words.{is_of_projects, run_of, stream_asked};
 
 use arrayvec::ArrayVec;
 use option_words::{
@@ -40,8 +41,8 @@ pub struct StreamWords<'a> {
 ///
 /// # Errors
 ///
-/// The number of words is another one; or the first word that is not of its form or range, or the first path of a pair of
-/// path and kind that stood before; or flat files of projects are asked for.
+/// The number of words is another one; or the first word that is not of its form or range, or the first path of a pair
+/// of path and kind that stood before; or flat files of projects are asked for.
 pub fn read_words(words: &[String]) -> Result<StreamWords<'_>, Fault>
     ensures { MatchResult result (λ read. asked_of (texts_of words.now) ≡ Ok (stream_asked read))
         (λ met. asked_of (texts_of words.now) ≡ Err met) }

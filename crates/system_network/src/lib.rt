@@ -1,7 +1,7 @@
 //! The network as the system has it: connections over TCP, and a peer over UDP, both on 127.0.0.1 alone.
 //!
-//! They tell nothing of what comes and goes, but whether a connection is open; they count their faults, and note the last
-//! one.
+//! They tell nothing of what comes and goes, but whether a connection is open; they count their faults, and note the
+//! last one.
 #![tactic(auto)]
 
 mod open_connection;

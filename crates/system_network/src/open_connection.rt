@@ -49,8 +49,8 @@ impl<S: Read + Write + OpenStream + Drop> OpenConnection<S> {
         Ok(())
     }
 
-    /// Takes the bytes that come next, as many as come at once, and answers how many; 0 at the end. Each turn but the last one
-    /// is an interruption.
+    /// Takes the bytes that come next, as many as come at once, and answers how many; 0 at the end. Each turn but the
+    /// last one is an interruption.
     pub fn read(&mut self, clock: &impl Clock, buf: &mut [u8]) -> io::Result<usize>
         ensures { IfOk result (λ count. count ≤ length buf.new) }
     {
@@ -65,8 +65,8 @@ impl<S: Read + Write + OpenStream + Drop> OpenConnection<S> {
         Err(io::Error::from(ErrorKind::TimedOut))
     }
 
-    /// Writes all the bytes, in as many calls of the system as it takes. Each turn but the last one writes something or is an
-    /// interruption, so the bound on the turns is never met.
+    /// Writes all the bytes, in as many calls of the system as it takes. Each turn but the last one writes something or
+    /// is an interruption, so the bound on the turns is never met.
     pub fn write(&mut self, clock: &impl Clock, bytes: &[u8]) -> io::Result<()> {
         let mut rest = bytes;
         for _ in 0..u64::MAX {

@@ -19,8 +19,8 @@ struct Bound<L> {
 
 /// Connections to a TCP socket on 127.0.0.1. They tell nothing of what comes and goes, but whether one is open.
 ///
-/// A read fails for which nothing comes for 30 seconds, and a write of which nothing goes in 30 seconds of waiting, and so
-/// does each one 300 seconds after the connection was accepted. A connection that ended before that is passed over.
+/// A read fails for which nothing comes for 30 seconds, and a write of which nothing goes in 30 seconds of waiting, and
+/// so does each one 300 seconds after the connection was accepted. A connection that ended before that is passed over.
 #[derive(Drop)]
 pub struct TcpConns<'a, R: Net> {
     system: &'a R,
@@ -79,8 +79,8 @@ impl<'a, R: Net + Clock + Eprint> TcpConns<'a, R> {
         Ok(Bound { listener, port })
     }
 
-    /// Waits for a connection, and answers it with the moment. One that a signal interrupts, or that has ended already, is
-    /// waited for again. Each turn but the last one is such a one, so the bound on the turns is never met.
+    /// Waits for a connection, and answers it with the moment. One that a signal interrupts, or that has ended already,
+    /// is waited for again. Each turn but the last one is such a one, so the bound on the turns is never met.
     fn next(&self) -> io::Result<(OpenConnection<R::Stream>, u64)> {
         let Some(bound) = &self.bound else {
             return Err(io::Error::from(ErrorKind::NotConnected));
@@ -149,8 +149,8 @@ impl<'a, R: Net + Clock + Eprint> TcpConns<'a, R> {
     }
 }
 
-/// Whether an error of `accept` says that a signal interrupted it, or that the connection has ended already, so that the
-/// next one may come. Source: accept(2).
+/// Whether an error of `accept` says that a signal interrupted it, or that the connection has ended already, so that
+/// the next one may come. Source: accept(2).
 fn is_passing(error: &io::Error) -> bool {
     let kind = error.kind();
     kind == ErrorKind::Interrupted || kind == ErrorKind::ConnectionAborted
@@ -164,7 +164,14 @@ impl<'a, R: Net + Clock + Eprint> Conns for TcpConns<'a, R> {
 
     ghost is_open = { λ conns. is_some conns.current };
 
-    ghost seen = { λ conns. record { left = []; current = None; closed = []; listened = record { times = 0; last = None }; listener_faults = conns.listener_faults; connection_faults = conns.connection_faults } };
+    ghost seen = { λ conns. record {
+      left = [];
+      current = None;
+      closed = [];
+      listened = record { times = 0; last = None };
+      listener_faults = conns.listener_faults;
+      connection_faults = conns.connection_faults;
+    } };
 
     ghost told_open = { λ _ told. absurd (false≢true told) };
 

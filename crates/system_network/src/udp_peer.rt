@@ -67,9 +67,9 @@ impl<'a, R: Net + Clock> UdpPeer<'a, R> {
         Ok(())
     }
 
-    /// Waits for a datagram of the server, and answers how many of its bytes there are, or `None` where none came. Those of
-    /// others are passed over. Each turn but the last one is one of those, or an interruption, so the bound on the turns is
-    /// never met.
+    /// Waits for a datagram of the server, and answers how many of its bytes there are, or `None` where none came.
+    /// Those of others are passed over. Each turn but the last one is one of those, or an interruption, so the bound on
+    /// the turns is never met.
     fn take(&self, buf: &mut [u8; 4096]) -> io::Result<Option<usize>>
         ensures { IfOk result (λ got. IfSome got (λ len. len ≤ 4096)) }
     {
@@ -114,8 +114,8 @@ impl Asking {
         Ok(Asking { socket, server })
     }
 
-    /// Waits so long for one datagram, which is not 0, and answers how many of its bytes there are where it is the server's.
-    /// It answers `None` too where nothing came, or where a signal interrupts.
+    /// Waits so long for one datagram, which is not 0, and answers how many of its bytes there are where it is the
+    /// server's. It answers `None` too where nothing came, or where a signal interrupts.
     fn take_within(&self, time: Duration, buf: &mut [u8; 4096]) -> io::Result<Option<usize>>
         ensures { IfOk result (λ got. IfSome got (λ len. len ≤ 4096)) }
     {
@@ -140,7 +140,12 @@ impl<'a, R: Net + Clock> Peer for UdpPeer<'a, R> {
 
     ghost tells = { false };
 
-    ghost seen = { λ peer. record { left = []; sent = []; started = record { times = 0; last = None }; faults = peer.faults } };
+    ghost seen = { λ peer. record {
+      left = [];
+      sent = [];
+      started = record { times = 0; last = None };
+      faults = peer.faults;
+    } };
 
     fn start(&mut self, port: u16) -> Result<(), PeerFault> {
         let asking = Asking::new(self.system, port);

@@ -13,14 +13,22 @@ untold_stays failed later less = record {
   counted = less;
 }
 
-pub untold_tears : (name : List ℕ) (at len failed later : ℕ) → failed ≤ later → TakesStep (TearsRange name at len) (untold failed) (untold later)
-untold_tears name at len failed later less = tears_nothing name at len (untold failed) (untold later) (untold_stays failed later less)
+pub untold_tears : (name : List ℕ) (at len failed later : ℕ) → failed ≤ later
+    → TakesStep (TearsRange name at len) (untold failed) (untold later)
+untold_tears name at len failed later less =
+    tears_nothing name at len (untold failed) (untold later) (untold_stays failed later less)
 
-pub untold_cuts : (name : List ℕ) (len failed later : ℕ) → failed ≤ later → TakesStep (CutsShort name len) (untold failed) (untold later)
-untold_cuts name len failed later less = cuts_nothing name len (untold failed) (untold later) (untold_stays failed later less)
+pub untold_cuts : (name : List ℕ) (len failed later : ℕ) → failed ≤ later
+    → TakesStep (CutsShort name len) (untold failed) (untold later)
+untold_cuts name len failed later less =
+    cuts_nothing name len (untold failed) (untold later) (untold_stays failed later less)
 
-pub untold_shortens : (name : List ℕ) (len failed later : ℕ) → failed ≤ later → TakesStep (Shortens name len) (untold failed) (untold later)
-untold_shortens name len failed later less = shortens_nothing name len (untold failed) (untold later) (untold_stays failed later less)
+pub untold_shortens : (name : List ℕ) (len failed later : ℕ) → failed ≤ later
+    → TakesStep (Shortens name len) (untold failed) (untold later)
+untold_shortens name len failed later less =
+    shortens_nothing name len (untold failed) (untold later) (untold_stays failed later less)
 
-pub untold_renames : (from to : List ℕ) (failed later : ℕ) → failed ≤ later → TakesStep (MayBeRenamed from to) (untold failed) (untold later)
-untold_renames from to failed later less = renames_nothing from to (untold failed) (untold later) (untold_stays failed later less)
+pub untold_renames : (from to : List ℕ) (failed later : ℕ) → failed ≤ later
+    → TakesStep (MayBeRenamed from to) (untold failed) (untold later)
+untold_renames from to failed later less =
+    renames_nothing from to (untold failed) (untold later) (untold_stays failed later less)

@@ -2,14 +2,16 @@ ghost use Rattle.std.specs.Prelude.{◌≡◌, ◌≤◌, length, Ok, IfOk, OnEr
 ghost use Rattle.outside.specs.Count.{Rose};
 
 use crate::last_read::LastRead;
-use crate::open_files::{FailedAt, OpenFiles};
-use crate::sharing::Sharing;
+use crate::open_files::OpenFiles;
 use disk::{Disk, DiskFault};
-use run_notes::Teller;
+use file_locks::failed::FailedAt;
+use file_locks::sharing::Sharing;
+use run_notes::{ReadCount, Teller};
 use std::alloc::{AllocError, Global};
 use std::fs::{File, Files};
 use std::io;
 use std::io::Eprint;
+use std::time::Clock;
 use undo_trust::gates::Gate;
 use undo_trust::trust::Distrust;
 use undo_trust::undo::{UNDO, plain_name, shown_undo, undone_file};
@@ -17,7 +19,8 @@ use undo_trust::undo::{UNDO, plain_name, shown_undo, undone_file};
 /// A call on a disk that the system refused.
 #[derive(Drop)]
 pub struct DiskFailure {
-    /// The name of the file at which it failed: that by which it was made, of a rename the new one, or one of a file beside it.
+    /// The name of the file at which it failed: that by which it was made, of a rename the new one, or one of a file
+    /// beside it.
     pub name: String,
     /// Why it was refused.
     pub error: io::Error,
@@ -25,8 +28,8 @@ pub struct DiskFailure {
     pub distrust: Option<Distrust>,
 }
 
-/// The name of the file at which a call by a name failed: of an undo file, which may stand beside the file behind a link, the
-/// place.
+/// The name of the file at which a call by a name failed: of an undo file, which may stand beside the file behind a
+/// link, the place.
 fn failed_name<R: Files<File = File>>(
     alloc: Global,
     files: &R,
@@ -43,34 +46,35 @@ fn failed_name<R: Files<File = File>>(
 
 /// The files of the system as a disk, by paths that count from the current folder. It tells nothing of them.
 ///
-/// The two files that were used last stay open. Reads of one that go on where others came to are from eight windows of 65,536
-/// bytes, those of other places from eight blocks of 1,024 bytes, and bytes that are to be written side by side are gathered
-/// up to the number of a window, so that all make few calls of the system. Where a file of at most 8,388,608 bytes is read in
-/// no order, each window of it that is read is kept. What was read is forgotten where the file is written or cut, where it is
-/// closed, and where a call on it fails. What was gathered is written before the file is read, cut, synced or closed, before its
-/// length is asked for, and before any file is made or renamed; where that fails, the call at hand is the one that failed.
+/// The two files that were used last stay open. Reads of one that go on where others came to are from eight windows of
+/// 65,536 bytes, those of other places from eight blocks of 1,024 bytes, and bytes that are to be written side by side
+/// are gathered up to the number of a window, so that all make few calls of the system. Where a file of at most
+/// 8,388,608 bytes is read in no order, each window of it that is read is kept. What was read is forgotten where the
+/// file is written or cut, where it is closed, and where a call on it fails. What was gathered is written before the
+/// file is read, cut, synced or closed, before its length is asked for, and before any file is made or renamed; where
+/// that fails, the call at hand is the one that failed.
 ///
-/// A file that was there when its name was used first is never made by a write to it: where it is gone, the write fails. A
-/// file that is made under a name with `.new` behind that of a link stands beside the file behind the link, and takes its
-/// place there.
+/// A file that was there when its name was used first is never made by a write to it: where it is gone, the write
+/// fails. A file that is made under a name with `.new` behind that of a link stands beside the file behind the link,
+/// and takes its place there.
 ///
-/// A name that ends in `.undo` or `.und` is that of an undo file of the file whose name stands before, where that has one
-/// (`undo_beside`); else nothing stands there. It stands beside the file behind a link, too, is never locked itself, and is
-/// changed only where the lock that its file is due is held, and the file may be written to. It is made with the owner, the
-/// group and the permissions of its file, and follows them when it is changed, as a file in `.new` has those of the one that
-/// it is to replace.
+/// A name that ends in `.undo` or `.und` is that of an undo file of the file whose name stands before, where that has
+/// one (`undo_beside`); else nothing stands there. It stands beside the file behind a link, too, is never locked
+/// itself, and is changed only where the lock that its file is due is held, and the file may be written to. It is made
+/// with the owner, the group and the permissions of its file, and follows them when it is changed, as a file in `.new`
+/// has those of the one that it is to replace.
 ///
 /// What was made in `.new` or `.und` and not renamed stays until `clear_made` takes it away.
 ///
-/// Another account may have made what stands under such a name. So it is looked at before it is opened and behind that, no
-/// link is followed, and what is made is made where nothing stands. An undo file counts where it is a regular file of one
-/// name, belongs to the owner of its file, to root or to the caller, and is writable for nobody who may not write its file.
-/// Another one with a closed gate counts for nothing, and one with an open gate is a fault. So is an open gate where the file
-/// was changed by something else since it was opened, as far as the times of both files tell.
+/// Another account may have made what stands under such a name. So it is looked at before it is opened and behind that,
+/// no link is followed, and what is made is made where nothing stands. An undo file counts where it is a regular file
+/// of one name, belongs to the owner of its file, to root or to the caller, and is writable for nobody who may not
+/// write its file. Another one with a closed gate counts for nothing, and one with an open gate is a fault. So is an
+/// open gate where the file was changed by something else since it was opened, as far as the times of both files tell.
 ///
-/// To sync a file is fdatasync(2) of it, of an undo file fsync(2), unless this object did that and did not change the file
-/// since, and where its name was made by this object since then fsync(2) of its folder, too; a rename ends with fsync(2) of the
-/// folder. A name that was there before is taken for one that a stop leaves.
+/// To sync a file is fdatasync(2) of it, of an undo file fsync(2), unless this object did that and did not change the
+/// file since, and where its name was made by this object since then fsync(2) of its folder, too; a rename ends with
+/// fsync(2) of the folder. A name that was there before is taken for one that a stop leaves.
 #[derive(Drop)]
 pub struct FileDisk<'a, R> {
     open: OpenFiles<'a, R>,
@@ -78,6 +82,9 @@ pub struct FileDisk<'a, R> {
     failure: Option<DiskFailure>,
     /// What was read last, where that is kept.
     last: Option<LastRead>,
+    /// The file that is read, and how much of it was.
+    read_name: String,
+    reads: ReadCount,
 }
 
 impl<'a, R: Files<File = File> + Eprint> FileDisk<'a, R> {
@@ -90,6 +97,8 @@ impl<'a, R: Files<File = File> + Eprint> FileDisk<'a, R> {
             faults: 0,
             failure: None,
             last: None,
+            read_name: String::new(alloc),
+            reads: ReadCount::new(),
         }
     }
 
@@ -103,7 +112,7 @@ impl<'a, R: Files<File = File> + Eprint> FileDisk<'a, R> {
         self.open.gates.as_slice()
     }
 
-    /// Says where a lock is waited for.
+    /// Says where a lock is waited for, and how much of a file was read where that takes long.
     pub fn tell(&mut self, teller: Teller<'a>)
         ensures faults { self.new.faults ≡ self.old.faults }
     {
@@ -133,8 +142,8 @@ impl<'a, R: Files<File = File> + Eprint> FileDisk<'a, R> {
         }
     }
 
-    /// Takes away what was made in `.new` and `.und` and was not renamed, where its name still stands for what was made. It is
-    /// called at the end of a run, while the locks are still held.
+    /// Takes away what was made in `.new` and `.und` and was not renamed, where its name still stands for what was
+    /// made. It is called at the end of a run, while the locks are still held.
     pub fn clear_made(&mut self)
         ensures faults { self.new.faults ≡ self.old.faults }
     {
@@ -146,8 +155,8 @@ impl<'a, R: Files<File = File> + Eprint> FileDisk<'a, R> {
         self.open.left_beside(name).unwrap_or(None)
     }
 
-    /// Says that a file has an undo file. From the first one on only those have one of which it was said, and what stands
-    /// beside any other file is not looked at.
+    /// Says that a file has an undo file. From the first one on only those have one of which it was said, and what
+    /// stands beside any other file is not looked at.
     ///
     /// # Errors
     ///
@@ -201,7 +210,38 @@ impl<'a, R: Files<File = File> + Eprint> FileDisk<'a, R> {
     }
 }
 
-impl<'a, R: Files<File = File> + Eprint> Disk for FileDisk<'a, R> {
+impl<'a, R: Files<File = File> + Eprint + Clock> FileDisk<'a, R> {
+    /// Counts what was read of a file, and answers whether the clock is to be looked at.
+    fn count_read(&mut self, name: &str, count: usize) -> bool
+        ensures faults { self.new.faults ≡ self.old.faults }
+    {
+        if self.read_name.as_str() != name {
+            self.reads = ReadCount::new();
+            self.read_name.clear();
+            if self.read_name.push_str(name).is_err() {
+                return false;
+            }
+        }
+        self.reads.add(count)
+    }
+
+    /// Says how much of a file was read, where somebody is told and it is due. A file that is kept is not read any
+    /// more.
+    fn tell_read(&mut self, name: &str, count: usize)
+        ensures faults { self.new.faults ≡ self.old.faults }
+    {
+        let teller = self.open.teller;
+        if !teller.has_line() || self.open.is_keeping() {
+            return;
+        }
+        if self.count_read(name, count) && teller.is_due(self.open.files) {
+            let len = self.open.length_now(name);
+            teller.show_read(self.open.files, self.reads.bytes(), name, len);
+        }
+    }
+}
+
+impl<'a, R: Files<File = File> + Eprint + Clock> Disk for FileDisk<'a, R> {
     ghost use Rattle.std.specs.Prelude.{false};
     ghost use Rattle.std.proofs.lemmas.Bool.{false≢true};
     ghost use Rattle.system_objects.specs.Untold.{untold};
@@ -225,6 +265,7 @@ impl<'a, R: Files<File = File> + Eprint> Disk for FileDisk<'a, R> {
         let count = self.open.read(name, at, buf);
         if let Ok(count) = count {
             self.note_read(name, at, &buf[..count]);
+            self.tell_read(name, count);
         }
         self.counting(name, count)
     }

@@ -1,8 +1,9 @@
 //! How a file is found, locked and opened.
 
-use crate::locks::{LockedFile, lock_made, lock_to_read, lock_unchanged, lock_waiting};
-use crate::open_files::{FailedAt, OpenFiles, Shared};
-use crate::sharing::Lock;
+use crate::open_files::{OpenFiles, Shared};
+use file_locks::failed::FailedAt;
+use file_locks::locks::{LockedFile, lock_made, lock_to_read, lock_unchanged, lock_waiting};
+use file_locks::sharing::Lock;
 use file_names::names::{
     NEW, behind_link, changed_meanwhile, is_itself, itself_at, make_absent, open_file, replaced_at,
     stamp_at,
@@ -16,8 +17,8 @@ use undo_trust::beside::{Beside, open_beside};
 use undo_trust::undo::{is_to_recover, undo_path, undone_file};
 
 impl<'a, R: Files<File = File> + Eprint> OpenFiles<'a, R> {
-    /// Opens a file where none that is open serves, and answers whether one is open then. It stands apart, so that a use of
-    /// an open one does not carry it along.
+    /// Opens a file where none that is open serves, and answers whether one is open then. It stands apart, so that a
+    /// use of an open one does not carry it along.
     #[inline(never)]
     pub fn open_other(&mut self, name: &str, access: Access) -> io::Result<bool> {
         let path = self.path_of(name)?;
@@ -35,8 +36,8 @@ impl<'a, R: Files<File = File> + Eprint> OpenFiles<'a, R> {
         Ok(true)
     }
 
-    /// A file that is no undo file, which is opened or held, and is locked before where that is due; none where it is not
-    /// there and is to be read.
+    /// A file that is no undo file, which is opened or held, and is locked before where that is due; none where it is
+    /// not there and is to be read.
     fn find_plain(&mut self, path: &str, access: Access) -> io::Result<Option<(File, Access)>> {
         let found = stamp_at(self.files, path)?;
         let found = self.lock_to_recover(path, found)?;
@@ -54,8 +55,8 @@ impl<'a, R: Files<File = File> + Eprint> OpenFiles<'a, R> {
         }
     }
 
-    /// A file that is to replace another one, which is opened or held; none where it is not there and is to be read. No link is
-    /// followed.
+    /// A file that is to replace another one, which is opened or held; none where it is not there and is to be read. No
+    /// link is followed.
     fn find_new(&mut self, path: &str, access: Access) -> io::Result<Option<(File, Access)>> {
         let Some(seen) = itself_at(self.files, path)? else {
             return self.find_absent(path, access);
@@ -70,8 +71,8 @@ impl<'a, R: Files<File = File> + Eprint> OpenFiles<'a, R> {
         }
     }
 
-    /// Locks a file alone at the first look at it, where it has to be recovered and files are shared. That waits for those who
-    /// have it, unless a file is locked already.
+    /// Locks a file alone at the first look at it, where it has to be recovered and files are shared. That waits for
+    /// those who have it, unless a file is locked already.
     fn lock_to_recover(&mut self, path: &str, found: Option<Stamp>) -> io::Result<Option<Stamp>> {
         let Some(stamp) = found else {
             return Ok(None);
@@ -102,8 +103,8 @@ impl<'a, R: Files<File = File> + Eprint> OpenFiles<'a, R> {
             && !self.held.has(node)
     }
 
-    /// The file that a name stands for, which is opened for it or held, and is locked before where that is due; none where it
-    /// is not there and is to be read.
+    /// The file that a name stands for, which is opened for it or held, and is locked before where that is due; none
+    /// where it is not there and is to be read.
     fn find(
         &mut self,
         path: &str,
@@ -127,8 +128,8 @@ impl<'a, R: Files<File = File> + Eprint> OpenFiles<'a, R> {
         }
     }
 
-    /// What stands in place of a file that is not there: none where it is to be read, and one that is made where it is to be
-    /// written to, unless there was one at the first look.
+    /// What stands in place of a file that is not there: none where it is to be read, and one that is made where it is
+    /// to be written to, unless there was one at the first look.
     fn find_absent(&mut self, path: &str, access: Access) -> io::Result<Option<(File, Access)>> {
         if access == Access::Reading {
             return Ok(None);
@@ -155,8 +156,8 @@ impl<'a, R: Files<File = File> + Eprint> OpenFiles<'a, R> {
         }
     }
 
-    /// Locks the file that is to be locked, unless that was done: then its name stands for another file by now, which is an
-    /// error, but where files are kept. None is locked where it is not there.
+    /// Locks the file that is to be locked, unless that was done: then its name stands for another file by now, which
+    /// is an error, but where files are kept. None is locked where it is not there.
     fn lock(&mut self, path: &str, found: Option<Stamp>, lock: Lock) -> io::Result<Option<Node>> {
         if self.is_locked {
             return Err(changed_meanwhile());
@@ -240,8 +241,8 @@ impl<'a, R: Files<File = File> + Eprint> OpenFiles<'a, R> {
         }
     }
 
-    /// Where the file of a name is: one that was made may be behind a link, as an undo file may be, and as one may be that is
-    /// to replace a file that was looked at.
+    /// Where the file of a name is: one that was made may be behind a link, as an undo file may be, and as one may be
+    /// that is to replace a file that was looked at.
     pub fn path_of(&self, name: &str) -> io::Result<String> {
         if let Some((file, ending)) = undone_file(name) {
             return undo_path(self.alloc, self.files, file, ending);
@@ -274,7 +275,8 @@ impl<'a, R: Files<File = File> + Eprint> OpenFiles<'a, R> {
         self.path_of_new(replaced)
     }
 
-    /// Where a file that is renamed goes. Where it was made and another program took its name meanwhile, that is an error.
+    /// Where a file that is renamed goes. Where it was made and another program took its name meanwhile, that is an
+    /// error.
     pub fn path_to_replace(&mut self, from: &str, to: &str, source: &str) -> io::Result<String> {
         if let Some(made) = &self.made {
             if made.name.as_str() == from {

@@ -17,8 +17,8 @@ fn is_named(file: &Option<ReadFile>, name: &str) -> bool {
     }
 }
 
-/// What was read last of the two files that were read last: one that a line was refused of, and one that was changed by the
-/// lines before it.
+/// What was read last of the two files that were read last: one that a line was refused of, and one that was changed by
+/// the lines before it.
 #[derive(Drop)]
 pub(crate) struct LastRead {
     alloc: Global,
@@ -36,8 +36,8 @@ impl LastRead {
         }
     }
 
-    /// Takes what was read of a file at a place. What does not go on where the last read of the file ended is not kept, unless it
-    /// is the beginning of the file.
+    /// Takes what was read of a file at a place. What does not go on where the last read of the file ended is not kept,
+    /// unless it is the beginning of the file.
     pub fn push(&mut self, name: &str, at: u64, bytes: &[u8]) {
         if is_named(&self.other, name) {
             mem::swap(&mut self.last, &mut self.other);

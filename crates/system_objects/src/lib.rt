@@ -5,12 +5,9 @@
 
 mod file_disk;
 mod finding;
-mod held;
 mod last_read;
-mod locks;
+mod new_files;
 mod open_files;
-mod sharing;
 mod undo_files;
 
 pub use file_disk::{DiskFailure, FileDisk};
-pub use sharing::{Lock, Sharing};

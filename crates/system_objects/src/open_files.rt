@@ -1,12 +1,10 @@
 ghost use Rattle.std.specs.Prelude.{◌≡◌, ◌≤◌, length, IfOk};
 
-use crate::held::HeldFiles;
-use crate::locks::lock_made;
-use crate::sharing::{Lock, Sharing};
+use file_locks::failed::FailedAt;
+use file_locks::held::HeldFiles;
+use file_locks::sharing::{Lock, Sharing};
 use file_names::looks::FirstLooks;
-use file_names::names::{
-    NEW, is_itself, itself_at, lock_at_once, make_anew, metadata_at, rename_present, sync_folder,
-};
+use file_names::names::sync_folder;
 use file_names::new_names::NewNames;
 use file_names::slots::{Slot, Slots};
 use file_names::stamp::{Node, Stamp};
@@ -14,14 +12,12 @@ use file_names::synced::SyncedFiles;
 use file_windows::{Access, Opened, Waiting, WholeFiles};
 use run_notes::Teller;
 use std::alloc::{AllocError, Global};
-use std::fs::{File, Files, Metadata};
+use std::fs::{File, Files};
+use std::io;
 use std::io::{Eprint, ErrorKind};
-use std::{fs, io};
-use undo_trust::beside::{Beside, open_beside, refuse_locked};
 use undo_trust::gates::Gates;
-use undo_trust::owner::give_owner;
 use undo_trust::trust::Distrust;
-use undo_trust::undo::{UND, is_to_recover, plain_name, shown_undo, undo_path, undone_file};
+use undo_trust::undo::{is_to_recover, undone_file};
 use undo_trust::undone::Undone;
 
 /// A file that was made, by the name that it was made under, and where that is. They differ behind a link.
@@ -37,17 +33,6 @@ pub(crate) struct Made {
 pub(crate) struct Wanted {
     pub name: String,
     pub lock: Lock,
-}
-
-/// At which file a call failed, seen from the name that it was made by.
-#[derive(Clone, Copy)]
-pub(crate) enum FailedAt {
-    /// At the file of that name.
-    Name,
-    /// At the file of a plain name, beside which the one of that name stands.
-    Plain,
-    /// At the undo file.
-    Undo,
 }
 
 /// How the files are shared.
@@ -144,6 +129,14 @@ impl<'a, R: Files<File = File> + Eprint> OpenFiles<'a, R> {
         Ok(Some(self.closing(length)?))
     }
 
+    /// The length of a file as it is now, where it is open.
+    pub fn length_now(&self, name: &str) -> Option<u64> {
+        match self.slots.metadata(name) {
+            Ok(Some(metadata)) => Some(metadata.len()),
+            _ => None,
+        }
+    }
+
     /// Reads from a place of a file on; a file that is not there has no bytes.
     pub fn read(&mut self, name: &str, at: u64, buf: &mut [u8]) -> io::Result<usize>
         ensures fits { IfOk result (λ count. count ≤ length buf.new) }
@@ -190,8 +183,8 @@ impl<'a, R: Files<File = File> + Eprint> OpenFiles<'a, R> {
         Ok(())
     }
 
-    /// Shortens a file to this many bytes. One that is not longer stays, and one that is not there is not made. Where that
-    /// begins to mend it, its undo file is stamped before.
+    /// Shortens a file to this many bytes. One that is not longer stays, and one that is not there is not made. Where
+    /// that begins to mend it, its undo file is stamped before.
     pub fn cut(&mut self, name: &str, len: u64) -> io::Result<()> {
         if self.gates.is_unmended(name) {
             self.stamp_undo(name)?;
@@ -211,7 +204,8 @@ impl<'a, R: Files<File = File> + Eprint> OpenFiles<'a, R> {
         self.closing(done)
     }
 
-    /// Waits until a file's bytes are on the disk, and its name where that is new. A file that is not there has no bytes.
+    /// Waits until a file's bytes are on the disk, and its name where that is new. A file that is not there has no
+    /// bytes.
     pub fn sync(&mut self, name: &str) -> io::Result<()> {
         if self.is_keeping() && self.has_kept(name) {
             return Ok(());
@@ -226,8 +220,8 @@ impl<'a, R: Files<File = File> + Eprint> OpenFiles<'a, R> {
         self.sync_names(path.as_str())
     }
 
-    /// Waits until the bytes of the file that was used last are on the disk, of an undo file its times, too, unless that was
-    /// done and it was not changed since.
+    /// Waits until the bytes of the file that was used last are on the disk, of an undo file its times, too, unless
+    /// that was done and it was not changed since.
     pub fn sync_last(&mut self) -> io::Result<()> {
         let Some(file) = self.slots.last() else {
             return Ok(());
@@ -244,9 +238,9 @@ impl<'a, R: Files<File = File> + Eprint> OpenFiles<'a, R> {
         Ok(())
     }
 
-    /// Waits until the names in a file's folder are on the disk, where the file's own was given or taken away since that was
-    /// done last.
-    fn sync_names(&mut self, path: &str) -> io::Result<()> {
+    /// Waits until the names in a file's folder are on the disk, where the file's own was given or taken away since
+    /// that was done last.
+    pub fn sync_names(&mut self, path: &str) -> io::Result<()> {
         if self.new_names.has(path) {
             sync_folder(self.files, path)?;
             self.new_names.forget_beside(path);
@@ -254,139 +248,9 @@ impl<'a, R: Files<File = File> + Eprint> OpenFiles<'a, R> {
         Ok(())
     }
 
-    /// Makes an empty file and locks it, but for undo files. One whose name ends in `.new` is made beside the file that it is
-    /// to replace, which is locked before, and which may stand behind a link; it gets the owner, the group and the permissions
-    /// of that.
-    pub fn make(&mut self, name: &str) -> io::Result<()> {
-        self.slots.close_all()?;
-        self.synced.clear();
-        if let Some((file, _)) = undone_file(name) {
-            return self.make_undo(name, file);
-        }
-        let path = self.path_to_make(name)?;
-        self.refuse_taken(path.as_str())?;
-        let replaced = self.before_replaced(name, path.as_str())?;
-        self.new_names.note(path.as_str())?;
-        let file = make_anew(self.files, path.as_str())?;
-        let node = Node::of(&file.metadata()?);
-        self.made = Some(Made {
-            name: String::from_str(self.alloc, name)?,
-            path,
-            node,
-        });
-        if let Some(replaced) = &replaced {
-            give_owner(&file, replaced);
-        }
-        self.held.add(lock_made(file, Access::Making)?)?;
-        if let Some((file, access)) = self.held.again(node, Access::Reading)? {
-            self.put(name, file, access, node, false)?;
-        }
-        Ok(())
-    }
-
-    /// Takes away what was made to replace a file, or to be its undo file, and was not renamed, where its name still stands for
-    /// it: it is of no use to anybody. What was made is locked, and so is the file of an undo file.
-    pub fn clear_made(&mut self) {
-        if let Some(made) = self.made.take() {
-            if made.path.as_str().ends_with(NEW) {
-                self.clear(&made);
-            }
-        }
-        if let Some(made) = self.made_undo.take() {
-            if made.path.as_str().ends_with(UND) {
-                self.clear(&made);
-            }
-        }
-    }
-
-    /// Takes away the name of a file that was made, where it still stands for that. Where it can't be taken away it stays.
-    fn clear(&self, made: &Made) {
-        if let Ok(true) = is_itself(self.files, made.path.as_str(), made.node) {
-            let _ = fs::remove_file(self.files, made.path.as_str());
-        }
-    }
-
-    /// What a run that was stopped left beside a file, as it may be shown: what was to replace it, or a new undo file. None where
-    /// there is none, or another program has it in use.
-    pub fn left_beside(&self, name: &str) -> io::Result<Option<String>> {
-        let file = plain_name(name);
-        for ending in [NEW, UND] {
-            let path = undo_path(self.alloc, self.files, file, ending)?;
-            if let Beside::Opened(left) = open_beside(self.files, path.as_str(), Access::Reading)? {
-                lock_at_once(&left.file)?;
-                return Ok(Some(shown_undo(self.alloc, self.files, file, ending)?));
-            }
-        }
-        Ok(None)
-    }
-
-    /// Refuses a name for a new file under which stands one that another program has locked.
-    fn refuse_taken(&self, path: &str) -> io::Result<()> {
-        match itself_at(self.files, path) {
-            Ok(Some(old)) if !self.held.has(Node::of(&old)) => refuse_locked(self.files, path),
-            _ => Ok(()),
-        }
-    }
-
-    /// What the system says of the file that a new one of this name and at this place is to replace; none where there is none.
-    /// Its undo file is judged before.
-    fn before_replaced(&mut self, name: &str, path: &str) -> io::Result<Option<Metadata>> {
-        let (Some(file), Some(place)) = (name.strip_suffix(NEW), path.strip_suffix(NEW)) else {
-            return Ok(None);
-        };
-        self.judge_undo(file)?;
-        metadata_at(self.files, place)
-    }
-
-    /// Renames a file, which takes the owner and the permissions of the one that had the name, and waits until that is done on
-    /// the disk. Where it was made to replace that one, it takes its place behind a link, and the link stays.
-    pub fn rename(&mut self, from: &str, to: &str) -> io::Result<()> {
-        self.slots.close_all()?;
-        self.synced.clear();
-        let source = self.path_of(from)?;
-        if let Some((file, _)) = undone_file(to) {
-            return self.rename_undo(source.as_str(), to, file);
-        }
-        let target = self.path_to_replace(from, to, source.as_str())?;
-        let old = metadata_at(self.files, target.as_str()).unwrap_or(None);
-        if let Some(old) = &old {
-            self.follow_replaced(from, old)?;
-        }
-        if self.rename_as(source.as_str(), target.as_str())? {
-            if let Some(old) = &old {
-                self.held.release(Node::of(old));
-            }
-            self.made = None;
-            self.looks.forget(from);
-            self.looks.forget(to);
-        }
-        Ok(())
-    }
-
-    /// Gives a file that was made under a name the owner, the group and the permissions of the one that it is to replace, unless
-    /// it has them.
-    fn follow_replaced(&self, from: &str, of: &Metadata) -> io::Result<()> {
-        match &self.made {
-            Some(made) if made.name.as_str() == from => self.held.follow_owner(made.node, of),
-            _ => Ok(()),
-        }
-    }
-
-    /// Renames a file, and waits until that is done on the disk. Answers whether it was there.
-    pub fn rename_as(&mut self, source: &str, target: &str) -> io::Result<bool> {
-        self.new_names.note(source)?;
-        self.new_names.note(target)?;
-        let was_there = rename_present(self.files, source, target)?;
-        if was_there {
-            self.sync_names(target)?;
-        }
-        self.sync_names(source)?;
-        Ok(was_there)
-    }
-
     /// Whether each file is to be kept.
     #[inline(always)]
-    fn is_keeping(&self) -> bool {
+    pub fn is_keeping(&self) -> bool {
         matches!(self.shared, Shared::Kept)
     }
 
@@ -398,8 +262,8 @@ impl<'a, R: Files<File = File> + Eprint> OpenFiles<'a, R> {
         }
     }
 
-    /// Keeps a file as it is now, and lets it go, unless it is kept already, is not there, has to be recovered before, or is
-    /// an undo file. Answers whether it is kept, or is the undo file of one that is.
+    /// Keeps a file as it is now, and lets it go, unless it is kept already, is not there, has to be recovered before,
+    /// or is an undo file. Answers whether it is kept, or is the undo file of one that is.
     fn keep(&mut self, name: &str) -> io::Result<bool> {
         if self.has_kept(name) {
             return Ok(true);
@@ -435,7 +299,8 @@ impl<'a, R: Files<File = File> + Eprint> OpenFiles<'a, R> {
         Ok(is_due)
     }
 
-    /// Opens a file, unless it is open, and answers whether one is then: where it is to be read and is not there, none is.
+    /// Opens a file, unless it is open, and answers whether one is then: where it is to be read and is not there, none
+    /// is.
     #[inline(always)]
     pub fn open(&mut self, name: &str, access: Access) -> io::Result<bool> {
         if self.slots.serve(name, access) {

@@ -1,7 +1,8 @@
 //! How an undo file is found, judged, made and stamped.
 
-use crate::open_files::{FailedAt, Made, OpenFiles, Shared};
-use crate::sharing::Lock;
+use crate::open_files::{Made, OpenFiles, Shared};
+use file_locks::failed::FailedAt;
+use file_locks::sharing::Lock;
 use file_names::names::{changed_meanwhile, is_itself, make_anew, metadata_at, stamp_at};
 use file_names::stamp::Node;
 use file_windows::Access;
@@ -37,8 +38,8 @@ fn is_for_reading_alone(error: io::Error) -> bool {
 }
 
 impl<'a, R: Files<File = File> + Eprint> OpenFiles<'a, R> {
-    /// An undo file, which is opened; none where it is not there, or counts for nothing since its gate is closed and it is not
-    /// ours, or can't be used. It is never locked: whoever may change it holds its file.
+    /// An undo file, which is opened; none where it is not there, or counts for nothing since its gate is closed and it
+    /// is not ours, or can't be used. It is never locked: whoever may change it holds its file.
     pub fn find_undo(
         &mut self,
         file: &str,
@@ -86,9 +87,9 @@ impl<'a, R: Files<File = File> + Eprint> OpenFiles<'a, R> {
         }
     }
 
-    /// What the system says of a file beside which an undo file stands: of the open file, where it is open. None where it is
-    /// not there.
-    fn metadata_of(&self, file: &str) -> io::Result<Option<Metadata>> {
+    /// What the system says of a file beside which an undo file stands: of the open file, where it is open. None where
+    /// it is not there.
+    pub fn metadata_of(&self, file: &str) -> io::Result<Option<Metadata>> {
         if let Some(metadata) = self.slots.metadata(file)? {
             return Ok(Some(metadata));
         }
@@ -99,8 +100,8 @@ impl<'a, R: Files<File = File> + Eprint> OpenFiles<'a, R> {
         Ok(Some(held.unwrap_or(metadata)))
     }
 
-    /// Refuses the place of an undo file that does not stand beside its file by now, as where a link on the way to that leads
-    /// elsewhere meanwhile.
+    /// Refuses the place of an undo file that does not stand beside its file by now, as where a link on the way to that
+    /// leads elsewhere meanwhile.
     fn stand_beside(&self, path: &str, of: Option<&Metadata>) -> io::Result<()> {
         let (Some((place, _)), Some(of)) = (undone_file(path), of) else {
             return Ok(());
@@ -112,9 +113,9 @@ impl<'a, R: Files<File = File> + Eprint> OpenFiles<'a, R> {
         }
     }
 
-    /// Whether an undo file counts. One with an open gate does, or is an error where it is not believed. One with a closed gate
-    /// does where it is ours, and where files are changed also may be written to, and was made by this program or is as one
-    /// that it would make.
+    /// Whether an undo file counts. One with an open gate does, or is an error where it is not believed. One with a
+    /// closed gate does where it is ours, and where files are changed also may be written to, and was made by this
+    /// program or is as one that it would make.
     fn counts(
         &mut self,
         file: &str,
@@ -134,8 +135,8 @@ impl<'a, R: Files<File = File> + Eprint> OpenFiles<'a, R> {
         Ok(distrust.is_none() && is_usable)
     }
 
-    /// Notes that a gate was found open, or refuses to believe it: where the undo file is not ours, or where its file is not
-    /// as a stop of this program leaves it. A gate that is known is asked for the first alone.
+    /// Notes that a gate was found open, or refuses to believe it: where the undo file is not ours, or where its file
+    /// is not as a stop of this program leaves it. A gate that is known is asked for the first alone.
     fn believe(
         &mut self,
         file: &str,
@@ -179,8 +180,9 @@ impl<'a, R: Files<File = File> + Eprint> OpenFiles<'a, R> {
         Ok(undo)
     }
 
-    /// Sees to it that an undo file may be changed: its file, where it is there, is locked before that where that is due, and
-    /// may be written to; unless files are free, it is the one that is locked. One that is not there is to have been absent at the first look, too.
+    /// Sees to it that an undo file may be changed: its file, where it is there, is locked before that where that is
+    /// due, and may be written to; unless files are free, it is the one that is locked. One that is not there is to
+    /// have been absent at the first look, too.
     pub fn before_undo(&mut self, file: &str) -> io::Result<()> {
         let done = self.hold_for_undo(file);
         self.at(FailedAt::Plain, done)
@@ -224,8 +226,8 @@ impl<'a, R: Files<File = File> + Eprint> OpenFiles<'a, R> {
         self.put(name, made, Access::Making, node, false)
     }
 
-    /// Gives a new undo file its name, and waits until that is done on the disk. That another program took its first name
-    /// meanwhile is an error.
+    /// Gives a new undo file its name, and waits until that is done on the disk. That another program took its first
+    /// name meanwhile is an error.
     pub fn rename_undo(&mut self, source: &str, to: &str, file: &str) -> io::Result<()> {
         self.before_undo(file)?;
         if let Some(made) = &self.made_undo {
@@ -242,8 +244,8 @@ impl<'a, R: Files<File = File> + Eprint> OpenFiles<'a, R> {
         Ok(())
     }
 
-    /// Stamps an undo file with the present time before its file is mended by what it saves: a recovery that is stopped is then
-    /// one of a file that was changed right behind its gate. What is written is a byte that nobody reads.
+    /// Stamps an undo file with the present time before its file is mended by what it saves: a recovery that is stopped
+    /// is then one of a file that was changed right behind its gate. What is written is a byte that nobody reads.
     pub fn stamp_undo(&mut self, file: &str) -> io::Result<()> {
         let done = self.write_unread(file);
         self.at(FailedAt::Undo, done)?;

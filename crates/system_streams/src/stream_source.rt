@@ -1,9 +1,10 @@
 ghost use Rattle.std.specs.Prelude.{◌≡◌};
 
 use outside::{Source, SourceFault};
-use run_notes::{LastText, Teller};
+use run_notes::{LastText, ReadCount, Teller};
 use std::io;
 use std::io::{Eprint, ErrorKind, Read};
+use std::time::Clock;
 
 /// A stream of the system as a source, such as standard input. It tells nothing of what is left in it.
 #[derive(Drop)]
@@ -16,6 +17,9 @@ pub struct StreamSource<'a, R, E> {
     last: Option<LastText>,
     /// Who is told that the stream is waited for, and what of it, until that was told.
     waiting: Option<(Teller<'a>, &'static str)>,
+    /// Who is told how much was read.
+    progress: Option<Teller<'a>>,
+    reads: ReadCount,
 }
 
 impl<'a, R, E: Eprint> StreamSource<'a, R, E> {
@@ -30,6 +34,8 @@ impl<'a, R, E: Eprint> StreamSource<'a, R, E> {
             failure: None,
             last: None,
             waiting: None,
+            progress: None,
+            reads: ReadCount::new(),
         }
     }
 
@@ -57,6 +63,13 @@ impl<'a, R, E: Eprint> StreamSource<'a, R, E> {
         self.waiting = Some((teller, what));
     }
 
+    /// Says from now on how much was read, where that takes long.
+    pub fn tell_progress(&mut self, teller: Teller<'a>)
+        ensures { self.new.faults ≡ self.old.faults }
+    {
+        self.progress = Some(teller);
+    }
+
     /// Says what is waited for, unless that was said.
     fn tell(&mut self)
         ensures { self.new.faults ≡ self.old.faults }
@@ -76,7 +89,23 @@ impl<'a, R, E: Eprint> StreamSource<'a, R, E> {
     }
 }
 
-impl<'a, R: Read, E: Eprint> Source for StreamSource<'a, R, E> {
+impl<'a, R, E: Eprint + Clock> StreamSource<'a, R, E> {
+    /// Counts what was read, and says how much that is where it is due. The clock is looked at where the stream gave
+    /// less than there is room for, too: more has to be waited for then.
+    fn tell_read(&mut self, count: usize, is_short: bool)
+        ensures { self.new.faults ≡ self.old.faults }
+    {
+        let Some(teller) = self.progress else {
+            return;
+        };
+        let is_much = self.reads.add(count);
+        if (is_much || is_short) && teller.is_due(self.err) {
+            teller.show_input(self.err, self.reads.bytes());
+        }
+    }
+}
+
+impl<'a, R: Read, E: Eprint + Clock> Source for StreamSource<'a, R, E> {
     ghost use Rattle.std.specs.Prelude.{false, [], ⊤};
     ghost use Rattle.std.proofs.lemmas.Bool.{false≢true};
 
@@ -102,6 +131,7 @@ impl<'a, R: Read, E: Eprint> Source for StreamSource<'a, R, E> {
             match self.stream.read(buf) {
                 Ok(count) => {
                     self.note(&buf[..count]);
+                    self.tell_read(count, count < buf.len());
                     return Ok(count);
                 }
                 Err(error) if error.kind() == ErrorKind::Interrupted => {}

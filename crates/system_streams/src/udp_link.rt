@@ -140,7 +140,12 @@ impl<'a, R: Net + Clock + Eprint> Link for UdpLink<'a, R> {
 
     ghost tells = { false };
 
-    ghost seen = { λ link. record { left = []; answers = []; started = record { times = 0; last = None }; faults = link.faults } };
+    ghost seen = { λ link. record {
+      left = [];
+      answers = [];
+      started = record { times = 0; last = None };
+      faults = link.faults;
+    } };
 
     fn start(&mut self, port: u16) -> Result<(), LinkFault> {
         let bound = self.bind(port);

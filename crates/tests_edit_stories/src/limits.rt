@@ -264,8 +264,8 @@ status 3
 ! quota: q: damaged: PartialRecord at record 1
 ";
 
-/// Limits at which calls fail. A whole run makes four calls of the store: the size, a read of record 0, a write and a sync; the
-/// record is not read, since it stands past the end of the file.
+/// Limits at which calls fail. A whole run makes four calls of the store: the size, a read of record 0, a write and a
+/// sync; the record is not read, since it stands past the end of the file.
 pub const FAILING: &str = "\
 = each failing call leaves the old file or the changed one
 fill 0 40

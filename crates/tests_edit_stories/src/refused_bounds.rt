@@ -1,6 +1,6 @@
-/// Lines before one that is refused by its edit: they are made together where the file that they make has no more pieces of
-/// 1,024 bytes than twelve for each of them. Beside a file of the name of the new one the same lines are made where they
-/// stand, and leave the same bytes.
+/// Lines before one that is refused by its edit: they are made together where the file that they make has no more
+/// pieces of 1,024 bytes than twelve for each of them. Beside a file of the name of the new one the same lines are made
+/// where they stand, and leave the same bytes.
 pub const REFUSED_BOUNDS: &str = "\
 = one line, and twelve pieces of a flat file, or thirteen
 text 306 1 2 3 4

@@ -1,8 +1,8 @@
-//! Lines that are made together, by one replacement of the file, and the same lines made each where it stands: what is left
-//! is the same. Where a file has the name of the new one they are made where they stand, and that file is let be.
+//! Lines that are made together, by one replacement of the file, and the same lines made each where it stands: what is
+//! left is the same. Where a file has the name of the new one they are made where they stand, and that file is let be.
 
-/// Files of each format, lines of which some set limits of one who is known or new, one takes a record away, and one has
-/// nothing to do, and what these make of the files: worked out by hand.
+/// Files of each format, lines of which some set limits of one who is known or new, one takes a record away, and one
+/// has nothing to do, and what these make of the files: worked out by hand.
 pub const FILES_OF_LINES: &str = "\
 = a flat file, of which identifier 1 exceeds both soft limits and identifier 2 uses nothing
 record btime 604800 itime 604800
@@ -137,8 +137,8 @@ put 2064 1000 8 7 0 6 5
 keep six0-made
 ";
 
-/// The same lines together, and each where it stands, in files of each format: what is left is the same. Together there are
-/// as many calls of `write` as the new file has pieces of 1,024 bytes.
+/// The same lines together, and each where it stands, in files of each format: what is left is the same. Together there
+/// are as many calls of `write` as the new file has pieces of 1,024 bytes.
 pub const BOTH_WAYS: &str = "\
 = together in a flat file
 file q flat

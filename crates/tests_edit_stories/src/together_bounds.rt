@@ -1,6 +1,6 @@
 /// Which lines are made together: two or more, in a file that can come to no more pieces of 1,024 bytes than twelve for
-/// each line. A flat file may come to the record of the greatest identifier, and a tree file may grow by four blocks with
-/// each line.
+/// each line. A flat file may come to the record of the greatest identifier, and a tree file may grow by four blocks
+/// with each line.
 pub const BOUNDS: &str = "\
 = two lines and twenty-four pieces of a flat file, or twenty-five
 file q flat

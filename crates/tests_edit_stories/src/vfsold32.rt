@@ -1,5 +1,5 @@
-//! Edits of files of vfsold32, of which a record is eight numbers of four bytes: of blocks the hard and the soft limit and what is in
-//! use, the same of inodes, and the times of both.
+//! Edits of files of vfsold32, of which a record is eight numbers of four bytes: of blocks the hard and the soft limit
+//! and what is in use, the same of inodes, and the times of both.
 
 /// What limits leave of a file.
 pub const SET: &str = "\

@@ -204,8 +204,8 @@ holds q flat-begun
 same q.new
 ";
 
-/// A disk that stops under lines that are made together. The file is the old one or the new one then, and what may be left
-/// besides is a part of the new one under its own name: before that is synced, the greater half of each write.
+/// A disk that stops under lines that are made together. The file is the old one or the new one then, and what may be
+/// left besides is a part of the new one under its own name: before that is synced, the greater half of each write.
 pub const STOPPED: &str = "\
 = the disk stops under lines of a flat file
 record btime 604800 itime 604800

@@ -1,5 +1,5 @@
-//! Stories of calls that fail, of disks that stop, of damaged files and of datagrams that are cut or too long: rows as text,
-//! which the tests of the program carry out.
+//! Stories of calls that fail, of disks that stop, of damaged files and of datagrams that are cut or too long: rows as
+//! text, which the tests of the program carry out.
 #![tactic(auto)]
 
 pub mod damages;

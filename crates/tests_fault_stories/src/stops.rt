@@ -1,7 +1,7 @@
 //! Changes in place over a disk that stops at each of its calls, and the recovery of what is left then.
 
-/// Files of other rows: of vfsv0 and vfsv1, of which identifier 1000 exceeds its soft limit of blocks (`timed0`, `timed`),
-/// and a flat file, of which identifier 1 exceeds both and identifier 2 uses nothing (`flat`).
+/// Files of other rows: of vfsv0 and vfsv1, of which identifier 1000 exceeds its soft limit of blocks (`timed0`,
+/// `timed`), and a flat file, of which identifier 1 exceeds both and identifier 2 uses nothing (`flat`).
 pub const STOPPED_FILES: &str = "\
 = files of other rows
 file q timed

@@ -1,7 +1,8 @@
 //! Commands of which each call of each object fails in turn.
 
-/// Changes in place, reports, and files that are replaced or made by another one. Of a run with no fault nothing is told but
-/// what it left; of the others the sweep tells all. A file that is replaced is the old one wherever a call fails.
+/// Changes in place, reports, and files that are replaced or made by another one. Of a run with no fault nothing is
+/// told but what it left; of the others the sweep tells all. A file that is replaced is the old one wherever a call
+/// fails.
 pub const SWEPT: &str = "\
 = limits behind the end of an empty flat file
 file q

@@ -1,7 +1,8 @@
 //! Changes of files of vfsold32 of which calls fail, or whose disk stops.
 
-/// A file of which identifier 1 exceeds both soft limits and identifier 2 uses nothing, and lines that change it. A record is eight
-/// numbers of four bytes: of blocks the hard and the soft limit and what is in use, the same of inodes, and the times of both.
+/// A file of which identifier 1 exceeds both soft limits and identifier 2 uses nothing, and lines that change it. A
+/// record is eight numbers of four bytes: of blocks the hard and the soft limit and what is in use, the same of inodes,
+/// and the times of both.
 pub const FILES_OF_32: &str = "\
 = files of other rows
 put end 0 0 0 0 0 0 604800 604800

@@ -1,8 +1,8 @@
 //! The calls of the store.
 
-/// Commands over a flat file of 30 records, and the calls of the store that each makes, in their order. Opening asks for the size
-/// and reads record 0. A report reads 25 records at a time, and a record that is looked up is read where the file has it. A
-/// change writes one record and syncs the file.
+/// Commands over a flat file of 30 records, and the calls of the store that each makes, in their order. Opening asks
+/// for the size and reads record 0. A report reads 25 records at a time, and a record that is looked up is read where
+/// the file has it. A change writes one record and syncs the file.
 pub const ORDER: &str = "\
 = a record of other rows
 record bhard 1 bsoft 1 blocks 1 ihard 1 isoft 1 inodes 1

@@ -1,9 +1,9 @@
 //! Conversions of quota files.
 
-/// One map in each format: identifier 0 with a space of one byte and a timer, a record that limits and counts nothing but has
-/// timers, and identifier 1000 with timers above 32 bits, or just below where the other format is vfsold32; grace periods of 1
-/// second and of 2^32 - 1, and flags. A flat file has whole KiB, and no timer of identifier 0. The rules let the one data block of
-/// a new file be any of 2 to 6; its place here is the one that this program chooses.
+/// One map in each format: identifier 0 with a space of one byte and a timer, a record that limits and counts nothing
+/// but has timers, and identifier 1000 with timers above 32 bits, or just below where the other format is vfsold32;
+/// grace periods of 1 second and of 2^32 - 1, and flags. A flat file has whole KiB, and no timer of identifier 0. The
+/// rules let the one data block of a new file be any of 2 to 6; its place here is the one that this program chooses.
 pub const PAIRS: &str = "\
 = one map in each format
 fill 0 7168

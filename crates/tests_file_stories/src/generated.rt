@@ -1,5 +1,5 @@
-/// Files out of listings that are made. A listing of the same numbers was written out by another program, and so were the
-/// sums.
+/// Files out of listings that are made. A listing of the same numbers was written out by another program, and so were
+/// the sums.
 pub const GENERATED: &str = "\
 = one line makes a file of one user, and a line on it
 run generate 0 1 q

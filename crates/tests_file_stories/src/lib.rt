@@ -1,5 +1,5 @@
-//! Stories of `repquota`, `quotacheck`, `convertquota`, `generate`, `rquotad`, names and the calls of the store: rows as text, which the
-//! tests of the program carry out.
+//! Stories of `repquota`, `quotacheck`, `convertquota`, `generate`, `rquotad`, names and the calls of the store: rows
+//! as text, which the tests of the program carry out.
 #![tactic(auto)]
 
 pub mod calls;

@@ -43,9 +43,9 @@ run repquota -u q
 head user q 7days 7days
 ";
 
-/// What refuses a tree file, and the line of each refusal. Where the blocks 1 to 3 are free as well, the rules let any of
-/// them be named, and where a header stands alone, each of its other blocks as one to which nothing leads; what is named here
-/// is what this program chooses.
+/// What refuses a tree file, and the line of each refusal. Where the blocks 1 to 3 are free as well, the rules let any
+/// of them be named, and where a header stands alone, each of its other blocks as one to which nothing leads; what is
+/// named here is what this program chooses.
 pub const REFUSED: &str = "\
 = a file that is too short for its blocks
 use short

@@ -1,6 +1,7 @@
 //! Stores whose files turn into other bytes in the middle of a command.
 
-/// Damages that are met while a file is opened, or by a look-up after that. A command ends at one, or does all of its work.
+/// Damages that are met while a file is opened, or by a look-up after that. A command ends at one, or does all of its
+/// work.
 pub const TURNED: &str = "\
 = a store that turns before the header is read, and one that turns behind the root
 file q six

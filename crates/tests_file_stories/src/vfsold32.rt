@@ -1,6 +1,6 @@
-//! Files of vfsold32: their reports, what they are in the other flat format, and the usage that listings give them. A whole record
-//! is eight numbers of four bytes, `put end` of a hard and a soft limit of blocks and the blocks in use, of the same of inodes, and of
-//! the times of both.
+//! Files of vfsold32: their reports, what they are in the other flat format, and the usage that listings give them. A
+//! whole record is eight numbers of four bytes, `put end` of a hard and a soft limit of blocks and the blocks in use,
+//! of the same of inodes, and of the times of both.
 
 /// What a report shows of files of some lengths, and of one that is read in both flat formats.
 pub const REPORTED: &str = "\

@@ -1,7 +1,8 @@
 //! Rows of the client of rquotad: its words, the exchange of calls for replies, what is printed, and what fails.
 //!
-//! The crate has tests and nothing else, so that the client is proved once and not once more with its tests. A row is a part
-//! of a story: a text of lines, which one player carries out over a peer and sinks in memory. A row begins with `= TITLE`.
+//! The crate has tests and nothing else, so that the client is proved once and not once more with its tests. A row is a
+//! part of a story: a text of lines, which one player carries out over a peer and sinks in memory. A row begins with
+//! `= TITLE`.
 //!
 //! | Line | |
 //! |---|---|

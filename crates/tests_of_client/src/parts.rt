@@ -15,8 +15,8 @@ fn put_text(bytes: &mut Vec<u8>, text: &[u8]) -> Result<(), AllocError> {
     put_zeros(bytes, 3 - text.len().wrapping_sub(1) % 4)
 }
 
-/// Puts what a word says behind bytes: a number is a unit, `'` begins a text, and `*` a number of zeros. A word that says
-/// none of this is a unit that no row needs.
+/// Puts what a word says behind bytes: a number is a unit, `'` begins a text, and `*` a number of zeros. A word that
+/// says none of this is a unit that no row needs.
 fn put(bytes: &mut Vec<u8>, word: &str) -> Result<(), AllocError> {
     if let Some(text) = word.strip_prefix('\'') {
         return put_text(bytes, text.as_bytes());

@@ -195,7 +195,8 @@ fn stops(stage: &mut Stage, object: &str, call: u64, whole: &Ran) -> Result<bool
     }
 }
 
-/// Runs once, then once for each of so many calls of the object, which fails, and then with one more, which is not made.
+/// Runs once, then once for each of so many calls of the object, which fails, and then with one more, which is not
+/// made.
 fn sweeps_calls(stage: &mut Stage, object: &str, count: u64) -> Result<bool, AllocError> {
     let whole = run(stage.alloc, &stage.setting)?;
     for call in 0..count {

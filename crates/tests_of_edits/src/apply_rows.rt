@@ -294,7 +294,8 @@ const SOFT_OF_ZERO: &[Entry] = &[Entry {
     rec: Rec { bsoft: 1, ..NONE },
 }];
 
-/// Timers past 32 bits, of one who uses nothing, which stops, and of one whose inodes are over the soft limit, which runs on.
+/// Timers past 32 bits, of one who uses nothing, which stops, and of one whose inodes are over the soft limit, which
+/// runs on.
 const TIMED: &[Entry] = &[
     Entry {
         id: 6,

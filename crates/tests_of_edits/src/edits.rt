@@ -133,8 +133,8 @@ fn result_of(answer: Answer) -> Result<Skipped, EditFault> {
     }
 }
 
-/// Whether an edit made as many writes as it may: one in a flat file, and one where the grace periods of a tree file are set; one
-/// to twelve where a record of a tree file is; and none where nothing is changed.
+/// Whether an edit made as many writes as it may: one in a flat file, and one where the grace periods of a tree file
+/// are set; one to twelve where a record of a tree file is; and none where nothing is changed.
 fn are_writes(store: &MemStore, row: &EditRow) -> bool {
     let writes = store.writes();
     match (row.answer, row.edit) {

@@ -170,8 +170,8 @@ fn the_first_bad_line_of_projects_is_named(rt: HostRuntime) {
     expect_bad_lines(&rt, rt.alloc(), Kind::Project, LINES_OF_PROJECTS);
 }
 
-/// A line whose name has this many bytes: what is behind the name, and how many bytes the name of identifier 7 has then,
-/// or why the line is refused.
+/// A line whose name has this many bytes: what is behind the name, and how many bytes the name of identifier 7 has
+/// then, or why the line is refused.
 type LongRow = (usize, &'static [u8], Kind, Result<usize, NamesFault>);
 
 const LONG_NAMES: &[LongRow] = &[

@@ -2,8 +2,8 @@ use crate::helpers_low::put;
 use rquota_xdr::{Call, read_call};
 use std::process::Abort;
 
-/// What a call with xid 1 asks. A `Get` has the numbers of its caller, where its path begins and how long it is, the type
-/// and the identifier.
+/// What a call with xid 1 asks. A `Get` has the numbers of its caller, where its path begins and how long it is, the
+/// type and the identifier.
 #[derive(Clone, Copy, PartialEq, Eq)]
 enum Asks<'a> {
     Silent,
@@ -170,8 +170,8 @@ const SET_ACTIVE_2: Part = (0, &[1, 0, 2, 100_011, 2, 4]);
 /// The credential of uid 1000, behind which the verifier is empty.
 const BY_1000: Part = (24, &[1, 20, 0, 0, 1000, 100, 0]);
 
-/// The arguments of a question for `/home`: version 1 ends in front of the last number, which is identifier 1 there, and
-/// the type in version 2.
+/// The arguments of a question for `/home`: version 1 ends in front of the last number, which is identifier 1 there,
+/// and the type in version 2.
 const QUESTION: Part = (60, &[5, 0x2f68_6f6d, 0x6500_0000, 1, 1000]);
 
 /// The first arguments of a change: a program's number or the type, and `/home`.

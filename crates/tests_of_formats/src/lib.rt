@@ -1,5 +1,5 @@
-//! Rows of the crates below the program: records, codecs, calls and replies, the outside, lines, flat files, and files of
-//! all formats.
+//! Rows of the crates below the program: records, codecs, calls and replies, the outside, lines, flat files, and files
+//! of all formats.
 //!
 //! The crate has tests and nothing else, so that those crates are proved once and not once more with their tests. A row
 //! is an element of a constant, and one small function plays all rows of a kind.

@@ -55,8 +55,8 @@ fn a_file_of_each_format_is_read_and_changed_as_it_was_written(rt: HostRuntime) 
     expect_stories(&rt, rt.alloc(), STORIES);
 }
 
-/// The steps of a file in vfsv1 with at most 7 blocks, all of which it has. Identifier 70,000 would need two tree blocks
-/// more: those of the beginnings 0.1 and 0.1.17.
+/// The steps of a file in vfsv1 with at most 7 blocks, all of which it has. Identifier 70,000 would need two tree
+/// blocks more: those of the beginnings 0.1 and 0.1.17.
 const FULL: &[Step] = &[
     Step::PutFails(
         70_000,
@@ -95,8 +95,8 @@ type OpenRow = (
     Result<Format, OpenFault>,
 );
 
-/// A file of users in vfsv1 ends inside its record 179 where it is taken for one of vfsold, and has whole records where it is
-/// taken for one of vfsold32; each of both flat files ends inside a record where it is taken for the other one.
+/// A file of users in vfsv1 ends inside its record 179 where it is taken for one of vfsold, and has whole records where
+/// it is taken for one of vfsold32; each of both flat files ends inside a record where it is taken for the other one.
 const PARTIAL: OpenFault = OpenFault::Damage(Damage {
     kind: DamageKind::PartialRecord,
     block: 179,

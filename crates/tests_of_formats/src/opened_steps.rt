@@ -34,8 +34,9 @@ pub(crate) enum Step {
     File(usize, &'static [Part]),
 }
 
-/// What is made as the file `q`, and which calls of the store fail; as a file of what kind and of which format it is opened,
-/// and with which limit of blocks where it is a tree file with one of its own; and the steps after each opening.
+/// What is made as the file `q`, and which calls of the store fail; as a file of what kind and of which format it is
+/// opened, and with which limit of blocks where it is a tree file with one of its own; and the steps after each
+/// opening.
 pub(crate) struct Story {
     pub title: &'static str,
     pub made: Made,
@@ -164,7 +165,8 @@ fn opened(alloc: Global, store: &mut MemStore, story: &Story) -> Option<AnyFile>
     }
 }
 
-/// The place of the first opening, from 1 on, in which something isn't as told, and of the step; two zeros where all is.
+/// The place of the first opening, from 1 on, in which something isn't as told, and of the step; two zeros where all
+/// is.
 fn first_otherwise(alloc: Global, story: &Story) -> Result<(usize, usize), AllocError> {
     let failing = Vec::from_slice(alloc, story.failing)?;
     let mut store = MemStore::new(Vec::new(alloc), failing);

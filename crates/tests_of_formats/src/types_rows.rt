@@ -170,8 +170,8 @@ fn a_timer_starts_runs_on_and_stops(rt: HostRuntime) {
     expect_timers(&rt, TIMERS);
 }
 
-/// An identifier's record at a moment, with grace periods of the file, and what a format keeps of it with its next timers, or
-/// the first field for which it has no room.
+/// An identifier's record at a moment, with grace periods of the file, and what a format keeps of it with its next
+/// timers, or the first field for which it has no room.
 struct NextRow {
     format: Format,
     id: u32,

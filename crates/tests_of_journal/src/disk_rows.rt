@@ -21,8 +21,8 @@ type Found = Option<&'static [u8]>;
 /// What is done with a disk that has the file `q` of ten digits, and what a stop then leaves under a name.
 type Row = (&'static [Call], &'static str, Found);
 
-/// Of each write that was not synced the greater half is left, from the front; of a new or a shortened file nothing; what was
-/// synced is left, and each rename is done.
+/// Of each write that was not synced the greater half is left, from the front; of a new or a shortened file nothing;
+/// what was synced is left, and each rename is done.
 #[rattlefmt::skip]
 const ROWS: &[Row] = &[
     (&[], "q", Some(b"0123456789")),

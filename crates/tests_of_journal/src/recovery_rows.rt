@@ -17,14 +17,15 @@ enum Closed {
 use Closed::{Anew, InPlace};
 
 /// What an undo file with an open gate names as the length of the old file and as the number of saved ranges, how many
-/// bytes it has, what a recovery makes of its file of twelve bytes `0xyz456789ab`, and how it closes the gate. The first
-/// range is of three bytes `123` from byte 1 of the file on, and ends at byte 1,043 of the undo file.
+/// bytes it has, what a recovery makes of its file of twelve bytes `0xyz456789ab`, and how it closes the gate. The
+/// first range is of three bytes `123` from byte 1 of the file on, and ends at byte 1,043 of the undo file.
 type Row = (u8, u8, usize, &'static [u8], Closed);
 
 /// Bytes past the end of an undo file are read as 0.
 #[rattlefmt::skip]
 const ROWS: &[Row] = &[
-    // The undo file ends with its range, behind it, within the saved bytes, within the head of the range, and before it.
+    // The undo file ends with its range, behind it, within the saved bytes, within the head of the range, and before
+    // it.
     (10, 1, 1043, b"0123456789", InPlace),
     (10, 1, 1100, b"0123456789", InPlace),
     (10, 1, 1042, b"012\x00456789", Anew),

@@ -41,9 +41,9 @@ use Step::{
     Commit, Create, Hold, NoCreate, NoHold, NoRename, NoSync, NoWrite, Pends, Rename, Sync, Write,
 };
 
-/// The undo file of a file that had ten bytes, of which the three from the first one on are saved as `123`: the gate, the
-/// old length at byte 8, the number of ranges at byte 16, and from byte 1,024 on the place of the range, in eight bytes, how
-/// many bytes are saved, in two, six bytes 0, and what is saved.
+/// The undo file of a file that had ten bytes, of which the three from the first one on are saved as `123`: the gate,
+/// the old length at byte 8, the number of ranges at byte 16, and from byte 1,024 on the place of the range, in eight
+/// bytes, how many bytes are saved, in two, six bytes 0, and what is saved.
 fn undo_file(alloc: Global, gate: u8) -> Result<Vec<u8>, AllocError> {
     let mut undo = Vec::new(alloc);
     undo.extend_from_slice(&[gate, 0, 0, 0, 0, 0, 0, 0, 10, 0, 0, 0, 0, 0, 0, 0, 1])?;

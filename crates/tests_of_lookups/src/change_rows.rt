@@ -43,8 +43,8 @@ fn first_wrong(alloc: Global, row: &Built) -> Option<Option<u32>> {
     Some(None)
 }
 
-/// Whether a walk that has come to an entry goes on rightly: to the one behind it, to one that was put between them, to that
-/// one also once the grace periods were set, and to the one behind again once the other was taken away.
+/// Whether a walk that has come to an entry goes on rightly: to the one behind it, to one that was put between them, to
+/// that one also once the grace periods were set, and to the one behind again once the other was taken away.
 fn is_seen(file: &mut TreeFile, store: &mut MemStore, entry: Entry, behind: Option<Entry>) -> bool {
     let between = Entry {
         id: entry.id.wrapping_add(1),

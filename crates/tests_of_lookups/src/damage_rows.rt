@@ -9,8 +9,8 @@ use std::process::Abort;
 use tests_row_files::{get, next_after};
 use tree_file::TreeFile;
 
-/// Four identifiers that share the root and the data block, and nothing else: blocks 3 to 6 are the lowest ones of the tree,
-/// 7 to 10 those above them, and 11 to 14 those below the root.
+/// Four identifiers that share the root and the data block, and nothing else: blocks 3 to 6 are the lowest ones of the
+/// tree, 7 to 10 those above them, and 11 to 14 those below the root.
 const FOUR: Built = Built {
     format: Format::V2R1,
     count: 4,
@@ -41,8 +41,8 @@ struct DamageRow {
     kind: DamageKind,
     block: u32,
     id: u32,
-    /// Whether a look-up of the record tells it too, and not that of the next entry alone. Where none does, the identifier
-    /// has no record.
+    /// Whether a look-up of the record tells it too, and not that of the next entry alone. Where none does, the
+    /// identifier has no record.
     by_get: bool,
 }
 
@@ -107,7 +107,8 @@ fn tells(file: &mut TreeFile, store: &mut MemStore, row: &DamageRow) -> bool {
         && next_after(file, store, Some(0)) == Some(Err(damage))
 }
 
-/// Whether all other records are read: the first one as the next one of all, and the last one as the one after the third.
+/// Whether all other records are read: the first one as the next one of all, and the last one as the one after the
+/// third.
 fn others_are_read(file: &mut TreeFile, store: &mut MemStore) -> bool {
     let last = entry_at(&FOUR, 3);
     is_read(file, store, 0)

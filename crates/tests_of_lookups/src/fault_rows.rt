@@ -35,8 +35,8 @@ fn faults_before_record(
     }
 }
 
-/// How often the store was named while each entry was looked up, one after another and by itself; None where an answer was
-/// wrong.
+/// How often the store was named while each entry was looked up, one after another and by itself; None where an answer
+/// was wrong.
 fn faults_in_walk(file: &mut TreeFile, store: &mut MemStore, list: &[Entry]) -> Option<u32> {
     let mut faults = 0u32;
     let mut after = None;
@@ -79,7 +79,8 @@ fn calls_of(store: &MemStore) -> u64 {
     store.reads().saturating_add(2)
 }
 
-/// Expects each look-up in a file to name the store where a call of it fails, and to answer rightly when it is asked again.
+/// Expects each look-up in a file to name the store where a call of it fails, and to answer rightly when it is asked
+/// again.
 fn expect_faults_told(rt: &impl Abort, alloc: Global, rows: &[Built]) {
     for row in rows {
         let wrong = first_wrong(alloc, row);

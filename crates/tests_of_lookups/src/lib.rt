@@ -1,5 +1,5 @@
-//! Rows of look-ups in opened tree files: what they read, what a change between two of them, a store that fails and a file
-//! that is damaged behind the opening make of them, and files whose blocks and entries stand in other orders.
+//! Rows of look-ups in opened tree files: what they read, what a change between two of them, a store that fails and a
+//! file that is damaged behind the opening make of them, and files whose blocks and entries stand in other orders.
 //!
 //! The crate has tests and nothing else: a row is an element of a constant, and one small function plays all rows of a
 //! kind.

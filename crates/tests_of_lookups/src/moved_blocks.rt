@@ -11,8 +11,8 @@ const BLOCK: usize = 1024;
 
 const NUMBERS: usize = 256;
 
-/// The root, and the data block that stands behind it in a file that was built. The other data blocks follow, and then the
-/// blocks of the tree.
+/// The root, and the data block that stands behind it in a file that was built. The other data blocks follow, and then
+/// the blocks of the tree.
 const ROOT: usize = 1;
 
 const FIRST_DATA: usize = 2;
@@ -151,8 +151,8 @@ impl Order {
         place_of(block - FIRST_DATA, self.stride, others).wrapping_add(FIRST_DATA)
     }
 
-    /// The places of the numbers of a block that name blocks: in the header the heads of both lists, in a data block the next
-    /// and the previous one, and in a block of the tree all.
+    /// The places of the numbers of a block that name blocks: in the header the heads of both lists, in a data block
+    /// the next and the previous one, and in a block of the tree all.
     fn naming(&self, block: usize) -> (usize, usize) {
         if block == 0 {
             (6, 8)
@@ -181,7 +181,8 @@ impl Order {
     }
 }
 
-/// The same file with its blocks behind the root in another order: each stands `stride` places behind the one before it.
+/// The same file with its blocks behind the root in another order: each stands `stride` places behind the one before
+/// it.
 pub(crate) fn with_moved_blocks(
     alloc: Global,
     built: &Built,

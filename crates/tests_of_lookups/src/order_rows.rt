@@ -42,8 +42,8 @@ fn wrong_in(alloc: Global, row: &OrderRow) -> Option<&'static str> {
     Some("")
 }
 
-/// Whether the entries of a file that is built, and no others, are read of these bytes, one after another and each by itself,
-/// and nothing is written.
+/// Whether the entries of a file that is built, and no others, are read of these bytes, one after another and each by
+/// itself, and nothing is written.
 fn is_read(alloc: Global, built: &Built, file: &[u8]) -> bool {
     let Ok(list) = entries_of(alloc, built) else {
         return false;

@@ -22,8 +22,8 @@ struct ReadRow {
     walk: u64,
 }
 
-/// Expects a look-up of a record to make at most five reads, one of a next entry at most eight, and a walk over all entries
-/// as many as its row says.
+/// Expects a look-up of a record to make at most five reads, one of a next entry at most eight, and a walk over all
+/// entries as many as its row says.
 fn expect_few_reads(rt: &impl Abort, alloc: Global, rows: &[ReadRow]) {
     for row in rows {
         let got = reads_of(alloc, row);

@@ -8,11 +8,14 @@ use Rattle.quota_pages.proofs.UsesLemmas.{missing_among-cons, missing_among-nil}
 -- at most all of some blocks are missing
 pub few_missing : (pages : List Page) (numbers : List ℕ) → missing_among pages numbers ≤ length numbers
 few_missing pages [] = omega (arith, missing_among-nil pages)
-few_missing pages (number ∷ numbers) = omega (arith, missing_among-cons pages number numbers, missing-few pages number, few_missing pages numbers)
+few_missing pages (number ∷ numbers) =
+    omega (arith, missing_among-cons pages number numbers, missing-few pages number, few_missing pages numbers)
 
 -- where there is room for as many blocks as a call may look at, it need not be known which they are
-pub room_many : {K : Type 0} (pages : List Page) (most : ℕ) (numbers : List ℕ) → length pages + most ≤ 12 → HasRoomWithin K pages most numbers
+pub room_many : {K : Type 0} (pages : List Page) (most : ℕ) (numbers : List ℕ) → length pages + most ≤ 12
+    → HasRoomWithin K pages most numbers
 room_many pages most numbers many = inl many
 
-pub room_either : {K : Type 0} (pages : List Page) (most : ℕ) → length pages + most ≤ 12 → (length pages + most ≤ 12) ⊎ K
+pub room_either : {K : Type 0} (pages : List Page) (most : ℕ) → length pages + most ≤ 12
+    → (length pages + most ≤ 12) ⊎ K
 room_either pages most many = inl many

@@ -174,8 +174,8 @@ impl Lists {
 /// How many calls of the store fail in turn, at most.
 const SWEEP: u64 = 24;
 
-/// The place of the first step, from 1 on, that isn't as told, or 0, where one call of the store fails, by its number from 1
-/// on, or none.
+/// The place of the first step, from 1 on, that isn't as told, or 0, where one call of the store fails, by its number
+/// from 1 on, or none.
 fn first_otherwise(alloc: Global, story: &Story, failing: u64) -> Result<usize, AllocError> {
     let mut lists = Lists {
         store: MemStore::new(Vec::new(alloc), Vec::from_slice(alloc, &[failing])?),

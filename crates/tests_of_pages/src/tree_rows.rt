@@ -13,8 +13,8 @@ enum Step {
     Put(u32, u8, u32),
     /// How many blocks the file has.
     Blocks(u32),
-    /// An identifier gets a leaf at a data block, with the fresh blocks of the tree from this one on; what the buffer shows is
-    /// written.
+    /// An identifier gets a leaf at a data block, with the fresh blocks of the tree from this one on; what the buffer
+    /// shows is written.
     Add(u32, u32, u32),
     /// As many identifiers get a leaf at data block 2: every thousandth, from 0 on, with fresh blocks from 3 on.
     AddEach(u32),
@@ -242,8 +242,8 @@ impl Tree {
 /// How many calls of the store fail in turn, at most.
 const SWEEP: u64 = 40;
 
-/// The place of the first step, from 1 on, that isn't as told, or 0, where one call of the store fails, by its number from 1
-/// on, or none.
+/// The place of the first step, from 1 on, that isn't as told, or 0, where one call of the store fails, by its number
+/// from 1 on, or none.
 fn first_otherwise(alloc: Global, story: &Story, failing: u64) -> Result<usize, AllocError> {
     let mut tree = Tree {
         store: MemStore::new(Vec::new(alloc), Vec::from_slice(alloc, &[failing])?),

@@ -1,7 +1,7 @@
 //! Whole runs over objects in memory, as stories.
 //!
-//! The crate has tests and nothing else, so that quota_cli is proved once, and nothing that the program stands on stands on
-//! the player of stories or on their texts.
+//! The crate has tests and nothing else, so that quota_cli is proved once, and nothing that the program stands on
+//! stands on the player of stories or on their texts.
 #![tactic(auto)]
 
 #[cfg(test)]

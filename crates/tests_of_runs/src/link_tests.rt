@@ -8,8 +8,8 @@ use tests_story_stage::{Conditions, Object, Program, Streams, words_of};
 /// With which status a run ends, how often it starts the link, and at which port the last time.
 type Started = (u8, u64, Option<u16>);
 
-/// A run over an empty flat file `q`: its words, the script, the datagrams that come, and the call of the link that fails,
-/// where there are any; and how it starts the link.
+/// A run over an empty flat file `q`: its words, the script, the datagrams that come, and the call of the link that
+/// fails, where there are any; and how it starts the link.
 type LinkRow = (&'static str, &'static str, u64, Option<u64>, Started);
 
 #[rattlefmt::skip]

@@ -45,7 +45,8 @@ pub(crate) fn is_wanted(found: Result<Option<Reply>, FileFault>, want: Option<&[
 /// How often the store is read at most for a reply. Where there is none it is not read.
 const READS: u64 = 5;
 
-/// Whether a datagram of these bytes gets the reply that is wanted, from files of a format, with few reads and no writes.
+/// Whether a datagram of these bytes gets the reply that is wanted, from files of a format, with few reads and no
+/// writes.
 pub(crate) fn is_answered(
     alloc: Global,
     format: Format,

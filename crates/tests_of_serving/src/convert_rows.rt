@@ -11,7 +11,8 @@ const USED: [u8; 40] = [
     0, 0, 0, 0, 0, 0, 0, 0,
 ];
 
-/// A conversion of that file into a format, with at most this many blocks, over a store whose calls fail that `failing` names.
+/// A conversion of that file into a format, with at most this many blocks, over a store whose calls fail that `failing`
+/// names.
 struct Row {
     title: &'static str,
     new: Format,
@@ -20,8 +21,8 @@ struct Row {
     answer: Result<(), ConvertFault>,
 }
 
-/// Conversions in order of their answers. A whole one asks for the size of the new file and that of the old one, reads its record 0
-/// and then its records, and makes the new one.
+/// Conversions in order of their answers. A whole one asks for the size of the new file and that of the old one, reads
+/// its record 0 and then its records, and makes the new one.
 const ROWS: &[Row] = &[
     Row {
         title: "as many blocks as there may be",

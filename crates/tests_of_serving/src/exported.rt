@@ -54,8 +54,8 @@ fn file_of(alloc: Global, kind: Kind, format: Format, id: u32, rec: Rec) -> Opti
     Vec::from_slice(alloc, store.file("q")?).ok()
 }
 
-/// A store with the files `q` of users, `g` of groups and `p` of projects, of one format, whose calls fail that `failing`
-/// names.
+/// A store with the files `q` of users, `g` of groups and `p` of projects, of one format, whose calls fail that
+/// `failing` names.
 pub(crate) fn store_with(alloc: Global, format: Format, failing: &[u64]) -> Option<MemStore> {
     let users = file_of(alloc, Kind::User, format, 1000, USER)?;
     let groups = file_of(alloc, Kind::Group, format, 100, GROUP)?;

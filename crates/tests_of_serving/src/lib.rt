@@ -1,8 +1,8 @@
-//! Rows of what is done with whole files: conversions, and of rquota_serve quotas of records, exports, replies to datagrams,
-//! and datagrams that are served over a link.
+//! Rows of what is done with whole files: conversions, and of rquota_serve quotas of records, exports, replies to
+//! datagrams, and datagrams that are served over a link.
 //!
-//! The crate has tests and nothing else, so that these crates are proved once and not once more with their tests. A row is an
-//! element of a constant, and one small function plays all rows of a kind.
+//! The crate has tests and nothing else, so that these crates are proved once and not once more with their tests. A row
+//! is an element of a constant, and one small function plays all rows of a kind.
 #![tactic(auto)]
 
 #[cfg(test)]

@@ -78,8 +78,8 @@ pub(crate) fn all_bytes(alloc: Global, texts: &[Times]) -> Result<Vec<u8>, Alloc
     Ok(bytes)
 }
 
-/// Connections that come so, where calls of these numbers fail, whose reads take at most so many bytes, and none of which takes
-/// bytes before a cut and behind it.
+/// Connections that come so, where calls of these numbers fail, whose reads take at most so many bytes, and none of
+/// which takes bytes before a cut and behind it.
 pub(crate) fn came_as(
     alloc: Global,
     came: &[Came],

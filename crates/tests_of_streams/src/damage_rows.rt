@@ -16,8 +16,8 @@ const SILENT: Run<'static> = Run {
     written: &[&[]],
 };
 
-/// The files are damaged behind the opening, and a call asks for what the second one has. Each reference of its root lies past
-/// its last block then.
+/// The files are damaged behind the opening, and a call asks for what the second one has. Each reference of its root
+/// lies past its last block then.
 const DAMAGED: Run<'static> = Run {
     title: "the second file is damaged behind the opening",
     words: "0 2 any /srv user p /home user q",
@@ -43,7 +43,8 @@ fn turned(alloc: Global, good_reads: u64) -> Result<End, AllocError> {
     end_over(alloc, &DAMAGED, PLAIN, &mut store)
 }
 
-/// Whether a damage that is met behind the opening ends the run, is said of the first file, and leaves the connection open.
+/// Whether a damage that is met behind the opening ends the run, is said of the first file, and leaves the connection
+/// open.
 fn is_told_of_the_first_file(alloc: Global) -> Result<bool, AllocError> {
     let Some(good_reads) = reads_of_opening(alloc)? else {
         return Ok(false);

@@ -1,8 +1,8 @@
 //! Rows of streams: which records a marker gives of a stream, however that is cut into pieces, and what is written on
 //! connections that are served.
 //!
-//! The crate has tests and nothing else, so that what it tests is proved once and not once more with its tests. A row is an
-//! element of a constant, and one small function plays all rows of a kind.
+//! The crate has tests and nothing else, so that what it tests is proved once and not once more with its tests. A row
+//! is an element of a constant, and one small function plays all rows of a kind.
 #![tactic(auto)]
 
 #[cfg(test)]

@@ -3,8 +3,8 @@ use rpc_marks::{Marker, Step};
 use std::alloc::{AllocError, Global};
 use std::process::Abort;
 
-/// The words of a stream, and what is told of its records: each by its bytes or, where they are more than eight, by their number,
-/// with a comma behind it; and `long` where one is too long.
+/// The words of a stream, and what is told of its records: each by its bytes or, where they are more than eight, by
+/// their number, with a comma behind it; and `long` where one is too long.
 const ROWS: &[(&str, &str)] = &[
     ("80000003 'abc", "abc,"),
     ("80000000", ","),

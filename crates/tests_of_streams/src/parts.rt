@@ -20,8 +20,8 @@ fn count_of(digits: &str) -> u16 {
     digits.parse::<u16>().unwrap_or(u16::MAX)
 }
 
-/// Puts what a word says behind bytes: `'` begins a text, `*` a number of bytes `x`, and `+` a number of fragments of one byte
-/// `x`; any other word is a head in hexadecimal digits.
+/// Puts what a word says behind bytes: `'` begins a text, `*` a number of bytes `x`, and `+` a number of fragments of
+/// one byte `x`; any other word is a head in hexadecimal digits.
 fn put(bytes: &mut Vec<u8>, word: &str) -> Result<(), AllocError> {
     if let Some(text) = word.strip_prefix('\'') {
         bytes.extend_from_slice(text.as_bytes())?;

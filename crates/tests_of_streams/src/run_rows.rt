@@ -47,8 +47,8 @@ fn calls_of(alloc: Global, row: &Run<'_>, most: u64) -> u64 {
     most
 }
 
-/// Whether each call of the store that a run makes ends it where it fails, all its calls of `read` among them, and a call that
-/// is not made does not.
+/// Whether each call of the store that a run makes ends it where it fails, all its calls of `read` among them, and a
+/// call that is not made does not.
 fn is_ended_by_each(alloc: Global, row: &Run<'_>) -> bool {
     let count = calls_of(alloc, row, 100);
     let store: &[u64] = &[count.saturating_add(1)];
@@ -178,8 +178,8 @@ const RUNS: &[Run<'static>] = &[
     },
 ];
 
-/// The calls on connections of a run over one with two calls and one with one call, each of which fails in turn; and the
-/// status then, the port at which it listened, and what was written on each connection.
+/// The calls on connections of a run over one with two calls and one with one call, each of which fails in turn; and
+/// the status then, the port at which it listened, and what was written on each connection.
 const FAILING: &[(u64, u8, Option<u16>, &[&[Times]])] = &[
     (1, 4, None, &[&[], &[]]),
     (2, 4, Some(875), &[&[], &[]]),

@@ -12,8 +12,8 @@ pub(crate) const ONE: &[Came] = &[(1_700_000_000, ONE_CALL)];
 /// Two, with two calls and with one.
 pub(crate) const TWO: &[Came] = &[(1_700_000_000, TWO_CALLS), (1_700_000_000, ONE_CALL)];
 
-/// Words, the connections that come, and the calls on them that fail, from 1 on; and the status, the error line, the port at
-/// which it listened, and what was written on each connection.
+/// Words, the connections that come, and the calls on them that fail, from 1 on; and the status, the error line, the
+/// port at which it listened, and what was written on each connection.
 #[derive(Clone, Copy)]
 pub(crate) struct Run<'a> {
     pub(crate) title: &'static str,
@@ -26,8 +26,8 @@ pub(crate) struct Run<'a> {
     pub(crate) written: &'static [&'static [Times]],
 }
 
-/// The calls that fail of the store and of the error output, from 1 on, the most bytes that a read of a connection takes, and
-/// a cut over which no read goes.
+/// The calls that fail of the store and of the error output, from 1 on, the most bytes that a read of a connection
+/// takes, and a cut over which no read goes.
 #[derive(Clone, Copy)]
 pub(crate) struct Way<'a> {
     pub(crate) store: &'a [u64],
@@ -44,8 +44,8 @@ pub(crate) const PLAIN: Way<'static> = Way {
     cut: 0,
 };
 
-/// How a run went: its status, what was said, how many connections were closed, and whether a row's port and writings came of
-/// it.
+/// How a run went: its status, what was said, how many connections were closed, and whether a row's port and writings
+/// came of it.
 #[derive(Drop)]
 pub(crate) struct End {
     pub(crate) status: u8,

@@ -1,8 +1,8 @@
 use memory_network::MemConns;
 use rpc_record::{ConnFault, Conns};
 
-/// Connections in memory whose reads take no more than so many bytes, and none of which takes bytes before a cut and behind
-/// it. They count how many of them are closed.
+/// Connections in memory whose reads take no more than so many bytes, and none of which takes bytes before a cut and
+/// behind it. They count how many of them are closed.
 #[derive(Drop)]
 pub(crate) struct ShortReads {
     pub(crate) conns: MemConns,

@@ -2,7 +2,6 @@ use crate::calls::{
     ANSWER, BACK, CALL, FRONT, GRACE, MIDDLE, ONE_ANSWER, ONE_CALL, TWO_ANSWERS, TWO_CALLS, Times,
     USERS, came_as, have_written,
 };
-use crate::short_reads::ShortReads;
 use memory_objects::MemStore;
 use quota_types::{Format, Kind};
 use rpc_record::{StreamFault, serve_stream};
@@ -28,8 +27,8 @@ const FIFTY_LEFT: &[&str] = &[
     "00000400 00000001 00000000 00000001 00000002 00000000 00000000 00000001 00000032 00000000",
 ];
 
-/// The connections that come, by their moments and what they bring, the calls that fail, how many connections are asked for,
-/// how serving ends, and what was written on each connection.
+/// The connections that come, by their moments and what they bring, the calls that fail, how many connections are asked
+/// for, how serving ends, and what was written on each connection.
 struct Row {
     title: &'static str,
     came: &'static [(u64, &'static [Times])],
@@ -187,7 +186,8 @@ const SIZES: &[usize] = &[1, 3, 84, 4095, 5000];
 /// A connection with two calls, and one with one call.
 const THREE_CALLS: &[(u64, &[Times])] = &[(1_700_000_000, TWO_CALLS), (1_700_000_000, ONE_CALL)];
 
-/// Rows in which a call fails, where each read takes what the server asks for. Behind the first row each call fails in turn.
+/// Rows in which a call fails, where each read takes what the server asks for. Behind the first row each call fails in
+/// turn.
 const FAILING_ROWS: &[Row] = &[
     Row {
         title: "a record that is too long, a read that fails, and two calls",

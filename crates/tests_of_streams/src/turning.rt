@@ -3,7 +3,8 @@ use memory_objects::MemStore;
 use outside::{Store, StoreFault};
 use std::alloc::{AllocError, Global};
 
-/// A store in memory with the users in the files `p` and `q`, whose bytes turn into 255 behind so many reads. It tells nothing.
+/// A store in memory with the users in the files `p` and `q`, whose bytes turn into 255 behind so many reads. It tells
+/// nothing.
 #[derive(Drop)]
 pub(crate) struct Turning {
     store: MemStore,

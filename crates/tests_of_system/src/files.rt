@@ -3,6 +3,7 @@ use std::alloc::Global;
 use std::fs::{File, Files, OpenOptions};
 use std::os::unix::fs::FileExt;
 use std::process::Abort;
+use std::time::Clock;
 use std::{fs, io};
 use system_objects::FileDisk;
 
@@ -114,7 +115,7 @@ fn fill(bytes: &mut Vec<u8>, at: usize, len: usize, value: u8) -> io::Result<()>
 }
 
 /// Whether a step goes as it should where the file has these bytes, which are changed along with it.
-fn goes<R: Files<File = File> + Eprint>(
+fn goes<R: Files<File = File> + Eprint + Clock>(
     files: &R,
     disk: &mut FileDisk<'_, R>,
     bytes: &mut Vec<u8>,
@@ -135,7 +136,7 @@ fn goes<R: Files<File = File> + Eprint>(
 }
 
 /// The first step that does not go as it should.
-fn first_wrong<R: Files<File = File> + Eprint>(
+fn first_wrong<R: Files<File = File> + Eprint + Clock>(
     alloc: Global,
     files: &R,
     steps: &[Step],
@@ -152,7 +153,11 @@ fn first_wrong<R: Files<File = File> + Eprint>(
     Ok(None)
 }
 
-fn expect_steps<R: Files<File = File> + Eprint + Abort>(alloc: Global, rt: &R, steps: &[Step]) {
+fn expect_steps<R: Files<File = File> + Eprint + Clock + Abort>(
+    alloc: Global,
+    rt: &R,
+    steps: &[Step],
+) {
     let found = first_wrong(alloc, rt, steps);
     assert!(rt; matches!(found, Ok(None)), "{found:?}");
 }

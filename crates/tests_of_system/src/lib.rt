@@ -1,5 +1,5 @@
-//! The objects outside as the system has them, over real files and sockets: a disk, its files, a link over UDP, connections
-//! over TCP, and a peer over UDP. What is done with the latter two is also done with those in memory.
+//! The objects outside as the system has them, over real files and sockets: a disk, its files, a link over UDP,
+//! connections over TCP, and a peer over UDP. What is done with the latter two is also done with those in memory.
 //!
 //! The crate has tests and nothing else, and is told apart from the whole runs, so that neither is large.
 #![tactic(auto)]

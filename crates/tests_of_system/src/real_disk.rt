@@ -2,6 +2,7 @@ use disk::{Disk, DiskFault};
 use std::alloc::Global;
 use std::fs::{File, Files};
 use std::process::Abort;
+use std::time::Clock;
 use std::{fs, io};
 use system_objects::FileDisk;
 
@@ -49,8 +50,8 @@ enum Step {
 
 use Step::{Create, Cut, Hold, Rename, Show, Stay, Sync, Write};
 
-/// What is absent, then a file that is made, written, cut and renamed, and one that takes its place; then an undo file beside
-/// it, and three files in turn, of which two stay open.
+/// What is absent, then a file that is made, written, cut and renamed, and one that takes its place; then an undo file
+/// beside it, and three files in turn, of which two stay open.
 const STEPS: &[Step] = &[
     Hold(ONE, None),
     Sync(ONE),
@@ -152,7 +153,7 @@ fn holds<D: Disk>(disk: &mut D, name: &str, wanted: Found) -> bool {
 }
 
 /// Whether a step goes as it should.
-fn goes<R: Files<File = File> + Eprint>(
+fn goes<R: Files<File = File> + Eprint + Clock>(
     alloc: Global,
     files: &R,
     disk: &mut FileDisk<'_, R>,
@@ -171,7 +172,7 @@ fn goes<R: Files<File = File> + Eprint>(
 }
 
 /// The first step that does not go as it should. Three files are in the folder behind the last one, and no others.
-fn first_wrong<R: Files<File = File> + Eprint>(
+fn first_wrong<R: Files<File = File> + Eprint + Clock>(
     alloc: Global,
     files: &R,
     steps: &[Step],
@@ -190,7 +191,11 @@ fn first_wrong<R: Files<File = File> + Eprint>(
     Ok(None)
 }
 
-fn expect_steps<R: Files<File = File> + Eprint + Abort>(alloc: Global, rt: &R, steps: &[Step]) {
+fn expect_steps<R: Files<File = File> + Eprint + Clock + Abort>(
+    alloc: Global,
+    rt: &R,
+    steps: &[Step],
+) {
     let found = first_wrong(alloc, rt, steps);
     assert!(rt; matches!(found, Ok(None)), "{found:?}");
 }

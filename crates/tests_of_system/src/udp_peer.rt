@@ -28,8 +28,8 @@ fn asker(server: &UdpSocket, call: &[u8]) -> io::Result<Option<SocketAddr>> {
     }
 }
 
-/// Whether a call reaches the server, and a peer gives its answer and not that of a stranger which came first. The answer is
-/// in the socket before it is asked for.
+/// Whether a call reaches the server, and a peer gives its answer and not that of a stranger which came first. The
+/// answer is in the socket before it is asked for.
 fn goes<R: Net + Clock>(
     peer: &mut UdpPeer<'_, R>,
     server: &UdpSocket,
@@ -56,8 +56,8 @@ fn is_quiet<R: Net + Clock>(rt: &R, peer: &mut UdpPeer<'_, R>) -> io::Result<boo
     Ok(is_sent && is_quiet && time >= Duration::from_secs(2) && time < Duration::from_secs(10))
 }
 
-/// Whether a peer that is started sends calls and gives the answers of its server, one after another, and a quiet once the
-/// server is gone.
+/// Whether a peer that is started sends calls and gives the answers of its server, one after another, and a quiet once
+/// the server is gone.
 fn all_go<R: Net + Clock>(rt: &R, answers: &[(&[u8], &[u8])]) -> io::Result<bool> {
     let mut peer = UdpPeer::new(rt);
     let server = UdpSocket::bind(rt, (Ipv4Addr::LOCALHOST, 0))?;

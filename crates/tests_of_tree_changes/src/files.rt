@@ -13,8 +13,8 @@ pub(crate) type Number = (usize, usize, u32);
 /// A file of this many blocks: the six-block file with these numbers over its own, list after list.
 pub(crate) type Described = (usize, &'static [&'static [Number]]);
 
-/// The six-block file: vfsv1, block 5 alone in the entry list, and the way of identifier 1000 over the blocks 1 to 4 to its
-/// entry, which is the first one of block 5.
+/// The six-block file: vfsv1, block 5 alone in the entry list, and the way of identifier 1000 over the blocks 1 to 4 to
+/// its entry, which is the first one of block 5.
 #[rattlefmt::skip]
 const SIX: &[Number] = &[
     (0, 0, 0xd9c0_1f11), (0, 4, 1), (0, 8, 604_800), (0, 12, 604_800), (0, 20, 6), (0, 28, 5),

@@ -54,8 +54,8 @@ fn expect_orders(rt: &impl Abort, alloc: Global, orders: u32, seed: u32) {
     }
 }
 
-/// What goes wrong where the identifiers are removed in the order that the numbers from this one on choose, or nothing. None
-/// where there is not enough memory, or the file is not opened.
+/// What goes wrong where the identifiers are removed in the order that the numbers from this one on choose, or nothing.
+/// None where there is not enough memory, or the file is not opened.
 fn end_of(alloc: Global, number: &mut u32) -> Option<&'static str> {
     let file = full_file(alloc).ok()?;
     let mut store = store_of(alloc, file.as_slice(), &[]).ok()?;

@@ -1,8 +1,8 @@
 use quota_types::{Entry, Rec};
 use std::alloc::{AllocError, Global};
 
-/// What a tree file has to hold after a row of changes, and how many blocks it has to have then, by lists that are searched
-/// from the front.
+/// What a tree file has to hold after a row of changes, and how many blocks it has to have then, by lists that are
+/// searched from the front.
 #[derive(Drop)]
 pub(crate) struct Plain {
     alloc: Global,
@@ -88,8 +88,8 @@ impl Plain {
         self.homes.iter().filter(|of| of.1 == home).count()
     }
 
-    /// How many blocks are in use: the header, the root, a tree block for each beginning of an identifier of one, two or
-    /// three bytes, and the data blocks.
+    /// How many blocks are in use: the header, the root, a tree block for each beginning of an identifier of one, two
+    /// or three bytes, and the data blocks.
     fn used(&self) -> usize {
         let mut used = self.data_blocks().saturating_add(2);
         for bits in [8, 16, 24] {
@@ -98,7 +98,8 @@ impl Plain {
         used
     }
 
-    /// How many data blocks there are: those with an unused entry, and one for each entry that is the first of a full one.
+    /// How many data blocks there are: those with an unused entry, and one for each entry that is the first of a full
+    /// one.
     fn data_blocks(&self) -> usize {
         let mut full = 0usize;
         for home in 1..=self.begun {

@@ -38,8 +38,8 @@ const ROOM: &[RoomRow] = &[
     RoomRow { title: "all but header and root", blocks: 2, numbers: NO_RECORDS, id: 1000, takes: 4 },
 ];
 
-/// Expects the record of each row to be written where the blocks that it takes and that are not free fit into the limit, and
-/// otherwise to be refused.
+/// Expects the record of each row to be written where the blocks that it takes and that are not free fit into the
+/// limit, and otherwise to be refused.
 fn expect_room(rt: &impl Abort, alloc: Global, rows: &[RoomRow]) {
     for row in rows {
         for free in 0..=FREE {
@@ -49,7 +49,8 @@ fn expect_room(rt: &impl Abort, alloc: Global, rows: &[RoomRow]) {
     }
 }
 
-/// What is wrong where this many blocks are free, or nothing; None where there is not enough memory, or the file is not opened.
+/// What is wrong where this many blocks are free, or nothing; None where there is not enough memory, or the file is not
+/// opened.
 fn wrong_with(alloc: Global, row: &RoomRow, free: u32) -> Option<&'static str> {
     let file = with_free(alloc, row, free).ok()?;
     let least = row.blocks.saturating_add(row.takes.max(free));

@@ -118,8 +118,8 @@ const FREE_6: &[Number] = &[(0, 20, 7), (0, 24, 6)];
 /// The blocks 7 and 6 are free, in this order.
 const FREE_7_AND_6: &[Number] = &[(0, 20, 8), (0, 24, 7), (7, 0, 6)];
 
-/// Nothing but the header and the root is used: the list of free blocks has the data block first, and then the tree blocks
-/// from the root on.
+/// Nothing but the header and the root is used: the list of free blocks has the data block first, and then the tree
+/// blocks from the root on.
 #[rattlefmt::skip]
 const ALL_FREE: &[Number] = &[
     (0, 24, 5), (0, 28, 0), (1, 0, 0), (5, 0, 2), (2, 0, 3), (3, 0, 4), (3, 12, 0), (5, 8, 0),
@@ -171,7 +171,8 @@ pub(crate) const CHANGES: &[ChangeRow] = &[
         title: "the free blocks are taken in their order, and then one behind the last one",
         before: (8, &[FREE_7_AND_6]), act: Act::Put(u32::MAX, ONE),
         after: (9, &[&[
-            (0, 20, 9), (1, 1020, 7), (7, 1020, 6), (6, 1020, 8), (8, 1020, 5), (5, 8, 2), (5, 88, u32::MAX), (5, 112, 1),
+            (0, 20, 9), (1, 1020, 7), (7, 1020, 6), (6, 1020, 8), (8, 1020, 5), (5, 8, 2), (5, 88, u32::MAX), (5,
+                112, 1),
         ]]), writes: 6,
     },
     ChangeRow {
@@ -209,7 +210,8 @@ pub(crate) const CHANGES: &[ChangeRow] = &[
     ChangeRow {
         title: "the first block of the entry list is emptied",
         before: (8, &[THREE_LISTED]), act: Act::Remove(1000),
-        after: (8, &[THREE_LISTED, WITHOUT_1000, &[(0, 24, 5), (0, 28, 6), (5, 0, 0), (5, 8, 0), (6, 4, 0)]]), writes: 4,
+        after: (8,
+            &[THREE_LISTED, WITHOUT_1000, &[(0, 24, 5), (0, 28, 6), (5, 0, 0), (5, 8, 0), (6, 4, 0)]]), writes: 4,
     },
     ChangeRow {
         title: "a block amid the entry list is emptied: its neighbours name each other",

@@ -71,8 +71,8 @@ fn is_got(opened: &mut TreeFile, store: &mut MemStore, id: u32, rec: Option<Rec>
     get(opened, store, id) == Some(Ok(rec))
 }
 
-/// The change that a number gives: of 80 identifiers from 1000 on and 80 that are spread over all of them, one gets a record
-/// or loses it. In every second run of 250 steps four of five changes are removals, and otherwise one is.
+/// The change that a number gives: of 80 identifiers from 1000 on and 80 that are spread over all of them, one gets a
+/// record or loses it. In every second run of 250 steps four of five changes are removals, and otherwise one is.
 fn change_of(step: u32, number: u32) -> (u32, Option<Rec>) {
     let drawn = number / 65_536;
     let id = id_of(drawn % 160);

@@ -138,7 +138,8 @@ fn is_of(alloc: Global, file: &[u8], format: Format, list: &[Entry]) -> Result<b
     }
 }
 
-/// How many identifiers there are and how far apart, and how many blocks they need; and which data block has room, or 0.
+/// How many identifiers there are and how far apart, and how many blocks they need; and which data block has room,
+/// or 0.
 type NeededRow = (Format, u32, u32, u32, u32);
 
 /// Expects each file to have the blocks that its row says.

@@ -162,28 +162,37 @@ fn a_file_with_nothing_wrong_is_accepted(rt: HostRuntime) {
 #[rattlefmt::skip]
 const DAMAGED: &[CheckRow] = &[
     CheckRow { title: "a file without its last byte", file: (6143, &[]), answers: &[Named(Short, 5, 0)] },
-    CheckRow { title: "more blocks than the file has", file: (6144, &[&[(BLOCKS, u32::MAX)]]), answers: &[Named(Short, 6, 0)] },
-    CheckRow { title: "a block that nothing leads to", file: (7168, &[&[(BLOCKS, 7)]]), answers: &[Named(NoRole, 6, 0)] },
-    CheckRow { title: "a reference past the last block", file: (6144, &[&[(2044, 6)]]), answers: &[Named(RefOut, 1, 0)] },
+    CheckRow { title: "more blocks than the file has",
+        file: (6144, &[&[(BLOCKS, u32::MAX)]]), answers: &[Named(Short, 6, 0)] },
+    CheckRow { title: "a block that nothing leads to",
+        file: (7168, &[&[(BLOCKS, 7)]]), answers: &[Named(NoRole, 6, 0)] },
+    CheckRow { title: "a reference past the last block",
+        file: (6144, &[&[(2044, 6)]]), answers: &[Named(RefOut, 1, 0)] },
     CheckRow { title: "the root at the head of the free list", file: (6144, &[&[(FREE, 1)]]),
         answers: &[Named(TwoRoles, 1, 0), Named(TwoRoles, 2, 0), Named(TwoRoles, 3, 0)] },
     CheckRow { title: "no leaf", file: (6144, &[&[(5024, 0)]]),
         answers: &[Named(EmptyTree, 4, 0), Named(NoRole, 5, 0), Named(ForeignInChain, 5, 0)] },
     CheckRow { title: "the head of the entry list past the last block", file: (6144, &[&[(FIRST, 6)]]),
         answers: &[Named(ChainOut, 6, 0), Named(MissingInChain, 5, 0)] },
-    CheckRow { title: "a listed block that is behind itself", file: (6144, &[&[(NEXT, 5)]]), answers: &[Named(ChainLoop, 5, 0)] },
+    CheckRow { title: "a listed block that is behind itself",
+        file: (6144, &[&[(NEXT, 5)]]), answers: &[Named(ChainLoop, 5, 0)] },
     CheckRow { title: "the root behind a listed block", file: (6144, &[&[(NEXT, 1)]]),
         answers: &[Named(ForeignInChain, 1, 0), Named(ForeignInChain, 2, 0), Named(ForeignInChain, 3, 0),
             Named(BadPrev, 1, 0), Named(BadPrev, 2, 0), Named(BadPrev, 3, 0)] },
-    CheckRow { title: "a block with room that is not listed", file: (6144, &[&[(FIRST, 0)]]), answers: &[Named(MissingInChain, 5, 0)] },
-    CheckRow { title: "a full block that is listed", file: (6144, &[FULL, &[(FIRST, 5)]]), answers: &[Named(ForeignInChain, 5, 0)] },
-    CheckRow { title: "a block before the first one", file: (6144, &[&[(PREVIOUS, 1)]]), answers: &[Named(BadPrev, 5, 0)] },
+    CheckRow { title: "a block with room that is not listed",
+        file: (6144, &[&[(FIRST, 0)]]), answers: &[Named(MissingInChain, 5, 0)] },
+    CheckRow { title: "a full block that is listed",
+        file: (6144, &[FULL, &[(FIRST, 5)]]), answers: &[Named(ForeignInChain, 5, 0)] },
+    CheckRow { title: "a block before the first one",
+        file: (6144, &[&[(PREVIOUS, 1)]]), answers: &[Named(BadPrev, 5, 0)] },
     CheckRow { title: "a count that is too great", file: (6144, &[&[(STATED, 2)]]), answers: &[Named(BadCount, 5, 0)] },
     CheckRow { title: "the entry of another identifier", file: (6144, &[&[(ENTRY, 1001)]]),
         answers: &[Named(MissingEntry, 5, 1000), Named(StrayEntry, 5, 1001)] },
-    CheckRow { title: "a second entry, to which nothing leads", file: (6144, &[&[(ENTRY + 72, 5), (ENTRY + 96, 1), (STATED, 2)]]),
+    CheckRow { title: "a second entry, to which nothing leads", file: (6144,
+        &[&[(ENTRY + 72, 5), (ENTRY + 96, 1), (STATED, 2)]]),
         answers: &[Named(StrayEntry, 5, 5)] },
-    CheckRow { title: "two entries of one identifier", file: (6144, &[&[(ENTRY + 72, 1000), (ENTRY + 96, 1), (STATED, 2)]]),
+    CheckRow { title: "two entries of one identifier", file: (6144,
+        &[&[(ENTRY + 72, 1000), (ENTRY + 96, 1), (STATED, 2)]]),
         answers: &[Named(DoubleEntry, 5, 1000)] },
 ];
 
@@ -225,8 +234,8 @@ fn each_damage_is_named_where_the_file_is_opened(rt: HostRuntime) {
 /// Identifiers that are looked up: those of the rows, and the first and the last one.
 const IDS: &[u32] = &[0, 5, 1000, 1001, u32::MAX];
 
-/// The six-block file, opened with nothing wrong, and the store that it is read from behind that, in which it has a row's
-/// changes; None where there is not enough memory.
+/// The six-block file, opened with nothing wrong, and the store that it is read from behind that, in which it has a
+/// row's changes; None where there is not enough memory.
 fn opened_before(alloc: Global, row: &CheckRow) -> Option<(TreeFile, MemStore)> {
     let sound = made(alloc, 6144, &[]).ok()?;
     let mut store = store_of(alloc, sound.as_slice(), &[]).ok()?;
@@ -279,8 +288,8 @@ fn a_damage_behind_the_opening_is_named_or_not_met(rt: HostRuntime) {
     expect_look_ups(&rt, rt.alloc(), DAMAGED);
 }
 
-/// Files with nothing wrong, each with a number that the reads of a check don't pass: two for each block of the tree, the
-/// header or the data.
+/// Files with nothing wrong, each with a number that the reads of a check don't pass: two for each block of the tree,
+/// the header or the data.
 const READ: &[(&str, SixBlocks, u64)] = &[
     ("no block is free", (7168, &[&[(BLOCKS, 6), (FREE, 0)]]), 12),
     ("block 6 is free", (7168, &[&[(BLOCKS, 7), (FREE, 6)]]), 12),

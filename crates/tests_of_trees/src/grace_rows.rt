@@ -135,8 +135,8 @@ fn grace_periods_are_set_by_one_write_where_they_stand(rt: HostRuntime) {
     expect_graced(&rt, rt.alloc(), GRACED);
 }
 
-/// The calls of the store that setting the periods makes, and whether the file is the new one where one of them fails: the
-/// read of the first block, the write and the sync.
+/// The calls of the store that setting the periods makes, and whether the file is the new one where one of them fails:
+/// the read of the first block, the write and the sync.
 const FAILING: &[(u64, bool)] = &[(1, false), (2, false), (3, true)];
 
 /// Expects the file to be the old or the new one where a call of the store fails, and not to be used any more.
@@ -153,7 +153,8 @@ fn expect_old_or_new_in(rt: &impl Abort, alloc: Global, row: &GraceRow) {
     }
 }
 
-/// What is wrong after a call of the store behind the opening has failed, or nothing; None where the file is not opened.
+/// What is wrong after a call of the store behind the opening has failed, or nothing; None where the file is not
+/// opened.
 fn wrong_at(alloc: Global, row: &GraceRow, call: u64, is_new: bool) -> Option<&'static str> {
     let (len, changes) = row.file;
     let file = made(alloc, len, changes).ok()?;

@@ -1,5 +1,5 @@
-//! What is wrong with a tree file, found by following the definitions word by word: whole lists of paths, lists of blocks
-//! that are searched from the front, and counts. It is as slow as that, and serves small files.
+//! What is wrong with a tree file, found by following the definitions word by word: whole lists of paths, lists of
+//! blocks that are searched from the front, and counts. It is as slow as that, and serves small files.
 
 ghost use Rattle.std.specs.Prelude.{◌≤◌};
 
@@ -253,7 +253,8 @@ impl Plain<'_> {
         note(defects, is_lower && empty, DamageKind::EmptyTree, block, 0)
     }
 
-    /// What is wrong with the references of each block of the tree: `tree_blocks`, of which `lower_blocks` may not be empty.
+    /// What is wrong with the references of each block of the tree: `tree_blocks`, of which `lower_blocks` may not be
+    /// empty.
     fn of_tree(&self, defects: &mut Vec<Damage>) -> Result<(), AllocError> {
         self.of_tree_block(defects, 1, false)?;
         for block in self.lower_blocks()?.iter() {

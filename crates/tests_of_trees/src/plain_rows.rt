@@ -152,8 +152,8 @@ fn a_plain_program_finds_what_check_names(rt: HostRuntime) {
     expect_agreement(&rt, rt.alloc(), SIX_OR_SEVEN);
 }
 
-/// Places of the seven-block file of vfsv0 where numbers stand that a check reads: of the header, of the tree, and of the
-/// first, the second and the last entry of both data blocks.
+/// Places of the seven-block file of vfsv0 where numbers stand that a check reads: of the header, of the tree, and of
+/// the first, the second and the last entry of both data blocks.
 const PLACES_OF_VFSV0: &[usize] = &[
     FREE, FIRST, 1024, 2048, 3084, 4096, 4100, 4176, 4180, 5024, 5104, 5108, NEXT, PREVIOUS,
     STATED, ENTRY, 5184, 6096, 6144, 6152, 6160, 7120,

@@ -144,7 +144,8 @@ const ENTRY_WITH_LIMITS: &[Change] = &[
     (ENTRY + 48, 0),
 ];
 
-/// The numbers of the six-block file once identifier 65536 has the soft limit: the tree blocks 6 and 7 lead to its entry.
+/// The numbers of the six-block file once identifier 65536 has the soft limit: the tree blocks 6 and 7 lead to its
+/// entry.
 #[rattlefmt::skip]
 const WITH_65536: &[Change] = &[
     (BLOCKS, 8), (2052, 6), (6144, 7), (7168, 5), (STATED, 2), (ENTRY + 72, 65_536), (ENTRY + 112, 1),

@@ -236,8 +236,8 @@ pub(crate) fn header_of(file: &[u8]) -> Result<Header, HeaderFault> {
     read_header(&block, Kind::User)
 }
 
-/// What a check of a file of users answers, of which the calls of the store with these numbers fail, and how many blocks
-/// it read. A file without a header is no file of these rows.
+/// What a check of a file of users answers, of which the calls of the store with these numbers fail, and how many
+/// blocks it read. A file without a header is no file of these rows.
 pub(crate) fn checked_failing(
     alloc: Global,
     file: &[u8],

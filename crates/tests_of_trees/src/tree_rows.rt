@@ -221,8 +221,8 @@ fn expect_lookups(rt: &impl Abort, alloc: Global, rows: &[LookupRow]) {
     }
 }
 
-/// The first identifier with another record than its row says, and the first look-up of a next one that is another; None
-/// where the file is not opened.
+/// The first identifier with another record than its row says, and the first look-up of a next one that is another;
+/// None where the file is not opened.
 fn wrong_in(alloc: Global, row: &LookupRow) -> Option<(Option<u32>, Option<Option<u32>>)> {
     let (len, changes) = row.file;
     let file = made(alloc, len, changes).ok()?;

@@ -1,5 +1,5 @@
-//! What rows of several crates share: a store with one file, opened files made of entries, changes of them, and what they
-//! hold. It is only for tests.
+//! What rows of several crates share: a store with one file, opened files made of entries, changes of them, and what
+//! they hold. It is only for tests.
 #![tactic(auto)]
 
 mod opened_files;

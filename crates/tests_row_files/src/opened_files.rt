@@ -18,8 +18,8 @@ pub fn store_of(alloc: Global, file: &[u8], failing: &[u64]) -> Result<MemStore,
     Ok(MemStore::new(files, Vec::from_slice(alloc, failing)?))
 }
 
-/// What the format keeps of entries, up to the first that has no greater identifier than the one before it, or for which
-/// the format has no room.
+/// What the format keeps of entries, up to the first that has no greater identifier than the one before it, or for
+/// which the format has no room.
 pub fn ordered(alloc: Global, format: Format, list: &[Entry]) -> Result<Vec<Entry>, AllocError>
     ensures ascending { IfOk result (λ list. IsStrictlyIncreasing (ids_of list.items)) }
     ensures fits { IfOk result (λ list. All (λ entry. unfit format entry.id entry.rec ≡ None) list.items) }
@@ -140,7 +140,8 @@ pub fn next_after<F: QuotaFile<MemStore>>(
     Some(file.next_after(store, after))
 }
 
-/// Whether an opened file has these entries and no others: each is the next one after the one before it, and is looked up.
+/// Whether an opened file has these entries and no others: each is the next one after the one before it, and is looked
+/// up.
 pub fn holds_entries<F: QuotaFile<MemStore>>(
     file: &mut F,
     store: &mut MemStore,

@@ -169,8 +169,8 @@ fn kept_or_file<'a>(
     }
 }
 
-/// Adds the bytes that were kept under a name, or else those that a file of this name has now, as often as a number behind
-/// the name says, or once. Where there is no name, it adds none.
+/// Adds the bytes that were kept under a name, or else those that a file of this name has now, as often as a number
+/// behind the name says, or once. Where there is no name, it adds none.
 pub(crate) fn add_kept(stage: &mut Stage, rest: &str) -> Checked {
     if rest.is_empty() {
         return Ok(());

@@ -1,7 +1,7 @@
 /// What each story may use: the file of vfsv1 with six blocks, of which identifier 1000 uses 4,096 bytes and one inode
-/// (`six`); the same without its last byte (`short`); with one more block, by which identifier 65534 is found in the same
-/// data block, with 8,192 bytes and two inodes (`seven`); the header of an empty file of vfsv1 with periods of a week
-/// (`empty`); the file of six blocks with a soft limit of blocks that identifier 1000 exceeds (`timed`).
+/// (`six`); the same without its last byte (`short`); with one more block, by which identifier 65534 is found in the
+/// same data block, with 8,192 bytes and two inodes (`seven`); the header of an empty file of vfsv1 with periods of a
+/// week (`empty`); the file of six blocks with a soft limit of blocks that identifier 1000 exceeds (`timed`).
 pub const FILES: &str = "\
 = files of other rows
 fill 0 6143

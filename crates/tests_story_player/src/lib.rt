@@ -5,10 +5,10 @@
 //! first table gathers bytes, one of the second makes them a file or an input, or says what the next run meets, one of
 //! the third runs words, and one of the fourth says what the run before it left. What a run wrote that no line tells,
 //! a status but 0 that no line tells, and a file that it made, changed or took away and that no line names, fail the
-//! row. So does a word or a number that is misspelt, what was gathered or set and is of no use, and an input that is not
-//! taken to its end by a run that ends with status 0 or has an output. Of files it looks at those that were there before
-//! and at those that a word of the run names, or of the lines of a script, and at each with `.new` added; no line may name
-//! another one.
+//! row. So does a word or a number that is misspelt, what was gathered or set and is of no use, and an input that is
+//! not taken to its end by a run that ends with status 0 or has an output. Of files it looks at those that were there
+//! before and at those that a word of the run names, or of the lines of a script, and at each with `.new` added; no
+//! line may name another one.
 //!
 //! | Gathers | |
 //! |---|---|

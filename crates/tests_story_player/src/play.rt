@@ -3,8 +3,8 @@ use tests_story_lines::{gather, is_all_told, is_all_used, set_up, tell};
 use tests_story_runs::run;
 use tests_story_stage::{Checked, NO_LINE, Program, Stage, VERBS, Verb, Wrong, by_word, unmet};
 
-/// What fails in stories that are carried out one after the other, in words: the title of the row, the line that does not
-/// hold, and what was there instead. `None` where all of them hold. What a story keeps is there in those behind it.
+/// What fails in stories that are carried out one after the other, in words: the title of the row, the line that does
+/// not hold, and what was there instead. `None` where all of them hold. What a story keeps is there in those behind it.
 pub fn failure_of<P: Program>(
     program: &P,
     alloc: Global,

@@ -97,7 +97,8 @@ fn recover<P: Program>(
     })
 }
 
-/// Reads these files on a disk that stops at a call, where a whole recovery leaves this, and answers the files that are left.
+/// Reads these files on a disk that stops at a call, where a whole recovery leaves this, and answers the files that are
+/// left.
 fn recover_in_part<P: Program>(
     program: &P,
     stage: &Stage,

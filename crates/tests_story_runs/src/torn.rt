@@ -8,8 +8,8 @@ const BLOCK: usize = 1024;
 /// The last two bytes of the magic number of a tree file, of users or of groups.
 const MAGIC_END: [u8; 2] = [0xc0, 0xd9];
 
-/// Whether each block of a tree file that is left is one that the file had before, or has in the new file, or in one that a
-/// line allows.
+/// Whether each block of a tree file that is left is one that the file had before, or has in the new file, or in one
+/// that a line allows.
 pub(crate) fn is_torn(stage: &Stage, name: &str, new: Option<&[u8]>, left: Option<&[u8]>) -> bool {
     match (find(&stage.files, name), new, left) {
         (Some(old), Some(new), Some(left)) => {

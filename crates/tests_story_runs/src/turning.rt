@@ -14,8 +14,8 @@ fn are_files_kept(stage: &Stage, ran: &Ran) -> bool {
     is_kept
 }
 
-/// A run over a store that turned. Where it ends with status 0, what it left is not compared: a change in place writes what
-/// it read, and a store that turns tells no file.
+/// A run over a store that turned. Where it ends with status 0, what it left is not compared: a change in place writes
+/// what it read, and a store that turns tells no file.
 fn is_turned(stage: &Stage, whole: &Ran, ran: &Ran) -> Checked {
     let alloc = stage.alloc;
     if ran.status == 0 {

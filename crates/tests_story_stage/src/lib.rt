@@ -1,6 +1,6 @@
-//! What the lines of a story work on: the bytes that were gathered, the files, what the next run meets, and what the last
-//! one left; the verbs of lines, and why a line does not hold; and how words are run once, over a store in memory. It is
-//! only for tests.
+//! What the lines of a story work on: the bytes that were gathered, the files, what the next run meets, and what the
+//! last one left; the verbs of lines, and why a line does not hold; and how words are run once, over a store in memory.
+//! It is only for tests.
 #![tactic(auto)]
 
 mod conditions;

@@ -3,7 +3,8 @@ use Rattle.std.specs.Prelude.{◌≡◌, ℕ, ◌+◌, ◌/◌, ◌≤◌, ◌==
 use Rattle.std.specs.List.{AllByRecursion}
 use Rattle.quota_types.specs.Times.{StandsIn}
 
--- how many more beginnings there are once an identifier comes after the last one: none where both begin alike, and otherwise one
+-- how many more beginnings there are once an identifier comes after the last one: none where both begin alike, and
+-- otherwise one
 abbrev pub new_beginnings : (divisor : ℕ) → Option ℕ → ℕ → ℕ
 new_beginnings divisor None id = 1
 new_beginnings divisor (Some last) id = if last / divisor == id / divisor then 0 else 1

@@ -38,8 +38,8 @@ pub record IsFullTreeBlock (file : List ℕ) (blocks block : ℕ) : Type 0 where
 abbrev pub AreBelow : ℕ → List TreePath → Type 0
 AreBelow bound paths = AllByRecursion (λ (path : TreePath). path.number < bound) paths
 
--- The paths that go on from some are others, and each block to which one of the first leads has references, none past the
--- last block.
+-- The paths that go on from some are others, and each block to which one of the first leads has references, none past
+-- the last block.
 pub record IsLevel (file : List ℕ) (blocks : ℕ) (parents children : List TreePath) : Type 0 where
   pub onward : flat_map (steps file blocks) parents ≡ children
   pub full : AllByRecursion (λ (path : TreePath). IsFullTreeBlock file blocks path.block) parents
@@ -68,8 +68,8 @@ parts_of format entries first count = map (part_of format entries first) (range_
 abbrev pub parts_needed : Format → List Entry → ℕ
 parts_needed format entries = filled_blocks (entries_per_block format) (length entries)
 
--- A block has these entries and no other, names no block before or behind it, states their number, has room where they are
--- fewer than it can have, and is 0 where no field is.
+-- A block has these entries and no other, names no block before or behind it, states their number, has room where they
+-- are fewer than it can have, and is 0 where no field is.
 pub record IsDataBlock (format : Format) (block : List ℕ) (entries : List Entry) : Type 0 where
   pub used : used_entries format block ≡ entries
   pub next : number_at 4 block 0 ≡ 0
@@ -77,8 +77,10 @@ pub record IsDataBlock (format : Format) (block : List ℕ) (entries : List Entr
   pub stated : number_at 2 block 8 ≡ length entries
   pub room : has_unused format block ≡ nat_lt (length entries) (entries_per_block format)
   pub behind_count : (at : ℕ) → 10 ≤ at → at < 16 → byte_at block at ≡ 0
-  pub in_entries : (place : ℕ) → place < entries_per_block format → padding_of format (entry_bytes format block place) ≡ 0
+  pub in_entries : (place : ℕ) → place < entries_per_block format
+      → padding_of format (entry_bytes format block place) ≡ 0
 
 -- each data block of a file has its entries
 abbrev pub AreDataBlocks : Format → List ℕ → List Part → Type 0
-AreDataBlocks format file parts = AllByRecursion (λ (part : Part). IsDataBlock format (block_of file part.block) part.entries) parts
+AreDataBlocks format file parts =
+    AllByRecursion (λ (part : Part). IsDataBlock format (block_of file part.block) part.entries) parts

@@ -1,4 +1,5 @@
-ghost use Rattle.std.specs.Prelude.{◌≡◌, ◌*◌, ◌+◌, ◌/◌, ◌%◌, ◌<◌, ◌≤◌, ◌^◌, ◌==◌, if◌then◌else◌, None, All, length, vec_len, IfOk, IfErr, OnOk};
+ghost use Rattle.std.specs.Prelude.{◌≡◌, ◌*◌, ◌+◌, ◌/◌, ◌%◌, ◌<◌, ◌≤◌, ◌^◌, ◌==◌, if◌then◌else◌, None, All, length};
+ghost use Rattle.std.specs.Prelude.{vec_len, IfOk, IfErr, OnOk};
 ghost use Rattle.std.specs.List.Sorted.{IsStrictlyIncreasing};
 ghost use Rattle.quota_types.specs.Format.{IsTreeFormat};
 ghost use Rattle.quota_types.specs.Kept.{kept_of};
@@ -21,8 +22,8 @@ use std::alloc::{AllocError, Global};
 
 /// Builds the bytes of a whole tree file from its header's values and its entries.
 ///
-/// The file stands for the map of the list. It has as few blocks as can be: no free ones, and at most one data block that
-/// is not full. Every byte that no field names is 0. Its tree and data blocks are laid out as the kernel's
+/// The file stands for the map of the list. It has as few blocks as can be: no free ones, and at most one data block
+/// that is not full. Every byte that no field names is 0. Its tree and data blocks are laid out as the kernel's
 /// `fs/quota/quota_tree.c` reads them. Time and memory grow with the list; no clause says so.
 ///
 /// # Errors

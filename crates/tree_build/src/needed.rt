@@ -1,4 +1,5 @@
-ghost use Rattle.std.specs.Prelude.{◌≡◌, ◌+◌, ◌/◌, ◌%◌, ◌<◌, ◌≤◌, ◌^◌, ◌==◌, ◌++◌, ◌∷◌, [], List, ℕ, None, Some, if◌then◌else◌};
+ghost use Rattle.std.specs.Prelude.{◌≡◌, ◌+◌, ◌/◌, ◌%◌, ◌<◌, ◌≤◌, ◌^◌, ◌==◌, ◌++◌, ◌∷◌, [], List, ℕ, None, Some};
+ghost use Rattle.std.specs.Prelude.{if◌then◌else◌};
 ghost use Rattle.std.specs.List.Sorted.{IsStrictlyIncreasing};
 ghost use Rattle.entry_codec.specs.Entry.{entries_per_block};
 ghost use Rattle.quota_value.specs.Listed.{ids_of};
@@ -10,8 +11,9 @@ ghost use Rattle.quota_types.specs.Format.{IsTreeFormat};
 use entry_codec::entries_per_block;
 use quota_types::{Entry, Format};
 
-/// What a tree file needs for the identifiers that were met, which ascend: how many entries, and how many tree blocks of
-/// each level below the root, which are as many as the beginnings of one, two or three bytes that the identifiers have.
+/// What a tree file needs for the identifiers that were met, which ascend: how many entries, and how many tree blocks
+/// of each level below the root, which are as many as the beginnings of one, two or three bytes that the identifiers
+/// have.
 #[derive(Clone, Copy, Debug)]
 pub struct Needed {
     /// How many identifiers were met.
@@ -70,8 +72,8 @@ impl Needed {
     }
 }
 
-/// How many more beginnings there are once an identifier comes after the last one: none where both begin alike, and otherwise
-/// one. An identifier's beginning is its quotient by `divisor`.
+/// How many more beginnings there are once an identifier comes after the last one: none where both begin alike, and
+/// otherwise one. An identifier's beginning is its quotient by `divisor`.
 fn new_beginnings(last: Option<u32>, id: u32, divisor: u32) -> u64
     requires { 0 < divisor }
     ensures { result ≡ new_beginnings divisor last id }

@@ -4,7 +4,8 @@ ghost use Rattle.quota_types.specs.Format.{IsTreeFormat};
 ghost use Rattle.quota_types.specs.Kept.{kept_of};
 ghost use Rattle.quota_types.specs.Range.{unfit};
 ghost use Rattle.entry_codec.specs.Entry.{entries_per_block};
-ghost use Rattle.tree_build.specs.NewFile.{AreBelow, AreDataBlocks, IsDataBlock, KeepsBlocks, leaves_in, parts_needed, parts_of};
+ghost use Rattle.tree_build.specs.NewFile.{AreBelow, AreDataBlocks, IsDataBlock, KeepsBlocks, leaves_in, parts_needed};
+ghost use Rattle.tree_build.specs.NewFile.{parts_of};
 
 use crate::new_file::NewFile;
 use entry_codec::entries_per_block;

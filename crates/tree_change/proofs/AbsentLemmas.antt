@@ -1,5 +1,6 @@
 -- An identifier has a record exactly where its way leads to a data block: where it has five blocks.
-use Rattle.std.proofs.Common.{◌≡◌, ℕ, ◌^◌, ◌<◌, ◌≤◌, Bool, cond, ◌==◌, List, [], ◌∷◌, length, get_or, find, slice_get, Option, Some, None, option_and_then, refl, sym, ap, subst, ◌∙◌, inl, inr, arith}
+use Rattle.std.proofs.Common.{◌≡◌, ℕ, ◌^◌, ◌<◌, ◌≤◌, Bool, cond, ◌==◌, List, [], ◌∷◌, length, get_or, find, slice_get}
+use Rattle.std.proofs.Common.{Option, Some, None, option_and_then, refl, sym, ap, subst, ◌∙◌, inl, inr, arith}
 use Rattle.std.specs.Prelude.{IsSome}
 use Rattle.std.specs.FinMap.{get}
 use Rattle.std.specs.List.{AllByRecursion}
@@ -42,19 +43,24 @@ fifth (a ∷ b ∷ c ∷ d ∷ []) some = absurd (omega (arith, some))
 fifth (a ∷ b ∷ c ∷ d ∷ e ∷ rest) some = refl
 
 -- what holds of each path holds of the one that is found
-each_found : (P : TreePath → Type 0) (test : TreePath → Bool) (ps : List TreePath) (p : TreePath) → find test ps ≡ Some p → AllByRecursion P ps → P p
+each_found : (P : TreePath → Type 0) (test : TreePath → Bool) (ps : List TreePath) (p : TreePath)
+    → find test ps ≡ Some p → AllByRecursion P ps → P p
 each_found P test [] p found all = absurd (not_some p (sym found))
 each_found P test (q ∷ ps) p found all = elim (cases_Bool (test q)) [
   | inl passes ↦ subst P (some_same q p (sym (ap (λ (b : Bool). cond b (Some q) (find test ps)) passes) ∙ found)) all.0
   | inr fails ↦ each_found P test ps p (sym (ap (λ (b : Bool). cond b (Some q) (find test ps)) fails) ∙ found) all.1
 ]
 
-module _ (held : List ℕ) (format : Format) (file : List ℕ) (heads : Heads) (records : Records) (id : ℕ) (small : id < 2 ^ 32)
+module _ (held : List ℕ) (format : Format) (file : List ℕ) (heads : Heads) (records : Records) (id : ℕ)
+    (small : id < 2 ^ 32)
     (tree : IsWholeTree (loose_of held None None) format file heads records) where
   -- the record of an identifier by the leaf that it may have
-  record_by : (found : Option TreePath) → find (λ (leaf : TreePath). leaf.number == id) (leaves file heads.blocks) ≡ found
+  record_by : (found : Option TreePath)
+      → find (λ (leaf : TreePath). leaf.number == id) (leaves file heads.blocks) ≡ found
       → get records id ≡ option_and_then (λ (leaf : TreePath). record_in format (block_of file leaf.block) id) found
-  record_by found is = tree.each_record id ∙ ap (option_and_then (λ (leaf : TreePath). record_in format (block_of file leaf.block) id)) is
+  record_by found is =
+      tree.each_record id
+      ∙ ap (option_and_then (λ (leaf : TreePath). record_in format (block_of file leaf.block) id)) is
 
   -- an identifier whose way has fewer than five blocks has no record
   pub absent_by_way : length (blocks_on_way file heads.blocks id) < 5 → get records id ≡ None
@@ -68,7 +74,8 @@ module _ (held : List ℕ) (format : Format) (file : List ℕ) (heads : Heads) (
       let leaf : TreePath = record { number = id; block = block } in
       let is : IsLeaf file heads.blocks leaf = leaf_of_block file heads.blocks id block small (sym leads) in
       let there : StandsIn (ids_at (leaves file heads.blocks) block) id =
-      each_found (λ (other : TreePath). StandsIn (ids_at (leaves file heads.blocks) other.block) other.number) (λ (other : TreePath). other.number == id) (leaves file heads.blocks) leaf is
+      each_found (λ (other : TreePath). StandsIn (ids_at (leaves file heads.blocks) other.block) other.number)
+      (λ (other : TreePath). other.number == id) (leaves file heads.blocks) leaf is
       (leaves_lead file heads.blocks) in
       subst (λ (found : Option Rec). IsSome found) (sym (record_by (Some leaf) is))
       (record_found format (block_of file block) id (tree.filled.one_entry block id there))

@@ -11,7 +11,8 @@ use Rattle.free_chains.specs.declared.heads.Heads.{Heads}
 use Rattle.tree_change.specs.Behind.{KeepsBehind}
 
 -- a byte is as before where its block is
-pub same_byte : (old new : List ℕ) (at number place : ℕ) → place < 1024 → at ≡ 1024 * number + place → block_of new number ≡ block_of old number → byte_at new at ≡ byte_at old at
+pub same_byte : (old new : List ℕ) (at number place : ℕ) → place < 1024 → at ≡ 1024 * number + place
+    → block_of new number ≡ block_of old number → byte_at new at ≡ byte_at old at
 same_byte old new at number place low is same =
     ap (byte_at new) is
     ∙ sym (byte_at-block_of new number place low)
@@ -20,7 +21,8 @@ same_byte old new at number place low is same =
     ∙ ap (byte_at old) (sym is)
 
 -- some blocks changed, each of which is one of the file then
-pub behind_of : (numbers : List ℕ) (was now : ℕ) (old new : List ℕ) → was ≤ now → ((number : ℕ) → StandsIn numbers number → number < now) → KeepsBlocksBut numbers old new
+pub behind_of : (numbers : List ℕ) (was now : ℕ) (old new : List ℕ) → was ≤ now
+    → ((number : ℕ) → StandsIn numbers number → number < now) → KeepsBlocksBut numbers old new
     → KeepsBehind was now old new
 behind_of numbers was now old new more inside keeps = record {
   at_least = more;
@@ -28,7 +30,8 @@ behind_of numbers was now old new more inside keeps = record {
     before = λ at none. absurd (omega (arith, none));
     behind = λ at past.
         let number : ℕ = at / 1024 in
-        same_byte old new at number (at % 1024) (omega arith) (omega arith) (keeps.others number (elim (cases_lt 0 (times numbers number)) [
+        same_byte old new at number (at % 1024) (omega arith) (omega arith)
+        (keeps.others number (elim (cases_lt 0 (times numbers number)) [
           | inl changed ↦ absurd (let low : number < now = inside number changed in omega (arith, past, low))
           | inr other ↦ omega (arith, other)
         ]));
@@ -38,7 +41,8 @@ behind_of numbers was now old new more inside keeps = record {
 }
 
 -- one change after another
-pub behind_then : (was middle now : ℕ) (old between new : List ℕ) → KeepsBehind was middle old between → KeepsBehind middle now between new → KeepsBehind was now old new
+pub behind_then : (was middle now : ℕ) (old between new : List ℕ) → KeepsBehind was middle old between
+    → KeepsBehind middle now between new → KeepsBehind was now old new
 behind_then was middle now old between new first second = record {
   at_least = omega (arith, first.at_least, second.at_least);
   behind = record {
@@ -59,8 +63,13 @@ behind_none blocks file = record {
 }
 
 -- a block that was taken is one of the file then, which has no fewer
-pub taken_low : (heads now : Heads) (block : ℕ) → TakesHead heads now block → (heads.blocks ≤ now.blocks) × (block < now.blocks)
+pub taken_low : (heads now : Heads) (block : ℕ) → TakesHead heads now block
+    → (heads.blocks ≤ now.blocks) × (block < now.blocks)
 taken_low heads now block head = elim (cases_eq heads.free 0) [
-  | inl none ↦ (omega (arith, (head.none none).blocks), omega (arith, (head.none none).blocks, (head.none none).block_is))
-  | inr some ↦ (omega (arith, (head.some some).blocks), omega (arith, (head.some some).blocks, (head.some some).block_is, (head.some some).inside))
+  | inl none ↦
+      (omega (arith, (head.none none).blocks), omega (arith, (head.none none).blocks, (head.none none).block_is))
+  | inr some ↦ (
+    omega (arith, (head.some some).blocks),
+    omega (arith, (head.some some).blocks, (head.some some).block_is, (head.some some).inside),
+  )
 ]

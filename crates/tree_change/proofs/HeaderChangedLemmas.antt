@@ -20,17 +20,22 @@ use Rattle.tree_change.specs.HeaderHeads.{HasHeads, SetsHeads, with_heads}
 use Rattle.tree_change.specs.Shows.{IsWholeTree}
 
 -- Block 0 of a file was left with other heads, and all else that it had.
-pub sets_heads : (heads : Heads) (bytes was old new : List ℕ) → was ≡ block_of old 0 → length bytes ≡ 1024 → new ≡ with_block old 0 bytes
+pub sets_heads : (heads : Heads) (bytes was old new : List ℕ) → was ≡ block_of old 0 → length bytes ≡ 1024
+    → new ≡ with_block old 0 bytes
     → header_of bytes ≡ with_heads (header_of was) heads → KeepsOutside 20 32 was bytes → SetsHeads heads old new
 sets_heads heads bytes was old new was_is long laid is keeps =
-    let now : block_of new 0 ≡ bytes = ap (λ (file : List ℕ). block_of file 0) laid ∙ block_of-with_block_same old 0 bytes ∙ whole_block-same bytes long in
+    let now : block_of new 0 ≡ bytes = ap (λ (file : List ℕ). block_of file 0) laid
+    ∙ block_of-with_block_same old 0 bytes ∙ whole_block-same bytes long in
     record {
-      numbers = sym (header_in_block new) ∙ ap header_of now ∙ is ∙ ap (λ (numbers : HeaderNumbers). with_heads numbers heads) (ap header_of was_is ∙ header_in_block old);
-      others = subst (λ (block : List ℕ). KeepsOutside 20 32 (block_of old 0) block) (sym now) (subst (λ (block : List ℕ). KeepsOutside 20 32 block bytes) was_is keeps);
+      numbers = sym (header_in_block new) ∙ ap header_of now ∙ is
+          ∙ ap (λ (numbers : HeaderNumbers). with_heads numbers heads) (ap header_of was_is ∙ header_in_block old);
+      others = subst (λ (block : List ℕ). KeepsOutside 20 32 (block_of old 0) block) (sym now)
+          (subst (λ (block : List ℕ). KeepsOutside 20 32 block bytes) was_is keeps);
     }
 
 -- A header has the heads that it has.
-pub heads_there : (header : Header) (numbers : HeaderNumbers) (heads : Heads) → AreOf header numbers → heads.blocks ≡ header.blocks → heads.free ≡ header.free → heads.first ≡ header.first
+pub heads_there : (header : Header) (numbers : HeaderNumbers) (heads : Heads) → AreOf header numbers
+    → heads.blocks ≡ header.blocks → heads.free ≡ header.free → heads.first ≡ header.first
     → numbers ≡ with_heads numbers heads
 heads_there header numbers heads are blocks free first = λ i. record {
   magic = numbers.magic;
@@ -43,7 +48,8 @@ heads_there header numbers heads are blocks free first = λ i. record {
   first = (are.first ∙ sym first) i;
 }
 
-pub sets_none : (header : Header) (file : List ℕ) (heads : Heads) → HasHeads header heads → AreOf header (header_of file) → SetsHeads heads file file
+pub sets_none : (header : Header) (file : List ℕ) (heads : Heads) → HasHeads header heads
+    → AreOf header (header_of file) → SetsHeads heads file file
 sets_none header file heads has are = record {
   numbers = heads_there header (header_of file) heads are has.blocks has.free has.first;
   others = record { before = λ at low. refl; behind = λ at far. refl };
@@ -54,21 +60,26 @@ pub header_same : (old new : List ℕ) → block_of new 0 ≡ block_of old 0 →
 header_same old new same = sym (header_in_block new) ∙ ap header_of same ∙ header_in_block old
 
 -- The heads of a header are those of the numbers of which it is.
-pub heads_are : (header : Header) (numbers : HeaderNumbers) (heads : Heads) → AreOf header numbers → heads.blocks ≡ header.blocks → heads.free ≡ header.free → heads.first ≡ header.first
+pub heads_are : (header : Header) (numbers : HeaderNumbers) (heads : Heads) → AreOf header numbers
+    → heads.blocks ≡ header.blocks → heads.free ≡ header.free → heads.first ≡ header.first
     → heads ≡ heads_of numbers
 heads_are header numbers heads are blocks free first =
-    λ i. record { blocks = (blocks ∙ sym are.blocks) i; free = (free ∙ sym are.free) i; first = (first ∙ sym are.first) i }
+    λ i.
+    record { blocks = (blocks ∙ sym are.blocks) i; free = (free ∙ sym are.free) i; first = (first ∙ sym are.first) i }
 
 -- The format of a value is that of the header.
-pub format_is : (header : Header) (file : List ℕ) (value : QuotaValue) → AreOf header (header_of file) → TreeStandsFor file value → value.format ≡ header.format
+pub format_is : (header : Header) (file : List ℕ) (value : QuotaValue) → AreOf header (header_of file)
+    → TreeStandsFor file value → value.format ≡ header.format
 format_is header file value are stands =
     let same : Some value.format ≡ Some header.format = sym stands.version ∙ are.version in
     cc
 
--- A tree with these heads and records, of which nothing is loose, stands for the value with them where it has the header of
--- another file that stands for one, but for the heads.
-pub value_with_heads : (old new : List ℕ) (value : QuotaValue) (records : Records) (heads : Heads) → TreeStandsFor old value → header_of new ≡ with_heads (header_of old) heads
-    → IsTree nothing_loose value.format new (length new) heads records → TreeStandsFor new (record value { records = records })
+-- A tree with these heads and records, of which nothing is loose, stands for the value with them where it has the
+-- header of another file that stands for one, but for the heads.
+pub value_with_heads : (old new : List ℕ) (value : QuotaValue) (records : Records) (heads : Heads)
+    → TreeStandsFor old value → header_of new ≡ with_heads (header_of old) heads
+    → IsTree nothing_loose value.format new (length new) heads records
+    → TreeStandsFor new (record value { records = records })
 value_with_heads old new value records heads stands numbers tree =
     let now : QuotaValue = record value { records = records } in
     let are : AreOf (header_with now heads) (with_heads (header_of old) heads) = record {
@@ -83,9 +94,13 @@ value_with_heads old new value records heads stands numbers tree =
     } in
     value_of_tree new now heads (subst (AreOf (header_with now heads)) (sym (header_in_block new ∙ numbers)) are) tree
 
--- Bytes with this header stand for a value: they are a tree of its format, with the header's heads and the value's records.
-pub tree_by_header : (file : List ℕ) (header : Header) (start : Heads) (value : QuotaValue) → AreOf header (header_of file) → start ≡ heads_of (header_of file) → TreeStandsFor file value
+-- Bytes with this header stand for a value: they are a tree of its format, with the header's heads and the value's
+-- records.
+pub tree_by_header : (file : List ℕ) (header : Header) (start : Heads) (value : QuotaValue)
+    → AreOf header (header_of file) → start ≡ heads_of (header_of file) → TreeStandsFor file value
     → IsWholeTree (loose_of [] None None) header.format file start value.records
 tree_by_header file header start value are is stands =
-    subst (λ (format : Format). IsWholeTree (loose_of [] None None) format file start value.records) (format_is header file value are stands)
-    (subst (λ (heads : Heads). IsWholeTree (loose_of [] None None) value.format file heads value.records) (sym is) (tree_of_value file value stands))
+    subst (λ (format : Format). IsWholeTree (loose_of [] None None) format file start value.records)
+    (format_is header file value are stands)
+    (subst (λ (heads : Heads). IsWholeTree (loose_of [] None None) value.format file heads value.records) (sym is)
+    (tree_of_value file value stands))

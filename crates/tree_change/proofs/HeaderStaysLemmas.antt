@@ -21,15 +21,19 @@ header_apart loose file blocks head are =
 
 -- So it is none of some tree blocks.
 pub none_is_header : (loose : Loose) (file : List ℕ) (blocks head : ℕ) → OneRole loose file blocks head
-    → (numbers : List ℕ) → ((block : ℕ) → StandsIn numbers block → StandsIn (tree_blocks file blocks) block) → times numbers 0 ≡ 0
+    → (numbers : List ℕ) → ((block : ℕ) → StandsIn numbers block → StandsIn (tree_blocks file blocks) block)
+    → times numbers 0 ≡ 0
 none_is_header loose file blocks head are numbers in_tree = elim (cases_lt 0 (times numbers 0)) [
   | inl is ↦ absurd (omega (arith, in_tree 0 (omega (arith, is)), (header_apart loose file blocks head are).1))
   | inr none ↦ omega (arith, none)
 ]
 
 -- And none of some blocks that are of the tree or held.
-pub none_is_header_or_fresh : (fresh held : List ℕ) (awaited : Option TreePath) (file : List ℕ) (blocks head : ℕ) → OneRole (loose_of (fresh ++ held) awaited None) file blocks head
-    → (numbers : List ℕ) → ((block : ℕ) → StandsIn numbers block → StandsIn (tree_blocks file blocks) block ⊎ StandsIn fresh block) → times numbers 0 ≡ 0
+pub none_is_header_or_fresh : (fresh held : List ℕ) (awaited : Option TreePath) (file : List ℕ) (blocks head : ℕ)
+    → OneRole (loose_of (fresh ++ held) awaited None) file blocks head
+    → (numbers : List ℕ)
+    → ((block : ℕ) → StandsIn numbers block → StandsIn (tree_blocks file blocks) block ⊎ StandsIn fresh block)
+    → times numbers 0 ≡ 0
 none_is_header_or_fresh fresh held awaited file blocks head are numbers which = elim (cases_lt 0 (times numbers 0)) [
   | inl is ↦
       let apart = header_apart (loose_of (fresh ++ held) awaited None) file blocks head are in
@@ -42,10 +46,18 @@ none_is_header_or_fresh fresh held awaited file blocks head are numbers which = 
 
 -- And none of some that are held or data.
 pub aside_from_header : (loose : Loose) (file : List ℕ) (blocks head : ℕ) → OneRole loose file blocks head
-    → (numbers : List ℕ) → ((block : ℕ) → StandsIn numbers block → StandsIn (loose.held ++ data_with loose file blocks) block) → times numbers 0 ≡ 0
+    → (numbers : List ℕ)
+    → ((block : ℕ) → StandsIn numbers block → StandsIn (loose.held ++ data_with loose file blocks) block)
+    → times numbers 0 ≡ 0
 aside_from_header loose file blocks head are numbers aside = elim (cases_lt 0 (times numbers 0)) [
   | inl is ↦
       let apart = header_apart loose file blocks head are in
-      absurd (omega (arith, aside 0 (omega (arith, is)), apart.0, apart.2, times-append loose.held (data_with loose file blocks) 0))
+      absurd (omega (
+        arith,
+        aside 0 (omega (arith, is)),
+        apart.0,
+        apart.2,
+        times-append loose.held (data_with loose file blocks) 0,
+      ))
   | inr none ↦ omega (arith, none)
 ]

@@ -1,5 +1,6 @@
 -- A record that is removed: its leaf is unlinked first, and then its entry is cleared.
-use Rattle.std.proofs.Common.{◌≡◌, ℕ, ◌*◌, ◌^◌, ◌<◌, ◌≤◌, ◌==◌, List, [], ◌∷◌, ◌++◌, length, get_or, drop, filter, take, Some, None, refl, sym, ap, subst, ◌∙◌, arith}
+use Rattle.std.proofs.Common.{◌≡◌, ℕ, ◌*◌, ◌^◌, ◌<◌, ◌≤◌, ◌==◌, List, [], ◌∷◌, ◌++◌, length, get_or, drop, filter, take}
+use Rattle.std.proofs.Common.{Some, None, refl, sym, ap, subst, ◌∙◌, arith}
 use Rattle.std.specs.FinMap.{remove}
 use Rattle.quota_types.specs.Times.{StandsIn, times}
 use Rattle.quota_types.specs.declared.file_kind.Format.{Format}
@@ -41,34 +42,45 @@ fifth_alone (a ∷ b ∷ c ∷ d ∷ []) five = absurd (omega (arith, five))
 fifth_alone (a ∷ b ∷ c ∷ d ∷ e ∷ []) five = refl
 fifth_alone (a ∷ b ∷ c ∷ d ∷ e ∷ f ∷ way) five = absurd (omega (arith, five))
 
-module _ (format : Format) (way : List ℕ) (id block : ℕ) (old between : List ℕ) (heads middle : Heads) (fifth : block ≡ get_or way 4 0)
+module _ (format : Format) (way : List ℕ) (id block : ℕ) (old between : List ℕ) (heads middle : Heads)
+    (fifth : block ≡ get_or way 4 0)
     (unlinks : UnlinksLeaf way id old between heads middle) where
-  awaits : (records : Records) → way ≡ blocks_on_way old heads.blocks id → IsWholeTree (loose_of [] None None) format old heads records
-      → TreeStays (loose_of [] None None) (loose_of [] (Some (record { number = id; block = block })) None) format old between heads middle records
+  awaits : (records : Records) → way ≡ blocks_on_way old heads.blocks id
+      → IsWholeTree (loose_of [] None None) format old heads records
+      → TreeStays (loose_of [] None None) (loose_of [] (Some (record { number = id; block = block })) None) format old
+      between heads middle records
       × FreesBlocks (lost_blocks old between middle.blocks id) old between heads middle
   awaits records is tree =
-      subst (λ (b : ℕ). TreeStays (loose_of [] None None) (loose_of [] (Some (record { number = id; block = b })) None) format old between heads middle records
+      subst (λ (b : ℕ). TreeStays (loose_of [] None None) (loose_of [] (Some (record { number = id; block = b })) None)
+      format old between heads middle records
       × FreesBlocks (lost_blocks old between middle.blocks id) old between heads middle) (sym fifth)
       (unlinks [] format records is tree)
 
   -- both parts, one after the other
-  pub takes_record : (new : List ℕ) (now : Heads) → id < 2 ^ 32 → length way ≡ 5 → middle.blocks ≡ heads.blocks → now.blocks ≡ middle.blocks
+  pub takes_record : (new : List ℕ) (now : Heads) → id < 2 ^ 32 → length way ≡ 5 → middle.blocks ≡ heads.blocks
+      → now.blocks ≡ middle.blocks
       → RemovesEntry format id block between new middle now → TakesRecord format way id old new heads now
   takes_record new now small five same same_then removes = λ records is tree.
       let gone = awaits records is tree in
       let removed = removes [] records gone.0.tree in
       let fifth_block : block ∷ [] ≡ drop 4 (blocks_on_way old now.blocks id) =
-      ap (λ (b : ℕ). b ∷ []) fifth ∙ sym (fifth_alone way five) ∙ ap (drop 4) (is ∙ ap (λ (n : ℕ). blocks_on_way old n id) (sym (same_then ∙ same))) in
+      ap (λ (b : ℕ). b ∷ []) fifth ∙ sym (fifth_alone way five)
+      ∙ ap (drop 4) (is ∙ ap (λ (n : ℕ). blocks_on_way old n id) (sym (same_then ∙ same))) in
       let lost : lost_blocks old between middle.blocks id ≡ lost_blocks old new now.blocks id =
-      ap (λ (n : ℕ). drop (length (blocks_on_way between middle.blocks id)) (take 4 (blocks_on_way old n id))) (sym same_then)
-      ∙ ap (λ (xs : List ℕ). drop (length xs) (take 4 (blocks_on_way old now.blocks id))) (sym (removed.1.ways id small)) in
+      ap (λ (n : ℕ). drop (length (blocks_on_way between middle.blocks id)) (take 4 (blocks_on_way old n id))) (sym
+      same_then)
+      ∙ ap (λ (xs : List ℕ). drop (length xs) (take 4 (blocks_on_way old now.blocks id)))
+      (sym (removed.1.ways id small)) in
       record {
         tree = removed.0;
         header = removed.1.header ∙ gone.0.header;
         freed = subst (λ (freed : List ℕ). FreesBlocks freed old new heads now)
-            (ap (λ (numbers : List ℕ). unnamed_of new now.blocks numbers ++ lost_blocks old between middle.blocks id) fifth_block
-            ∙ ap (λ (lower : List ℕ). unnamed_of new now.blocks (drop 4 (blocks_on_way old now.blocks id)) ++ lower) lost)
-            (frees_then (lost_blocks old between middle.blocks id) (unnamed_of new now.blocks (block ∷ [])) old between new heads middle now gone.1 removed.1.frees);
+            (ap (λ (numbers : List ℕ).
+            unnamed_of new now.blocks numbers ++ lost_blocks old between middle.blocks id) fifth_block
+            ∙ ap
+            (λ (lower : List ℕ). unnamed_of new now.blocks (drop 4 (blocks_on_way old now.blocks id)) ++ lower) lost)
+            (frees_then (lost_blocks old between middle.blocks id) (unnamed_of new now.blocks (block ∷ [])) old between
+            new heads middle now gone.1 removed.1.frees);
       }
 
   -- or the second one was refused
@@ -76,39 +88,56 @@ module _ (format : Format) (way : List ℕ) (id block : ℕ) (old between : List
   has_no_way wrong = λ records is tree. wrong [] records (awaits records is tree).0.tree
 
 -- Where block 0 alone changed no block was freed, and the ways and the data blocks are as before.
-header_frees : (format : Format) (between new : List ℕ) (heads : Heads) (records : Records) → IsWholeTree (loose_of [] None None) format between heads records
+header_frees : (format : Format) (between new : List ℕ) (heads : Heads) (records : Records)
+    → IsWholeTree (loose_of [] None None) format between heads records
     → KeepsBlocksBut (0 ∷ []) between new
-    → FreesBlocks [] between new heads heads × ((id : ℕ) → id < 2 ^ 32 → blocks_on_way new heads.blocks id ≡ blocks_on_way between heads.blocks id)
+    → FreesBlocks [] between new heads heads
+    × ((id : ℕ) → id < 2 ^ 32 → blocks_on_way new heads.blocks id ≡ blocks_on_way between heads.blocks id)
     × (data_blocks new heads.blocks ≡ data_blocks between heads.blocks)
 header_frees format between new heads records tree keeps =
     let loose : Loose = loose_of [] None None in
     let apart = header_apart loose between heads.blocks heads.free tree.roles in
-    let no_tree : (number : ℕ) → StandsIn (0 ∷ []) number → times (tree_blocks between heads.blocks) number ≡ 0 = λ number stands.
+    let no_tree : (number : ℕ) → StandsIn (0 ∷ []) number → times (tree_blocks between heads.blocks) number ≡ 0 =
+    λ number stands.
     subst (λ (n : ℕ). times (tree_blocks between heads.blocks) n ≡ 0) (only_one 0 number stands) apart.1 in
     let not_free : (number : ℕ) → StandsIn (0 ∷ []) number → times tree.roles.free number ≡ 0 = λ number stands.
     subst (λ (n : ℕ). times tree.roles.free n ≡ 0) (only_one 0 number stands)
-    (omega (arith, one_role loose between heads.blocks heads.free tree.roles 0, times-roles loose between heads.blocks tree.roles.free 0, times-cons-same 0 [])) in (
-      frees_none loose format between new heads records (0 ∷ []) tree keeps not_free (λ number stands. omega (arith, only_one 0 number stands, tree.two)) heads.first,
+    (omega (
+      arith,
+      one_role loose between heads.blocks heads.free tree.roles 0,
+      times-roles loose between heads.blocks tree.roles.free 0,
+      times-cons-same 0 [],
+    )) in (
+      frees_none loose format between new heads records (0 ∷ []) tree keeps not_free
+          (λ number stands. omega (arith, only_one 0 number stands, tree.two)) heads.first,
       ways_apart loose format between new heads records (0 ∷ []) tree keeps no_tree,
       named_apart loose format between new heads records (0 ∷ []) tree keeps no_tree,
     )
 
 -- the same blocks are freed where the ways and the data blocks are the same
-freed_same : (old between new : List ℕ) (blocks id : ℕ) → blocks_on_way new blocks id ≡ blocks_on_way between blocks id → data_blocks new blocks ≡ data_blocks between blocks
+freed_same : (old between new : List ℕ) (blocks id : ℕ) → blocks_on_way new blocks id ≡ blocks_on_way between blocks id
+    → data_blocks new blocks ≡ data_blocks between blocks
     → freed_blocks old between blocks id ≡ freed_blocks old new blocks id
 freed_same old between new blocks id way named =
-    ap (λ (numbers : List ℕ). filter (λ (number : ℕ). times numbers number == 0) (drop 4 (blocks_on_way old blocks id)) ++ lost_blocks old between blocks id) (sym named)
-    ∙ ap (λ (xs : List ℕ). unnamed_of new blocks (drop 4 (blocks_on_way old blocks id)) ++ drop (length xs) (take 4 (blocks_on_way old blocks id))) (sym way)
+    ap (λ (numbers : List ℕ). filter (λ (number : ℕ). times numbers number == 0) (drop 4 (blocks_on_way old blocks id))
+    ++ lost_blocks old between blocks id) (sym named)
+    ∙ ap (λ (xs : List ℕ). unnamed_of new blocks (drop 4 (blocks_on_way old blocks id))
+    ++ drop (length xs) (take 4 (blocks_on_way old blocks id))) (sym way)
 
 -- A record was taken out of a file, and the heads were written in its header.
-pub removes_record : (id : ℕ) (way : List ℕ) (header : Header) (start heads : Heads) (old between new : List ℕ) (value : QuotaValue)
-    → id < 2 ^ 32 → AreOf header (header_of old) → start.blocks ≡ header.blocks → start.free ≡ header.free → start.first ≡ header.first
-    → way ≡ blocks_on_way old header.blocks id → length way ≡ 5 → TreeStandsFor old value → TakesRecord header.format way id old between start heads → heads.blocks ≡ start.blocks
+pub removes_record : (id : ℕ) (way : List ℕ) (header : Header) (start heads : Heads) (old between new : List ℕ)
+    (value : QuotaValue)
+    → id < 2 ^ 32 → AreOf header (header_of old) → start.blocks ≡ header.blocks → start.free ≡ header.free
+    → start.first ≡ header.first
+    → way ≡ blocks_on_way old header.blocks id → length way ≡ 5 → TreeStandsFor old value
+    → TakesRecord header.format way id old between start heads → heads.blocks ≡ start.blocks
     → KeepsBlocksBut (0 ∷ []) between new → (AreOf header (header_of between) → SetsHeads heads between new)
     → RemovesRecord id value old new heads
-removes_record id way header start heads old between new value small are blocks free first is five stands takes same keeps writes =
+removes_record id way header start heads old between new value small are blocks free first is five stands takes
+    same keeps writes =
     let at : start ≡ heads_of (header_of old) = heads_are header (header_of old) start are blocks free first in
-    let was : IsWholeTree (loose_of [] None None) header.format old start value.records = tree_by_header old header start value are at stands in
+    let was : IsWholeTree (loose_of [] None None) header.format old start value.records =
+    tree_by_header old header start value are at stands in
     let found : way ≡ blocks_on_way old start.blocks id = is ∙ ap (λ (n : ℕ). blocks_on_way old n id) (sym blocks) in
     let taken = takes value.records found was in
     let unchanged : header_of between ≡ header_of old = header_same old between taken.header in
@@ -116,25 +145,30 @@ removes_record id way header start heads old between new value small are blocks 
     let numbers : header_of new ≡ with_heads (header_of old) heads =
     set.numbers ∙ ap (λ (was : HeaderNumbers). with_heads was heads) unchanged in
     let tree : IsWholeTree (loose_of [] None None) header.format new heads (remove value.records id) =
-    header_changed [] None header.format between new (length between) (length new) heads (remove value.records id) taken.tree keeps keeps.longer in
+    header_changed [] None header.format between new (length between) (length new) heads (remove value.records id)
+    taken.tree keeps keeps.longer in
     let beside = header_frees header.format between new heads (remove value.records id) taken.tree keeps in
-    let freed = frees_then (freed_blocks old between heads.blocks id) [] old between new start heads heads taken.freed beside.0 in
+    let freed =
+    frees_then (freed_blocks old between heads.blocks id) [] old between new start heads heads taken.freed beside.0 in
     let long : 1024 * start.blocks ≤ length old =
     long_by_way [] header.format old start value.records id small was (omega (arith, five, ap {B = ℕ} length found)) in
     record {
       stands = value_with_heads old new value (remove value.records id) heads stands numbers
-          (subst (λ (format : Format). IsWholeTree (loose_of [] None None) format new heads (remove value.records id)) (sym (format_is header old value are stands)) tree);
+          (subst (λ (format : Format). IsWholeTree (loose_of [] None None) format new heads (remove value.records id))
+          (sym (format_is header old value are stands)) tree);
       heads_are = ap heads_of (sym numbers);
       header = subst (λ (block : List ℕ). KeepsOutside 20 32 block (block_of new 0)) taken.header set.others;
       blocks = same ∙ blocks ∙ sym are.blocks;
       long = omega (arith, freed.behind.longer, freed.behind.within, long, same);
       freed = subst (λ (h : Heads). FreesBlocks (freed_blocks old new heads.blocks id) old new h heads) at
-          (subst (λ (freed : List ℕ). FreesBlocks freed old new start heads) (freed_same old between new heads.blocks id (beside.1 id small) beside.2) freed);
+          (subst (λ (freed : List ℕ). FreesBlocks freed old new start heads)
+          (freed_same old between new heads.blocks id (beside.1 id small) beside.2) freed);
     }
 
 -- Where none could be taken out of it the file stands for no value.
 pub no_value : (id : ℕ) (way : List ℕ) (header : Header) (start : Heads) (old : List ℕ) (value : QuotaValue)
-    → AreOf header (header_of old) → start.blocks ≡ header.blocks → start.free ≡ header.free → start.first ≡ header.first
+    → AreOf header (header_of old) → start.blocks ≡ header.blocks → start.free ≡ header.free
+    → start.first ≡ header.first
     → way ≡ blocks_on_way old header.blocks id → HasNoWay header.format way id old start → ¬ TreeStandsFor old value
 no_value id way header start old value are blocks free first is none stands =
     none value.records (is ∙ ap (λ (n : ℕ). blocks_on_way old n id) (sym blocks))

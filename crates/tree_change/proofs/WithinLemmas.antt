@@ -1,5 +1,7 @@
 -- Steps that take blocks within a limit, and none of which lends the header's block.
-use Rattle.std.proofs.Common.{◌≡◌, ◌≢◌, ℕ, ◌<◌, ◌≤◌, ◌-◌, ◌/◌, ◌%◌, zero, suc, Bool, if◌then◌else◌, List, [], ◌∷◌, length, get_or, Option, Some, None, option_and_then, Result, Ok, Err, sym, ap, ◌∙◌, inl, inr, arith}
+use Rattle.std.proofs.Common.{◌≡◌, ◌≢◌, ℕ, ◌<◌, ◌≤◌, ◌-◌, ◌/◌, ◌%◌, zero, suc, Bool, if◌then◌else◌, List, [], ◌∷◌}
+use Rattle.std.proofs.Common.{length, get_or, Option, Some, None, option_and_then, Result, Ok, Err, sym, ap, ◌∙◌, inl}
+use Rattle.std.proofs.Common.{inr, arith}
 use Rattle.std.proofs.lemmas.Bool.{cases_Bool, cases_eq}
 use Rattle.std.proofs.lemmas.Bool.Decides.{eqb_tells}
 use Rattle.std.specs.Prelude.{⊤, OnOk}
@@ -32,31 +34,42 @@ no_link_to_header link = elim (eqb_tells link 0) [
 led_on : (file : List ℕ) (blocks digit from block : ℕ) → led_by file blocks digit from ≡ Some block → block ≢ 0
 led_on file blocks digit from block led = elim (cases_Bool (leads blocks (word_at file from digit))) [
   | inl is ↦
-      let both : Some (word_at file from digit) ≡ Some block = sym (ap (λ (b : Bool). if b then Some (word_at file from digit) else None) is) ∙ led in
+      let both : Some (word_at file from digit) ≡ Some block =
+      sym (ap (λ (b : Bool). if b then Some (word_at file from digit) else None) is) ∙ led in
       let same : word_at file from digit ≡ block = cc in
       λ none. omega (arith, (leads_within blocks (word_at file from digit) is).0, same, none)
-  | inr other ↦ absurd (let none : None ≡ Some block = sym (ap (λ (b : Bool). if b then Some (word_at file from digit) else None) other) ∙ led in cc)
+  | inr other ↦ absurd
+      (let none : None ≡ Some block =
+      sym (ap (λ (b : Bool). if b then Some (word_at file from digit) else None) other) ∙ led in cc)
 ]
 
-led_from : (file : List ℕ) (blocks digit : ℕ) (from : Option ℕ) (block : ℕ) → option_and_then (led_by file blocks digit) from ≡ Some block → block ≢ 0
+led_from : (file : List ℕ) (blocks digit : ℕ) (from : Option ℕ) (block : ℕ)
+    → option_and_then (led_by file blocks digit) from ≡ Some block → block ≢ 0
 led_from file blocks digit None block led = absurd cc
 led_from file blocks digit (Some from) block led = led_on file blocks digit from block led
 
-pub led_beside : (file : List ℕ) (blocks digits number block : ℕ) → block_led_to file blocks digits number ≡ Some block → block ≢ 0
+pub led_beside : (file : List ℕ) (blocks digits number block : ℕ)
+    → block_led_to file blocks digits number ≡ Some block → block ≢ 0
 led_beside file blocks zero number block led = λ none. let same : 1 ≡ block = cc in omega (arith, same, none)
-led_beside file blocks (suc digits) number block led = led_from file blocks (number % 256) (block_led_to file blocks digits (number / 256)) block led
+led_beside file blocks (suc digits) number block led =
+    led_from file blocks (number % 256) (block_led_to file blocks digits (number / 256)) block led
 
 -- so the last block of a way is none of the header
-pub last_beside : (file : List ℕ) (blocks id : ℕ) (found : List ℕ) → found ≡ blocks_on_way file blocks id → 1 ≤ length found → get_or found (length found - 1) 0 ≢ 0
-last_beside file blocks id found is some = led_beside file blocks (length found - 1) (front_of id (length found - 1)) _ (way_last file found blocks id (length found - 1) is (omega (arith, some)))
+pub last_beside : (file : List ℕ) (blocks id : ℕ) (found : List ℕ) → found ≡ blocks_on_way file blocks id
+    → 1 ≤ length found → get_or found (length found - 1) 0 ≢ 0
+last_beside file blocks id found is some =
+    led_beside file blocks (length found - 1) (front_of id (length found - 1)) _
+    (way_last file found blocks id (length found - 1) is (omega (arith, some)))
 
 -- one step after another
 pub takes_then : (limit : ℕ) (one two : Type 0) (heads middle now : Heads) (old between new : Pages) → (one → two)
-    → TakesWithin limit one heads middle old between → TakesWithin limit two middle now between new → TakesWithin limit one heads now old new
+    → TakesWithin limit one heads middle old between → TakesWithin limit two middle now between new
+    → TakesWithin limit one heads now old new
 takes_then limit one two heads middle now old between new so first second = record {
   at_least = omega (arith, first.at_least, second.at_least);
   within = λ few. second.within (first.within few);
-  header = λ beside some. second.header (so beside) (λ none. some (omega (arith, none, first.at_least))) ∙ first.header beside some;
+  header = λ beside some.
+      second.header (so beside) (λ none. some (omega (arith, none, first.at_least))) ∙ first.header beside some;
 }
 
 -- a step that takes none
@@ -76,8 +89,10 @@ block_taken heads now block head some = elim (cases_eq heads.free 0) [
 ]
 
 -- and it is behind the last one only where none is free
-pub takes_head : (limit : ℕ) (heads now : Heads) (block : ℕ) (old new : Pages) → TakesHead heads now block → (heads.free ≡ 0 → heads.blocks < limit)
-    → (times (block ∷ []) 0 ≡ 0 → is_lent (pages_of new) 0 ≡ is_lent (pages_of old) 0) → TakesWithin limit ⊤ heads now old new
+pub takes_head : (limit : ℕ) (heads now : Heads) (block : ℕ) (old new : Pages) → TakesHead heads now block
+    → (heads.free ≡ 0 → heads.blocks < limit)
+    → (times (block ∷ []) 0 ≡ 0 → is_lent (pages_of new) 0 ≡ is_lent (pages_of old) 0)
+    → TakesWithin limit ⊤ heads now old new
 takes_head limit heads now block old new head room stays = elim (cases_eq heads.free 0) [
   | inl none ↦ record {
     at_least = omega (arith, (head.none none).blocks);

@@ -12,9 +12,11 @@ data_wanted heads = if heads.first == 0 then 1 else 0
 abbrev pub blocks_wanted : List ℕ → Heads → (id : ℕ) → ℕ
 blocks_wanted file heads id = (4 - length (blocks_on_way file heads.blocks id)) + data_wanted heads
 
--- how many blocks are taken for a record of an identifier: none where a leaf of it is there, and otherwise those that are needed
+-- how many blocks are taken for a record of an identifier: none where a leaf of it is there, and otherwise those that
+-- are needed
 abbrev pub blocks_taken : List ℕ → Heads → (id : ℕ) → ℕ
-blocks_taken file heads id = if nat_lt 4 (length (blocks_on_way file heads.blocks id)) then 0 else blocks_wanted file heads id
+blocks_taken file heads id =
+    if nat_lt 4 (length (blocks_on_way file heads.blocks id)) then 0 else blocks_wanted file heads id
 
 -- how many blocks a file has once an identifier has a record: free ones are taken first, and new ones for the others
 abbrev pub blocks_with : List ℕ → Heads → (id : ℕ) → ℕ

@@ -9,8 +9,8 @@ use Rattle.free_chains.specs.declared.chain_fault.ChainFault.TheVariants.{Store 
 use Rattle.tree_change.specs.declared.change_fault.ChangeFault.{ChangeFault}
 use Rattle.tree_change.specs.declared.change_fault.ChangeFault.TheVariants.{Store, Damage as Damaged, Full}
 
--- A step was refused where the store's count of faults rose, for a damage, of a kind that tree files have, where something is
--- wrong with the file, or since it is full. A damage names an identifier only where its kind does.
+-- A step was refused where the store's count of faults rose, for a damage, of a kind that tree files have, where
+-- something is wrong with the file, or since it is full. A damage names an identifier only where its kind does.
 abbrev pub IsChangeFault : (before now : ℕ) → (wrong : Type 0) → (full : ℕ → ℕ → Type 0) → ChangeFault → Type 0
 IsChangeFault before now wrong full Store = Rose before now
 IsChangeFault before now wrong full (Damaged damage) = NamesItsId damage.kind damage.id × wrong

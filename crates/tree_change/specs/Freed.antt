@@ -18,8 +18,8 @@ free_blocks file heads = chain_from file heads.blocks heads.free heads.blocks
 abbrev pub HasLinkAlone : List ℕ → (block : ℕ) → Type 0
 HasLinkAlone file block = (at : ℕ) → 4 ≤ at → byte_at (block_of file block) at ≡ 0
 
--- These blocks stand now before those that were free, and have their links and nothing else. The blocks that were free are as before, and
--- so is what lies behind the last block.
+-- These blocks stand now before those that were free, and have their links and nothing else. The blocks that were free
+-- are as before, and so is what lies behind the last block.
 pub record FreesBlocks (freed : List ℕ) (old new : List ℕ) (heads now : Heads) : Type 0 where
   pub list : free_blocks new now ≡ freed ++ free_blocks old heads
   pub blank : (block : ℕ) → StandsIn freed block → HasLinkAlone new block
@@ -34,7 +34,8 @@ unnamed_of file blocks numbers = filter (λ number. times (data_blocks file bloc
 abbrev pub lost_blocks : (old new : List ℕ) → (blocks id : ℕ) → List ℕ
 lost_blocks old new blocks id = drop (length (blocks_on_way new blocks id)) (take 4 (blocks_on_way old blocks id))
 
--- The blocks that the removal of an identifier's record frees, in the order of the list: the data block to which its leaf led, where no
--- leaf leads to that now, and then the tree blocks that its way has lost, from the top down.
+-- The blocks that the removal of an identifier's record frees, in the order of the list: the data block to which its
+-- leaf led, where no leaf leads to that now, and then the tree blocks that its way has lost, from the top down.
 abbrev pub freed_blocks : (old new : List ℕ) → (blocks id : ℕ) → List ℕ
-freed_blocks old new blocks id = unnamed_of new blocks (drop 4 (blocks_on_way old blocks id)) ++ lost_blocks old new blocks id
+freed_blocks old new blocks id =
+    unnamed_of new blocks (drop 4 (blocks_on_way old blocks id)) ++ lost_blocks old new blocks id

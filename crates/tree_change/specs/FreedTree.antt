@@ -10,7 +10,8 @@ use Rattle.tree_meaning.specs.Loose.{Loose}
 use Rattle.tree_change.specs.Shows.{IsWholeTree}
 use Rattle.tree_change.specs.Freed.{FreesBlocks}
 
--- Blocks were freed so. The way of each identifier, the blocks to which leaves lead and the header's block are as before.
+-- Blocks were freed so. The way of each identifier, the blocks to which leaves lead and the header's block are as
+-- before.
 pub record FreesBeside (freed : List ℕ) (old new : List ℕ) (heads now : Heads) : Type 0 where
   pub frees : FreesBlocks freed old new heads now
   pub ways : (id : ℕ) → id < 2 ^ 32 → blocks_on_way new now.blocks id ≡ blocks_on_way old heads.blocks id
@@ -19,4 +20,5 @@ pub record FreesBeside (freed : List ℕ) (old new : List ℕ) (heads now : Head
 
 -- Bytes are a whole tree with these records now, but for what is loose, and blocks were freed beside it.
 abbrev pub BecomesTree : Loose → (freed : List ℕ) → Format → (old new : List ℕ) → (heads now : Heads) → Records → Type 0
-BecomesTree loose freed format old new heads now records = IsWholeTree loose format new now records × FreesBeside freed old new heads now
+BecomesTree loose freed format old new heads now records =
+    IsWholeTree loose format new now records × FreesBeside freed old new heads now

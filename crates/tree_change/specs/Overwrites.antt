@@ -13,15 +13,21 @@ use Rattle.tree_meaning.specs.Roles.{data_with}
 use Rattle.tree_change.specs.Putting.{TakesCounted}
 use Rattle.tree_change.specs.Shows.{IsWholeTree}
 
--- The record of an identifier was overwritten: all others are as before, and so are the free blocks, the data blocks and the
--- header's block.
-pub record OverwritesRecord (id : ℕ) (rec : Rec) (held : List ℕ) (format : Format) (old new : List ℕ) (heads : Heads) (records : Records) : Type 0 where
+-- The record of an identifier was overwritten: all others are as before, and so are the free blocks, the data blocks
+-- and the header's block.
+pub record OverwritesRecord (id : ℕ) (rec : Rec) (held : List ℕ) (format : Format) (old new : List ℕ) (heads : Heads)
+    (records : Records) : Type 0 where
   pub tree : IsWholeTree (loose_of held None None) format new heads (insert records id rec)
   pub counted : TakesCounted 0 old new heads heads
-  pub same_data : (block : ℕ) → times (data_with (loose_of held None None) new heads.blocks) block ≡ times (data_with (loose_of held None None) old heads.blocks) block
+  pub same_data : (block : ℕ)
+      → times (data_with (loose_of held None None) new heads.blocks) block
+      ≡ times (data_with (loose_of held None None) old heads.blocks) block
   pub header : block_of new 0 ≡ block_of old 0
 
--- The record of an identifier was overwritten so in each tree of which no leaf is awaited, and in which its leaf leads to a block.
+-- The record of an identifier was overwritten so in each tree of which no leaf is awaited, and in which its leaf leads
+-- to a block.
 abbrev pub OverwritesEachTree : (block id : ℕ) → Rec → Format → (old new : List ℕ) → Type 0
-OverwritesEachTree block id rec format old new = (held : List ℕ) (heads : Heads) (records : Records) → leaf_block old heads.blocks id ≡ Some block
-    → IsWholeTree (loose_of held None None) format old heads records → OverwritesRecord id rec held format old new heads records
+OverwritesEachTree block id rec format old new =
+    (held : List ℕ) (heads : Heads) (records : Records) → leaf_block old heads.blocks id ≡ Some block
+    → IsWholeTree (loose_of held None None) format old heads records
+    → OverwritesRecord id rec held format old new heads records

@@ -7,8 +7,8 @@ use Rattle.quota_types.specs.declared.record.Entry.{Entry}
 use Rattle.tree_meaning.specs.Entries.{entry_bytes, entry_of, used_ids}
 use Rattle.tree_meaning.specs.EntryPlaces.{KeepsOtherEntries}
 
--- An entry stands now at a place of a block, whatever stood there: all other entries are as before, the block states how many it
--- uses, and its links stay.
+-- An entry stands now at a place of a block, whatever stood there: all other entries are as before, the block states
+-- how many it uses, and its links stay.
 pub record PutsCounted (format : Format) (place : ℕ) (entry : Entry) (old new : List ℕ) : Type 0 where
   pub others : KeepsOtherEntries format place old new
   pub is : entry_of format (entry_bytes format new place) ≡ Some entry

@@ -14,8 +14,9 @@ use Rattle.tree_meaning.specs.TreeFile.{TreeStandsFor}
 use Rattle.tree_change.specs.Freed.{FreesBlocks, freed_blocks}
 use Rattle.tree_change.specs.Shows.{IsWholeTree}
 
--- Bytes stand for a value without a record. The heads are those that their header states, all other bytes of whose block stay. There
--- are as many blocks as before, and those that the removal frees stand before the free ones. The file is as long as before.
+-- Bytes stand for a value without a record. The heads are those that their header states, all other bytes of whose
+-- block stay. There are as many blocks as before, and those that the removal frees stand before the free ones. The file
+-- is as long as before.
 pub record RemovesRecord (id : ℕ) (value : QuotaValue) (old new : List ℕ) (heads : Heads) : Type 0 where
   pub stands : TreeStandsFor new (without_record value id)
   pub heads_are : heads ≡ heads_of (header_of new)
@@ -24,9 +25,10 @@ pub record RemovesRecord (id : ℕ) (value : QuotaValue) (old new : List ℕ) (h
   pub long : length new ≡ length old
   pub freed : FreesBlocks (freed_blocks old new heads.blocks id) old new (heads_of (header_of old)) heads
 
--- A tree of which nothing is loose lost the record of an identifier: nothing is loose of it, the header's block is as before, and the
--- blocks that it frees stand before the free ones.
-pub record LosesOneRecord (format : Format) (id : ℕ) (old new : List ℕ) (heads now : Heads) (records : Records) : Type 0 where
+-- A tree of which nothing is loose lost the record of an identifier: nothing is loose of it, the header's block is as
+-- before, and the blocks that it frees stand before the free ones.
+pub record LosesOneRecord (format : Format) (id : ℕ) (old new : List ℕ) (heads now : Heads)
+    (records : Records) : Type 0 where
   pub tree : IsWholeTree (loose_of [] None None) format new now (remove records id)
   pub header : block_of new 0 ≡ block_of old 0
   pub freed : FreesBlocks (freed_blocks old new now.blocks id) old new heads now
@@ -38,4 +40,6 @@ TakesRecord format way id old new heads now = (records : Records) → way ≡ bl
 
 -- bytes are no tree with these heads of which nothing is loose and that has this way of an identifier
 abbrev pub HasNoWay : Format → (way : List ℕ) → (id : ℕ) → (file : List ℕ) → Heads → Type 0
-HasNoWay format way id file heads = (records : Records) → way ≡ blocks_on_way file heads.blocks id → ¬ IsWholeTree (loose_of [] None None) format file heads records
+HasNoWay format way id file heads =
+    (records : Records) → way ≡ blocks_on_way file heads.blocks id
+    → ¬ IsWholeTree (loose_of [] None None) format file heads records

@@ -1,5 +1,5 @@
--- Whether a tree file has room for more blocks: it takes those of its list of free blocks first, and then new ones behind the
--- last one, up to a limit.
+-- Whether a tree file has room for more blocks: it takes those of its list of free blocks first, and then new ones
+-- behind the last one, up to a limit.
 use Rattle.std.specs.Prelude.{◌≡◌, ℕ, ◌+◌, ◌-◌, ◌<◌, ◌≤◌, List, length}
 use Rattle.free_chains.specs.Chain.{IsChain}
 use Rattle.free_chains.specs.declared.heads.Heads.{Heads}
@@ -14,8 +14,8 @@ pub record FileHasRoom (file : List ℕ) (heads : Heads) (limit need : ℕ) : Ty
   pub is_free : IsChain file heads.blocks heads.free free 0
   pub room : LeavesRoom heads limit need free
 
--- The list of free blocks, where it ends, has fewer blocks than are needed, and with new ones for the others the file would have
--- this number of blocks.
+-- The list of free blocks, where it ends, has fewer blocks than are needed, and with new ones for the others the file
+-- would have this number of blocks.
 pub record NeedsBlocks (file : List ℕ) (heads : Heads) (need blocks : ℕ) : Type 0 where
   pub few : (free : List ℕ) → IsChain file heads.blocks heads.free free 0 → length free < need
   pub sum : (free : List ℕ) → IsChain file heads.blocks heads.free free 0 → blocks ≡ heads.blocks + (need - length free)

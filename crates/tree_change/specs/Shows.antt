@@ -17,7 +17,8 @@ use Rattle.tree_meaning.specs.TreeFile.{TreeStandsFor}
 
 -- the page of one block was lent for writing, which was read if it was missing
 abbrev pub LendsOne : (tells : Bool) → (block : ℕ) → (before now : StoreSeen) → (old new : Pages) → Type 0
-LendsOne tells block before now old new = LendsSome tells true (missing (pages_of old) block) (block ∷ []) before now old new
+LendsOne tells block before now old new =
+    LendsSome tells true (missing (pages_of old) block) (block ∷ []) before now old new
 
 -- it was not, since the store failed
 abbrev pub LooksAtOne : (tells : Bool) → (block : ℕ) → (before now : StoreSeen) → (old new : Pages) → Type 0
@@ -31,32 +32,43 @@ IsWholeTree loose format file heads records = IsTree loose format file (length f
 abbrev pub ShowsTree : Loose → Format → StoreSeen → Pages → Heads → Records → Type 0
 ShowsTree loose format seen pages heads records = IsWholeTree loose format (shown_over seen pages) heads records
 
--- no bytes of a tree with these heads are so, whatever is held of it, whether a leaf is awaited, and whatever its records are
+-- no bytes of a tree with these heads are so, whatever is held of it, whether a leaf is awaited, and whatever its
+-- records are
 abbrev pub IsNoTree : Format → List ℕ → Heads → Type 0
-IsNoTree format file heads = (held : List ℕ) (awaited : Option TreePath) (records : Records) → ¬ IsWholeTree (loose_of held awaited None) format file heads records
+IsNoTree format file heads =
+    (held : List ℕ) (awaited : Option TreePath) (records : Records)
+    → ¬ IsWholeTree (loose_of held awaited None) format file heads records
 
 -- the same of a tree of which no leaf is awaited
 abbrev pub IsNoCompleteTree : Format → List ℕ → Heads → Type 0
-IsNoCompleteTree format file heads = (held : List ℕ) (records : Records) → ¬ IsWholeTree (loose_of held None None) format file heads records
+IsNoCompleteTree format file heads =
+    (held : List ℕ) (records : Records) → ¬ IsWholeTree (loose_of held None None) format file heads records
 
 -- where what a buffer shows over its file is known, something holds of that
 abbrev pub OfShown : (tells : Bool) → StoreSeen → Pages → (holds : List ℕ → Type 0) → Type 0
 OfShown tells seen pages holds = IsKnown tells seen pages → holds (shown_over seen pages)
 
 -- where what a buffer shows before a call is known, something holds of that and of what it shows then
-abbrev pub OfChange : (tells : Bool) → (before now : StoreSeen) → (old new : Pages) → (holds : List ℕ → List ℕ → Type 0) → Type 0
+abbrev pub OfChange : (tells : Bool) → (before now : StoreSeen) → (old new : Pages)
+    → (holds : List ℕ → List ℕ → Type 0) → Type 0
 OfChange tells before now old new holds = IsKnown tells before old → holds (shown_over before old) (shown_over now new)
 
--- where what a buffer shows is known, something holds of each tree of which no leaf is awaited that it is, by what is held of it and its records
-abbrev pub OfEachTree : (tells : Bool) → Format → StoreSeen → Pages → Heads → (holds : List ℕ → Records → Type 0) → Type 0
+-- where what a buffer shows is known, something holds of each tree of which no leaf is awaited that it is, by what is
+-- held of it and its records
+abbrev pub OfEachTree : (tells : Bool) → Format → StoreSeen → Pages → Heads
+    → (holds : List ℕ → Records → Type 0) → Type 0
 OfEachTree tells format seen pages heads holds =
-    IsKnown tells seen pages → (held : List ℕ) (records : Records) → ShowsTree (loose_of held None None) format seen pages heads records → holds held records
+    IsKnown tells seen pages → (held : List ℕ) (records : Records)
+    → ShowsTree (loose_of held None None) format seen pages heads records → holds held records
 
 -- where what a buffer shows is known and has this header, something holds of each value for which it stands
 abbrev pub OfEachValue : (tells : Bool) → StoreSeen → Pages → Header → (holds : QuotaValue → Type 0) → Type 0
 OfEachValue tells seen pages header holds =
-    IsKnown tells seen pages → AreOf header (header_of (shown_over seen pages)) → (value : QuotaValue) → TreeStandsFor (shown_over seen pages) value → holds value
+    IsKnown tells seen pages → AreOf header (header_of (shown_over seen pages)) → (value : QuotaValue)
+    → TreeStandsFor (shown_over seen pages) value → holds value
 
 -- the same of what the buffer shows before a call, and then
-abbrev pub OfValueChange : (tells : Bool) → (before now : StoreSeen) → (old new : Pages) → Header → (holds : QuotaValue → List ℕ → List ℕ → Type 0) → Type 0
-OfValueChange tells before now old new header holds = OfEachValue tells before old header (λ value. holds value (shown_over before old) (shown_over now new))
+abbrev pub OfValueChange : (tells : Bool) → (before now : StoreSeen) → (old new : Pages) → Header
+    → (holds : QuotaValue → List ℕ → List ℕ → Type 0) → Type 0
+OfValueChange tells before now old new header holds =
+    OfEachValue tells before old header (λ value. holds value (shown_over before old) (shown_over now new))

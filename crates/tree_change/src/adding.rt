@@ -23,8 +23,8 @@ use quota_types::{Format, Rec};
 ///
 /// # Errors
 ///
-/// `Store` where the store failed, `Damage` where one of the two lists leads past the last block, and `Full` where there is
-/// no room for a block. The heads are as before.
+/// `Store` where the store failed, `Damage` where one of the two lists leads past the last block, and `Full` where
+/// there is no room for a block. The heads are as before.
 pub fn add_block<S: Store>(
     pages: &mut Pages,
     store: &mut S,

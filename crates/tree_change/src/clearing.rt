@@ -73,8 +73,8 @@ fn clear_in(format: Format, block: &mut [u8; 1024], place: usize) -> Cleared
     }
 }
 
-/// Clears the entry at a place among the entries of a block, and writes how many the block uses then. It reads the block
-/// where it is not buffered.
+/// Clears the entry at a place among the entries of a block, and writes how many the block uses then. It reads the
+/// block where it is not buffered.
 ///
 /// # Errors
 ///
@@ -104,13 +104,13 @@ fn clear_at<S: Store>(
     Ok(clear_in(format, bytes, place))
 }
 
-/// Clears the entry of an identifier in a block, and writes how many entries the block uses then. It answers what the block
-/// had and has, and reads one block at most.
+/// Clears the entry of an identifier in a block, and writes how many entries the block uses then. It answers what the
+/// block had and has, and reads one block at most.
 ///
 /// # Errors
 ///
-/// `Store` where the store failed, and `Damage` where the identifier uses no entry of the block. The buffer shows what it
-/// showed.
+/// `Store` where the store failed, and `Damage` where the identifier uses no entry of the block. The buffer shows what
+/// it showed.
 pub fn clear_record<S: Store>(
     pages: &mut Pages,
     store: &mut S,
@@ -125,7 +125,8 @@ pub fn clear_record<S: Store>(
     ensures lends { OnOk result (LendsSome S.tells true 1 (block ∷ [])
         (S.seen store.old) (S.seen store.new) pages.old pages.new) }
     ensures brought { OnOk result (is_buffered (pages_of pages.new) block ≡ true) }
-    ensures kept { OnErr result (LooksAtSome S.tells false 1 (S.seen store.old) (S.seen store.new) pages.old pages.new) }
+    ensures kept { OnErr result
+        (LooksAtSome S.tells false 1 (S.seen store.old) (S.seen store.new) pages.old pages.new) }
     ensures refused { IfErr result (IsStepFault (S.seen store.old).faults (S.seen store.new).faults
         (OfShown S.tells (S.seen store.old) pages.old (λ file. record_in format (block_of file block) id ≡ None))) }
     ensures commits { S.commits [] store.old store.new }

@@ -1,6 +1,7 @@
 //! A record that is entered in a data block that has room.
 
-ghost use Rattle.std.specs.Prelude.{◌≡◌, ◌≢◌, ◌⊎◌, ◌+◌, ◌<◌, ◌≤◌, length, true, false, IfErr, IfOk, OnErr, OnOk, is_ok, []};
+ghost use Rattle.std.specs.Prelude.{◌≡◌, ◌≢◌, ◌⊎◌, ◌+◌, ◌<◌, ◌≤◌, length, true, false, IfErr, IfOk, OnErr, OnOk, is_ok};
+ghost use Rattle.std.specs.Prelude.{[]};
 ghost use Rattle.quota_types.specs.Format.{IsTreeFormat};
 ghost use Rattle.quota_types.specs.Kept.{IsKept};
 ghost use Rattle.entry_codec.specs.Entry.{entries_per_block, is_unused};
@@ -55,13 +56,14 @@ fn place_in<S: Store>(
     }
 }
 
-/// Writes the record of an identifier that has none in the first data block that has room, at its first unused place, and
-/// takes the block out of the list of those where it has no room then. It answers the block, and reads four at most.
+/// Writes the record of an identifier that has none in the first data block that has room, at its first unused place,
+/// and takes the block out of the list of those where it has no room then. It answers the block, and reads four at
+/// most.
 ///
 /// # Errors
 ///
-/// `Store` where the store failed, and `Damage` where the first block of the list has no room, or the list leads past the
-/// last block. The heads are as before.
+/// `Store` where the store failed, and `Damage` where the first block of the list has no room, or the list leads past
+/// the last block. The heads are as before.
 pub fn enter_record<S: Store>(
     pages: &mut Pages,
     store: &mut S,

@@ -1,6 +1,7 @@
 //! Blocks that are taken for a change.
 
-ghost use Rattle.std.specs.Prelude.{◌≡◌, ◌≢◌, ◌+◌, ◌≤◌, ◌∷◌, [], length, true, false, IfErr, IfOk, OnErr, OnOk, ⊤, is_ok, max};
+ghost use Rattle.std.specs.Prelude.{◌≡◌, ◌≢◌, ◌+◌, ◌≤◌, ◌∷◌, [], length, true, false, IfErr, IfOk, OnErr, OnOk, ⊤};
+ghost use Rattle.std.specs.Prelude.{is_ok, max};
 ghost use Rattle.quota_types.specs.Times.{times};
 ghost use Rattle.arrayvec.specs.ArrayVec.{array_vec_len};
 ghost use Rattle.quota_pages.specs.Page.{is_buffered};
@@ -17,14 +18,14 @@ use free_chains::{Heads, take_block};
 use outside::Store;
 use quota_pages::Pages;
 
-/// Takes a block, and makes each of its bytes 0: the first free one, or, where none is free, the block behind the last one,
-/// while there are fewer than `limit`. It reads one block at most.
+/// Takes a block, and makes each of its bytes 0: the first free one, or, where none is free, the block behind the last
+/// one, while there are fewer than `limit`. It reads one block at most.
 ///
 /// # Errors
 ///
-/// `Store` where the store failed, `Damage` where the list of free blocks leads past the last block, and `Full` where no
-/// block is free and there are as many as there may be, with the number of blocks that the file would have. The heads are as
-/// before, and the buffer shows what it showed.
+/// `Store` where the store failed, `Damage` where the list of free blocks leads past the last block, and `Full` where
+/// no block is free and there are as many as there may be, with the number of blocks that the file would have. The
+/// heads are as before, and the buffer shows what it showed.
 pub(crate) fn take_one<S: Store>(
     pages: &mut Pages,
     store: &mut S,
@@ -41,7 +42,8 @@ pub(crate) fn take_one<S: Store>(
     ensures lends { IfOk result (λ block. LendsSome S.tells true 1 (block ∷ [])
         (S.seen store.old) (S.seen store.new) pages.old pages.new) }
     ensures brought { IfOk result (λ block. is_buffered (pages_of pages.new) block ≡ true) }
-    ensures kept { OnErr result (LooksAtSome S.tells false 1 (S.seen store.old) (S.seen store.new) pages.old pages.new) }
+    ensures kept { OnErr result
+        (LooksAtSome S.tells false 1 (S.seen store.old) (S.seen store.new) pages.old pages.new) }
     ensures stays { OnErr result (heads.new ≡ heads.old) }
     ensures refused { IfErr result (IsTakeFault (S.seen store.old).faults (S.seen store.new).faults
         (IsKnown S.tells (S.seen store.old) pages.old) (shown_over (S.seen store.old) pages.old) heads.old limit 1) }
@@ -62,9 +64,9 @@ pub(crate) fn take_one<S: Store>(
 ///
 /// # Errors
 ///
-/// `Store` where the store failed, `Damage` where the list of free blocks leads past the last block, and `Full` where there
-/// is no room for them, with the number of blocks that the file would have with the first of them for which there is none. The
-/// heads are as before.
+/// `Store` where the store failed, `Damage` where the list of free blocks leads past the last block, and `Full` where
+/// there is no room for them, with the number of blocks that the file would have with the first of them for which there
+/// is none. The heads are as before.
 pub fn take_fresh<S: Store>(
     pages: &mut Pages,
     store: &mut S,
@@ -84,7 +86,8 @@ pub fn take_fresh<S: Store>(
     ensures uses { UsesPages S.tells (is_ok result) count (S.seen store.old) (S.seen store.new) pages.old pages.new }
     ensures stays { OnErr result (heads.new ≡ heads.old) }
     ensures refused { IfErr result (IsTakeFault (S.seen store.old).faults (S.seen store.new).faults
-        (IsKnown S.tells (S.seen store.old) pages.old) (shown_over (S.seen store.old) pages.old) heads.old limit count) }
+        (IsKnown S.tells (S.seen store.old) pages.old) (shown_over (S.seen store.old) pages.old)
+        heads.old limit count) }
     ensures full { IfErr result (TellsOneMore heads.old limit) }
     ensures commits { S.commits [] store.old store.new }
 {

@@ -94,7 +94,8 @@ pub(crate) fn renew_heads<S: Store>(
         (shown_over (S.seen store.old) pages.old) (shown_over (S.seen store.new) pages.new)) }
     ensures set { OnOk result (OfChange S.tells (S.seen store.old) (S.seen store.new) pages.old pages.new
         (λ before after. AreOf header.now (header_of before) → SetsHeads heads.now before after)) }
-    ensures lends { OnOk result (LendsSome S.tells true 1 (0 ∷ []) (S.seen store.old) (S.seen store.new) pages.old pages.new) }
+    ensures lends { OnOk result
+        (LendsSome S.tells true 1 (0 ∷ []) (S.seen store.old) (S.seen store.new) pages.old pages.new) }
     ensures idle { HasHeads header.now heads.now → pages_of pages.new ≡ pages_of pages.old }
     ensures uses { UsesPages S.tells (is_ok result) 1 (S.seen store.old) (S.seen store.new) pages.old pages.new }
     ensures cause { OnErr result (Rose (S.seen store.old).faults (S.seen store.new).faults) }

@@ -11,17 +11,19 @@ ghost use Rattle.tree_meaning.specs.Loose.{loose_of};
 ghost use Rattle.tree_change.specs.Shows.{IsWholeTree};
 ghost use Rattle.tree_change.specs.Unlinked.{HasAwaited, UnlinksLeaf};
 
-/// Where a leaf is awaited its block is a data block that has one used entry of its identifier, and no path leads to it.
-/// So it is once a leaf was unlinked, of which the entry is still to be cleared.
+/// Where a leaf is awaited its block is a data block that has one used entry of its identifier, and no path leads to
+/// it. So it is once a leaf was unlinked, of which the entry is still to be cleared.
 pub fn an_awaited_leaf_has_its_entry()
     ensures awaited { (held : List ℕ) (misplaced : Option ℕ) (format : Format) (file : List ℕ) (heads : Heads)
         (records : Records) (leaf : TreePath)
         → IsWholeTree (loose_of held (Some leaf) misplaced) format file heads records
         → HasAwaited (loose_of held (Some leaf) misplaced) format file heads records leaf }
-    ensures unlinked { (way : List ℕ) (format : Format) (old new : List ℕ) (heads now : Heads) (records : Records) (id : ℕ)
+    ensures unlinked { (way : List ℕ) (format : Format) (old new : List ℕ) (heads now : Heads)
+        (records : Records) (id : ℕ)
         → UnlinksLeaf way id old new heads now → way ≡ blocks_on_way old heads.blocks id
         → IsWholeTree (loose_of [] None None) format old heads records
-        → HasAwaited (loose_of [] (Some (record { number = id; block = slice_index way 4 })) None) format new now records
+        → HasAwaited (loose_of [] (Some (record { number = id; block = slice_index way 4 })) None)
+        format new now records
         (record { number = id; block = slice_index way 4 }) }
 {}
 

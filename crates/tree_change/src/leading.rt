@@ -17,14 +17,14 @@ use outside::Store;
 use quota_pages::Pages;
 use quota_radix::{Path, link};
 
-/// Leads the way of an identifier to a leaf that is awaited: it takes the blocks that the way lacks, and links the leaf by
-/// them. `path` are the blocks that the way has, one to four, which are buffered. It reads as many blocks as it takes, at
-/// most.
+/// Leads the way of an identifier to a leaf that is awaited: it takes the blocks that the way lacks, and links the leaf
+/// by them. `path` are the blocks that the way has, one to four, which are buffered. It reads as many blocks as it
+/// takes, at most.
 ///
 /// # Errors
 ///
-/// `Store` where the store failed, `Damage` where the list of free blocks leads past the last block, and `Full` where there
-/// is no room for the blocks that the way lacks. The heads are as before.
+/// `Store` where the store failed, `Damage` where the list of free blocks leads past the last block, and `Full` where
+/// there is no room for the blocks that the way lacks. The heads are as before.
 pub fn lead_to<S: Store>(
     pages: &mut Pages,
     store: &mut S,
@@ -38,12 +38,15 @@ pub fn lead_to<S: Store>(
     requires few { array_vec_len path.now.found ≤ 4 }
     requires brought { AreBuffered (pages_of pages.old) path.now.found.items }
     requires room { length (pages_of pages.old) + (4 - array_vec_len path.now.found) ≤ 12 }
-    ensures led { OnOk result (OfChange S.tells (S.seen store.old) (S.seen store.new) pages.old pages.new (λ before after.
-        LeadsEachTree path.now.found.items (4 - array_vec_len path.now.found) (record { number = id; block = leaf_block })
+    ensures led { OnOk result
+        (OfChange S.tells (S.seen store.old) (S.seen store.new) pages.old pages.new (λ before after.
+        LeadsEachTree path.now.found.items (4 - array_vec_len path.now.found)
+        (record { number = id; block = leaf_block })
         before after heads.old heads.new)) }
     ensures first { OnOk result (heads.new.first ≡ heads.old.first) }
     ensures takes { OnOk result (TakesWithin limit
-        (slice_index path.now.found.items (array_vec_len path.now.found - 1) ≢ 0) heads.old heads.new pages.old pages.new) }
+        (slice_index path.now.found.items (array_vec_len path.now.found - 1) ≢ 0) heads.old heads.new
+        pages.old pages.new) }
     ensures uses { UsesPages S.tells (is_ok result) (4 - array_vec_len path.now.found)
         (S.seen store.old) (S.seen store.new) pages.old pages.new }
     ensures stays { OnErr result (heads.new ≡ heads.old) }

@@ -1,9 +1,9 @@
-//! The steps by which one record is put into a tree quota file in place, or removed from it, block by block, over a buffer of
-//! its pages.
+//! The steps by which one record is put into a tree quota file in place, or removed from it, block by block, over a
+//! buffer of its pages.
 //!
-//! The one promise: where what is shown is a tree with some things loose, each step leaves a tree with those loose that it
-//! says, at the heads that it says, with the same records, with the one that it puts, or without the one that it removes. A
-//! step says how many pages it uses at most, and one that is refused leaves the heads as they were.
+//! The one promise: where what is shown is a tree with some things loose, each step leaves a tree with those loose that
+//! it says, at the heads that it says, with the same records, with the one that it puts, or without the one that it
+//! removes. A step says how many pages it uses at most, and one that is refused leaves the heads as they were.
 #![tactic(auto)]
 
 mod adding;

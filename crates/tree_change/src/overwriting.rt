@@ -1,6 +1,7 @@
 //! A record that is overwritten in its data block.
 
-ghost use Rattle.std.specs.Prelude.{◌≡◌, ◌≢◌, ◌+◌, ◌<◌, ◌≤◌, [], length, true, None, Some, IsSome, IfErr, IfOk, OnErr, OnOk, is_ok};
+ghost use Rattle.std.specs.Prelude.{◌≡◌, ◌≢◌, ◌+◌, ◌<◌, ◌≤◌, [], length, true, None, Some, IsSome, IfErr, IfOk, OnErr};
+ghost use Rattle.std.specs.Prelude.{OnOk, is_ok};
 ghost use Rattle.quota_types.specs.Format.{IsTreeFormat};
 ghost use Rattle.quota_types.specs.Kept.{IsKept};
 ghost use Rattle.entry_codec.specs.Entry.{entries_per_block};
@@ -70,7 +71,8 @@ pub(crate) fn place_of<S: Store>(
     }
 }
 
-/// Writes the record of an identifier over that at a place among the entries of a data block, which is lent for writing.
+/// Writes the record of an identifier over that at a place among the entries of a data block, which is lent for
+/// writing.
 ///
 /// # Errors
 ///
@@ -101,8 +103,8 @@ fn rewrite_record<S: Store>(
     Ok(())
 }
 
-/// Overwrites the record of an identifier in the data block to which its leaf leads, of which one is read, and one lent, at
-/// most. No list of blocks changes.
+/// Overwrites the record of an identifier in the data block to which its leaf leads, of which one is read, and one
+/// lent, at most. No list of blocks changes.
 ///
 /// # Errors
 ///

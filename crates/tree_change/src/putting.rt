@@ -1,6 +1,7 @@
 //! A record that is put into a tree file.
 
-ghost use Rattle.std.specs.Prelude.{◌≡◌, ◌≢◌, ◌+◌, ◌-◌, ◌*◌, ◌≤◌, length, slice_index, IfErr, IfOk, IsSome, OnErr, OnOk, ⊤, is_ok, []};
+ghost use Rattle.std.specs.Prelude.{◌≡◌, ◌≢◌, ◌+◌, ◌-◌, ◌*◌, ◌≤◌, length, slice_index, IfErr, IfOk, IsSome, OnErr};
+ghost use Rattle.std.specs.Prelude.{OnOk, ⊤, is_ok, []};
 ghost use Rattle.std.specs.FinMap.{get};
 ghost use Rattle.arrayvec.specs.ArrayVec.{array_vec_len};
 ghost use Rattle.quota_types.specs.Format.{IsTreeFormat};
@@ -11,7 +12,8 @@ ghost use Rattle.quota_pages.specs.Used.{IsKnown, UsesPages, shown_over};
 ghost use Rattle.quota_radix.specs.Link.{AreBuffered};
 ghost use Rattle.tree_change.specs.ChangeFault.{IfFull};
 ghost use Rattle.tree_change.specs.Enters.{EntersEachTree};
-ghost use Rattle.tree_change.specs.Putting.{WayEndsEarly, IsEnterFault, IsPutFault, IsPutInFault, PutsInEachTree, PutsOverOne, TakesWithin};
+ghost use Rattle.tree_change.specs.Putting.{WayEndsEarly, IsEnterFault, IsPutFault, IsPutInFault, PutsInEachTree};
+ghost use Rattle.tree_change.specs.Putting.{PutsOverOne, TakesWithin};
 ghost use Rattle.tree_change.specs.BlocksWanted.{data_wanted};
 ghost use Rattle.tree_change.specs.Shows.{OfChange, OfEachTree};
 
@@ -34,8 +36,8 @@ fn data_wanted(heads: &Heads) -> u32
     if heads.first == 0 { 1 } else { 0 }
 }
 
-/// Enters the record of an identifier that has none: in the first data block that has room, or in a new one where none has.
-/// It answers the block, and reads four at most, or three where it takes one.
+/// Enters the record of an identifier that has none: in the first data block that has room, or in a new one where none
+/// has. It answers the block, and reads four at most, or three where it takes one.
 ///
 /// # Errors
 ///
@@ -54,7 +56,8 @@ fn enter_data<S: Store>(
     requires kept { IsKept format id rec.now }
     requires room { length (pages_of pages.old) + (4 - data_wanted heads.old) ≤ 12 }
     ensures entered { IfOk result (λ block. OfChange S.tells (S.seen store.old) (S.seen store.new) pages.old pages.new
-        (λ before after. EntersEachTree block id rec.now (data_wanted heads.old) format before after heads.old heads.new)) }
+        (λ before after.
+        EntersEachTree block id rec.now (data_wanted heads.old) format before after heads.old heads.new)) }
     ensures takes { OnOk result (TakesWithin limit ⊤ heads.old heads.new pages.old pages.new) }
     ensures uses { UsesPages S.tells (is_ok result) (4 - data_wanted heads.old)
         (S.seen store.old) (S.seen store.new) pages.old pages.new }
@@ -71,8 +74,8 @@ fn enter_data<S: Store>(
     }
 }
 
-/// Puts the record of an identifier that has none: it decides whether there is room, enters the record, and leads the way of
-/// the identifier to it. `path` are the blocks that the way has, one to four, which are buffered.
+/// Puts the record of an identifier that has none: it decides whether there is room, enters the record, and leads the
+/// way of the identifier to it. `path` are the blocks that the way has, one to four, which are buffered.
 ///
 /// # Errors
 ///
@@ -94,11 +97,13 @@ fn put_new<S: Store>(
     requires few { array_vec_len path.now.found ≤ 4 }
     requires brought { AreBuffered (pages_of pages.old) path.now.found.items }
     requires room { length (pages_of pages.old) + (2 * (4 - array_vec_len path.now.found) + 4) ≤ 12 }
-    ensures put { OnOk result (WayEndsEarly (shown_over (S.seen store.old) pages.old) heads.old.blocks id path.now.found.items
+    ensures put { OnOk result
+        (WayEndsEarly (shown_over (S.seen store.old) pages.old) heads.old.blocks id path.now.found.items
         → OfChange S.tells (S.seen store.old) (S.seen store.new) pages.old pages.new
         (λ before after. PutsInEachTree id rec.now format before after heads.old heads.new)) }
     ensures takes { OnOk result (TakesWithin limit
-        (slice_index path.now.found.items (array_vec_len path.now.found - 1) ≢ 0) heads.old heads.new pages.old pages.new) }
+        (slice_index path.now.found.items (array_vec_len path.now.found - 1) ≢ 0) heads.old heads.new
+        pages.old pages.new) }
     ensures uses { UsesPages S.tells (is_ok result) (2 * (4 - array_vec_len path.now.found) + 4)
         (S.seen store.old) (S.seen store.new) pages.old pages.new }
     ensures stays { OnErr result (heads.new ≡ heads.old) }
@@ -107,7 +112,8 @@ fn put_new<S: Store>(
         × WayEndsEarly (shown_over (S.seen store.old) pages.old) heads.old.blocks id path.now.found.items)
         format (shown_over (S.seen store.old) pages.old) heads.old limit
         ((4 - array_vec_len path.now.found) + data_wanted heads.old)) }
-    ensures full { IfErr result (IfFull (WayEndsEarly (shown_over (S.seen store.old) pages.old) heads.old.blocks id path.now.found.items
+    ensures full { IfErr result
+        (IfFull (WayEndsEarly (shown_over (S.seen store.old) pages.old) heads.old.blocks id path.now.found.items
         → OfEachTree S.tells format (S.seen store.old) pages.old heads.old (λ _ _.
         lent_count (pages_of pages.new) ≡ lent_count (pages_of pages.old)))) }
     ensures commits { S.commits [] store.old store.new }
@@ -127,13 +133,14 @@ fn put_new<S: Store>(
     Ok(())
 }
 
-/// Puts the record of an identifier into a tree file, whether it has one or not. It changes blocks in the buffer alone, and
-/// reads eleven at most.
+/// Puts the record of an identifier into a tree file, whether it has one or not. It changes blocks in the buffer alone,
+/// and reads eleven at most.
 ///
 /// # Errors
 ///
-/// `Store` where the store failed, `Damage` where the file is damaged, and `Full` where the identifier has no record and
-/// there is no room for the blocks that are needed, which is known before any is lent for writing. The heads are as before.
+/// `Store` where the store failed, `Damage` where the file is damaged, and `Full` where the identifier has no record
+/// and there is no room for the blocks that are needed, which is known before any is lent for writing. The heads are as
+/// before.
 pub fn put_in<S: Store>(
     pages: &mut Pages,
     store: &mut S,
@@ -153,7 +160,8 @@ pub fn put_in<S: Store>(
     ensures uses { UsesPages S.tells (is_ok result) 11 (S.seen store.old) (S.seen store.new) pages.old pages.new }
     ensures stays { OnErr result (heads.new ≡ heads.old) }
     ensures refused { IfErr result (IsPutInFault (S.seen store.old).faults (S.seen store.new).faults
-        (IsKnown S.tells (S.seen store.old) pages.old) format (shown_over (S.seen store.old) pages.old) heads.old limit id) }
+        (IsKnown S.tells (S.seen store.old) pages.old) format (shown_over (S.seen store.old) pages.old)
+        heads.old limit id) }
     ensures over { OnOk result (OfEachTree S.tells format (S.seen store.old) pages.old heads.old (λ _ records.
         IsSome (get records id) → PutsOverOne (pages_of pages.old) (pages_of pages.new) heads.old heads.new)) }
     ensures full { IfErr result (IfFull (OfEachTree S.tells format (S.seen store.old) pages.old heads.old (λ _ _.

@@ -26,13 +26,14 @@ use quota_types::Rec;
 
 /// Puts the record of an identifier into a tree file with this header, and answers the heads that the file has then.
 ///
-/// At most twelve blocks are read. What the file should be is left in the buffer; nothing is written yet. For an identifier
-/// that has a record at most one block is lent for writing. Where the heads stay at most eleven are, and not the header's.
+/// At most twelve blocks are read. What the file should be is left in the buffer; nothing is written yet. For an
+/// identifier that has a record at most one block is lent for writing. Where the heads stay at most eleven are, and not
+/// the header's.
 ///
 /// # Errors
 ///
-/// `Store` where the store failed, `Damage` where the file is damaged, and `Full` where the identifier has no record and
-/// the file would have more blocks with it than the limit, which is known before any is lent for writing.
+/// `Store` where the store failed, `Damage` where the file is damaged, and `Full` where the identifier has no record
+/// and the file would have more blocks with it than the limit, which is known before any is lent for writing.
 pub fn put_record<S: Store>(
     pages: &mut Pages,
     store: &mut S,
@@ -46,7 +47,8 @@ pub fn put_record<S: Store>(
     requires empty { pages_of pages.old ≡ [] }
     requires two { 2 ≤ header.now.blocks }
     requires few { header.now.blocks ≤ limit }
-    ensures shown { IfOk result (λ heads. OfValueChange S.tells (S.seen store.old) (S.seen store.new) pages.old pages.new
+    ensures shown { IfOk result
+        (λ heads. OfValueChange S.tells (S.seen store.old) (S.seen store.new) pages.old pages.new
         header.now (λ value before after. PutsRecord id rec.now value before after heads)) }
     ensures known { OnOk result (OfEachValue S.tells (S.seen store.old) pages.old header.now (λ value.
         IsSome (get value.records id) → lent_count (pages_of pages.new) ≤ 1)) }

@@ -1,6 +1,7 @@
 //! A record that is removed from a tree file in place.
 
-ghost use Rattle.std.specs.Prelude.{◌≡◌, ◌+◌, ◌≤◌, ◌∷◌, [], length, slice_index, take, true, is_ok, is_none, None, IfErr, IfOk, IfSome, OnErr, OnOk};
+ghost use Rattle.std.specs.Prelude.{◌≡◌, ◌+◌, ◌≤◌, ◌∷◌, [], length, slice_index, take, true, is_ok, is_none, None};
+ghost use Rattle.std.specs.Prelude.{IfErr, IfOk, IfSome, OnErr, OnOk};
 ghost use Rattle.std.specs.FinMap.{get};
 ghost use Rattle.arrayvec.specs.ArrayVec.{array_vec_len};
 ghost use Rattle.quota_types.specs.Format.{IsTreeFormat};
@@ -25,12 +26,13 @@ use quota_pages::Pages;
 use quota_radix::{Path, find_path};
 use quota_types::Format;
 
-/// Takes the leaf of an identifier, whose whole way is `path`, and its entry out of the tree. It reads four blocks at most.
+/// Takes the leaf of an identifier, whose whole way is `path`, and its entry out of the tree. It reads four blocks at
+/// most.
 ///
 /// # Errors
 ///
-/// `Store` where the store failed, and `Damage` where the identifier uses no entry of its data block, or the entry list leads
-/// past the last block. The heads are as before.
+/// `Store` where the store failed, and `Damage` where the identifier uses no entry of its data block, or the entry list
+/// leads past the last block. The heads are as before.
 fn take_out<S: Store>(
     pages: &mut Pages,
     store: &mut S,
@@ -46,7 +48,8 @@ fn take_out<S: Store>(
     ensures taken { OnOk result (OfChange S.tells (S.seen store.old) (S.seen store.new) pages.old pages.new
         (λ before after. TakesRecord format path.now.found.items id before after heads.old heads.new)) }
     ensures blocks { OnOk result (heads.new.blocks ≡ heads.old.blocks) }
-    ensures beside { OnOk result (LendsBeside (take 4 path.now.found.items) (slice_index path.now.found.items 4) heads.old.first S.tells 4
+    ensures beside { OnOk result
+        (LendsBeside (take 4 path.now.found.items) (slice_index path.now.found.items 4) heads.old.first S.tells 4
         (S.seen store.old) (S.seen store.new) pages.old pages.new) }
     ensures uses { UsesPages S.tells (is_ok result) 4 (S.seen store.old) (S.seen store.new) pages.old pages.new }
     ensures stays { OnErr result (heads.new ≡ heads.old) }
@@ -62,13 +65,13 @@ fn take_out<S: Store>(
     Ok(())
 }
 
-/// Removes the record of an identifier, whose whole way is `path`, and answers the heads of the file then. It reads five blocks
-/// at most.
+/// Removes the record of an identifier, whose whole way is `path`, and answers the heads of the file then. It reads
+/// five blocks at most.
 ///
 /// # Errors
 ///
-/// `Store` where the store failed, and `Damage` where the identifier uses no entry of its data block, or the entry list leads
-/// past the last block.
+/// `Store` where the store failed, and `Damage` where the identifier uses no entry of its data block, or the entry list
+/// leads past the last block.
 fn remove_found<S: Store>(
     pages: &mut Pages,
     store: &mut S,
@@ -85,7 +88,8 @@ fn remove_found<S: Store>(
         → OfValueChange S.tells (S.seen store.old) (S.seen store.new) pages.old pages.new header.now
         (λ value before after. RemovesRecord id value before after heads)) }
     ensures blocks { IfOk result (λ heads. heads.blocks ≡ header.now.blocks) }
-    ensures beside { OnOk result (LendsBeside (0 ∷ take 4 path.now.found.items) (slice_index path.now.found.items 4) header.now.first S.tells 5
+    ensures beside { OnOk result
+        (LendsBeside (0 ∷ take 4 path.now.found.items) (slice_index path.now.found.items 4) header.now.first S.tells 5
         (S.seen store.old) (S.seen store.new) pages.old pages.new) }
     ensures uses { UsesPages S.tells (is_ok result) 5 (S.seen store.old) (S.seen store.new) pages.old pages.new }
     ensures refused { IfErr result (IsChangeFault (S.seen store.old).faults (S.seen store.new).faults
@@ -99,17 +103,18 @@ fn remove_found<S: Store>(
     Ok(heads)
 }
 
-/// Removes the record of an identifier from a tree file with this header, and answers the heads that the file has then, or
-/// None where the identifier has no record. Then nothing was lent for writing.
+/// Removes the record of an identifier from a tree file with this header, and answers the heads that the file has then,
+/// or None where the identifier has no record. Then nothing was lent for writing.
 ///
-/// At most twelve blocks are read. What the file should be is left in the buffer; nothing is written yet. Eight blocks at most
-/// are lent for writing: the header's, the five on the way of the identifier, and the two beside the data block in the entry
-/// list. The tree blocks that the way has lost are free, and before them the data block, where it has no entry.
+/// At most twelve blocks are read. What the file should be is left in the buffer; nothing is written yet. Eight blocks
+/// at most are lent for writing: the header's, the five on the way of the identifier, and the two beside the data block
+/// in the entry list. The tree blocks that the way has lost are free, and before them the data block, where it has no
+/// entry.
 ///
 /// # Errors
 ///
-/// `Store` where the store failed, and `Damage` where a reference on the way of the identifier, or the entry list, leads past
-/// the last block, or the identifier uses no entry of its data block.
+/// `Store` where the store failed, and `Damage` where a reference on the way of the identifier, or the entry list,
+/// leads past the last block, or the identifier uses no entry of its data block.
 pub fn remove_record<S: Store>(
     pages: &mut Pages,
     store: &mut S,
@@ -124,7 +129,8 @@ pub fn remove_record<S: Store>(
     ensures blocks { IfOk result (λ found. IfSome found (λ heads. heads.blocks ≡ header.now.blocks)) }
     ensures found { IfOk result (λ found. OfEachValue S.tells (S.seen store.old) pages.old header.now (λ value.
         is_none (get value.records id) ≡ is_none found)) }
-    ensures touched { IfOk result (λ found. IfSome found (λ _. LendsForRemoval id header.now.blocks header.now.first S.tells
+    ensures touched { IfOk result
+        (λ found. IfSome found (λ _. LendsForRemoval id header.now.blocks header.now.first S.tells
         (S.seen store.old) (S.seen store.new) pages.old pages.new)) }
     ensures few { OnOk result (lent_count (pages_of pages.new) ≤ 8) }
     ensures absent { IfOk result (λ found. found ≡ None

@@ -8,7 +8,8 @@ ghost use Rattle.quota_pages.specs.Pages.{pages_of};
 ghost use Rattle.quota_pages.specs.Used.{UsesPages};
 ghost use Rattle.tree_change.specs.Beside.{LendsBeside};
 ghost use Rattle.tree_change.specs.ChangeFault.{IsStepFault};
-ghost use Rattle.tree_change.specs.Removes.{AwaitsInNoTree, EntersTree, GivesTree, IsNoTreeMisplacing, IsNoTreeOf, LeavesTree, RemovesEntry};
+ghost use Rattle.tree_change.specs.Removes.{AwaitsInNoTree, EntersTree, GivesTree, IsNoTreeMisplacing, IsNoTreeOf};
+ghost use Rattle.tree_change.specs.Removes.{LeavesTree, RemovesEntry};
 ghost use Rattle.tree_change.specs.Shows.{OfChange, OfShown};
 
 use crate::change_fault::ChangeFault;
@@ -22,7 +23,8 @@ use quota_types::Format;
 ///
 /// # Errors
 ///
-/// `Store` where the store failed, and `Damage` where a link of the block leads past the last block. The heads are as before.
+/// `Store` where the store failed, and `Damage` where a link of the block leads past the last block. The heads are as
+/// before.
 fn leave_list<S: Store>(
     pages: &mut Pages,
     store: &mut S,
@@ -75,12 +77,13 @@ fn enter_list<S: Store>(
     Ok(())
 }
 
-/// Takes a block without entries, which is buffered, out of the entry list, and puts it before the list of free blocks. It
-/// reads three blocks at most.
+/// Takes a block without entries, which is buffered, out of the entry list, and puts it before the list of free blocks.
+/// It reads three blocks at most.
 ///
 /// # Errors
 ///
-/// `Store` where the store failed, and `Damage` where a link of the block leads past the last block. The heads are as before.
+/// `Store` where the store failed, and `Damage` where a link of the block leads past the last block. The heads are as
+/// before.
 fn give_up<S: Store>(
     pages: &mut Pages,
     store: &mut S,
@@ -108,13 +111,13 @@ fn give_up<S: Store>(
     Ok(())
 }
 
-/// Removes the entry of an identifier, whose leaf is unlinked, from its block. A block that was full enters the entry list, and
-/// one that has no entry then leaves it and is free. It reads four blocks at most.
+/// Removes the entry of an identifier, whose leaf is unlinked, from its block. A block that was full enters the entry
+/// list, and one that has no entry then leaves it and is free. It reads four blocks at most.
 ///
 /// # Errors
 ///
-/// `Store` where the store failed, and `Damage` where the identifier uses no entry of the block, or the list leads past the
-/// last block. The heads are as before.
+/// `Store` where the store failed, and `Damage` where the identifier uses no entry of the block, or the list leads past
+/// the last block. The heads are as before.
 pub fn remove_entry<S: Store>(
     pages: &mut Pages,
     store: &mut S,

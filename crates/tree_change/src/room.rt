@@ -14,8 +14,8 @@ use free_chains::{Heads, count_free};
 use outside::Store;
 use quota_pages::Pages;
 
-/// Whether `need` blocks can be taken, 4 at most, while the file has no more than `limit` blocks. It counts the list of free
-/// blocks as far as `need`, and reads as many at most.
+/// Whether `need` blocks can be taken, 4 at most, while the file has no more than `limit` blocks. It counts the list of
+/// free blocks as far as `need`, and reads as many at most.
 ///
 /// # Errors
 ///

@@ -38,7 +38,8 @@ pub fn unlink_leaf<S: Store>(
     ensures blocks { heads.new.blocks ≡ heads.old.blocks }
     ensures first { heads.new.first ≡ heads.old.first }
     ensures brought { OnOk result (AreBuffered (pages_of pages.new) (take 4 path.now.found.items)) }
-    ensures lends { OnOk result (LendsSome S.tells true (missing_among (pages_of pages.old) (take 4 path.now.found.items))
+    ensures lends { OnOk result
+        (LendsSome S.tells true (missing_among (pages_of pages.old) (take 4 path.now.found.items))
         (take 4 path.now.found.items) (S.seen store.old) (S.seen store.new) pages.old pages.new) }
     ensures uses { UsesPages S.tells (is_ok result) (missing_among (pages_of pages.old) (take 4 path.now.found.items))
         (S.seen store.old) (S.seen store.new) pages.old pages.new }
@@ -66,7 +67,8 @@ pub(crate) fn give_all<S: Store>(
         (λ before after. GivesHeld given.now before after heads.old heads.new)) }
     ensures blocks { heads.new.blocks ≡ heads.old.blocks }
     ensures first { heads.new.first ≡ heads.old.first }
-    ensures lends { OnOk result (LendsSome S.tells true 0 given.now (S.seen store.old) (S.seen store.new) pages.old pages.new) }
+    ensures lends { OnOk result
+        (LendsSome S.tells true 0 given.now (S.seen store.old) (S.seen store.new) pages.old pages.new) }
     ensures uses { UsesPages S.tells (is_ok result) 0 (S.seen store.old) (S.seen store.new) pages.old pages.new }
     ensures stays { OnErr result (heads.new ≡ heads.old) }
     ensures cause { OnErr result (Rose (S.seen store.old).faults (S.seen store.new).faults) }

@@ -23,8 +23,8 @@ use tree_meaning::{put_entry, used_count};
 /// Where a data block states how many of its entries are used.
 const COUNT_AT: usize = 8;
 
-/// Puts an entry at a place among the entries of a block, whatever stood there, and has the block state how many it uses
-/// then. It answers whether some entry is unused still.
+/// Puts an entry at a place among the entries of a block, whatever stood there, and has the block state how many it
+/// uses then. It answers whether some entry is unused still.
 fn put_counted(format: Format, block: &mut [u8; 1024], place: usize, id: u32, rec: &Rec) -> bool
     requires tree { IsTreeFormat format }
     requires place { place < entries_per_block format }
@@ -39,8 +39,8 @@ fn put_counted(format: Format, block: &mut [u8; 1024], place: usize, id: u32, re
     count < entries_per_block(format)
 }
 
-/// Writes the record of an identifier at a place among the entries of a data block, which is lent for writing, and has the
-/// block state how many entries it uses then. It answers whether some entry is unused still.
+/// Writes the record of an identifier at a place among the entries of a data block, which is lent for writing, and has
+/// the block state how many entries it uses then. It answers whether some entry is unused still.
 ///
 /// # Errors
 ///

@@ -27,14 +27,17 @@ pub record AreRoles (file : List ℕ) (blocks free_head : ℕ) (roles : Roles) :
 
 -- a damage of a file by its number of blocks alone
 abbrev pub IsLengthDefect : List ℕ → ℕ → Damage → Type 0
-IsLengthDefect file blocks damage = (format : Format) (numbers : HeaderNumbers) → numbers.blocks ≡ blocks → IsTreeDefect format file numbers damage
+IsLengthDefect file blocks damage =
+    (format : Format) (numbers : HeaderNumbers) → numbers.blocks ≡ blocks → IsTreeDefect format file numbers damage
 
 -- a damage of a file by its number of blocks and the head of its free list
 abbrev pub IsRoleDefect : List ℕ → ℕ → ℕ → Damage → Type 0
 IsRoleDefect file blocks free_head damage =
-    (format : Format) (numbers : HeaderNumbers) → numbers.blocks ≡ blocks → numbers.free ≡ free_head → IsTreeDefect format file numbers damage
+    (format : Format) (numbers : HeaderNumbers) → numbers.blocks ≡ blocks → numbers.free ≡ free_head
+    → IsTreeDefect format file numbers damage
 
 -- a damage of a file by its number of blocks and the head of its entry list
 abbrev pub IsListedDefect : Format → List ℕ → ℕ → ℕ → Damage → Type 0
 IsListedDefect format file blocks first damage =
-    (numbers : HeaderNumbers) → numbers.blocks ≡ blocks → numbers.first ≡ first → IsTreeDefect format file numbers damage
+    (numbers : HeaderNumbers) → numbers.blocks ≡ blocks → numbers.first ≡ first
+    → IsTreeDefect format file numbers damage

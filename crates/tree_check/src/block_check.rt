@@ -11,8 +11,8 @@ use outside::Store;
 use quota_types::Format;
 use tree_meaning::compare_entries;
 
-/// Reads a data block into `block`, checks its entries against the identifiers that lead to it, and answers whether it has
-/// room.
+/// Reads a data block into `block`, checks its entries against the identifiers that lead to it, and answers whether it
+/// has room.
 pub(crate) fn check_block<S: Store>(
     store: &mut S,
     name: &str,

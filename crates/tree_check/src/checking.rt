@@ -24,10 +24,10 @@ use std::alloc::Global;
 
 /// Checks a tree file whose header is this one, and tells how many records it has and how many blocks are free.
 ///
-/// It succeeds exactly where the file stands for a map, and a damage that it answers is one of the file. It makes in all
-/// at most twice as many reads as the header has blocks, whatever it answers and whether or not the store tells its files.
-/// Time and memory grow with the blocks and the identifiers; where the data blocks do not ascend with the identifiers, the
-/// leaves of the tree are sorted by block first. No clause says so.
+/// It succeeds exactly where the file stands for a map, and a damage that it answers is one of the file. It makes in
+/// all at most twice as many reads as the header has blocks, whatever it answers and whether or not the store tells its
+/// files. Time and memory grow with the blocks and the identifiers; where the data blocks do not ascend with the
+/// identifiers, the leaves of the tree are sorted by block first. No clause says so.
 ///
 /// # Errors
 ///

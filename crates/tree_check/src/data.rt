@@ -1,4 +1,5 @@
-ghost use Rattle.std.specs.Prelude.{◌≡◌, ℕ, List, ◌+◌, ◌<◌, ◌≤◌, ◌++◌, ◌∷◌, [], ◌&&◌, nat_le, if◌then◌else◌, take, length, IsTrue, IfOk, OnOk, IfErr, MatchOption, is_ok};
+ghost use Rattle.std.specs.Prelude.{◌≡◌, ℕ, List, ◌+◌, ◌<◌, ◌≤◌, ◌++◌, ◌∷◌, [], ◌&&◌, nat_le, if◌then◌else◌, take};
+ghost use Rattle.std.specs.Prelude.{length, IsTrue, IfOk, OnOk, IfErr, MatchOption, is_ok};
 ghost use Rattle.outside.specs.Frame.{OnlyReads};
 ghost use Rattle.file_blocks.specs.Block.{block_of, file_of};
 ghost use Rattle.file_blocks.specs.BlockSet.{AreFlagsOf};
@@ -68,8 +69,8 @@ pub(crate) fn check_data<S: Store>(
     Ok(room)
 }
 
-/// Checks a block, by way of `bytes`, against the identifiers that lead to it, where there are some, and adds it to those that
-/// have room where it has room.
+/// Checks a block, by way of `bytes`, against the identifiers that lead to it, where there are some, and adds it to
+/// those that have room where it has room.
 fn check_group<S: Store>(
     store: &mut S,
     name: &str,

@@ -1,4 +1,5 @@
-ghost use Rattle.std.specs.Prelude.{◌≡◌, ◌≢◌, ◌+◌, ◌<◌, ◌≤◌, ◌++◌, ℕ, All, List, length, slice_index_or, take, OnOk, IfErr};
+ghost use Rattle.std.specs.Prelude.{◌≡◌, ◌≢◌, ◌+◌, ◌<◌, ◌≤◌, ◌++◌, ℕ, All, List, length, slice_index_or, take, OnOk};
+ghost use Rattle.std.specs.Prelude.{IfErr};
 ghost use Rattle.quota_radix.specs.declared.tree_path.TreePath.{TreePath};
 ghost use Rattle.file_blocks.specs.BlockSet.{AreFlagsOf};
 ghost use Rattle.tree_check.specs.Groups.{AreByBlock, AreGroupsOf, AreLeftFrom, groups_of, named_blocks};
@@ -11,8 +12,8 @@ use quota_radix::TreePath;
 use quota_types::{Damage, DamageKind, damage_at};
 use std::alloc::AllocError;
 
-/// Puts the leaves that name one block side by side, the blocks ascending. Those of one block stay in their order. Where
-/// the blocks ascend already, as in a file that was built at once, no memory is taken.
+/// Puts the leaves that name one block side by side, the blocks ascending. Those of one block stay in their order.
+/// Where the blocks ascend already, as in a file that was built at once, no memory is taken.
 pub(crate) fn sort_by_block(leaves: &mut Vec<TreePath>) -> Result<(), AllocError>
     ensures by_block { OnOk result (AreByBlock leaves.new.items) }
     ensures same { OnOk result ((block : ℕ) → ids_at leaves.new.items block ≡ ids_at leaves.old.items block) }

@@ -1,7 +1,7 @@
 //! The check of a tree quota file, vfsv0 or vfsv1: whether it stands for a map, and if not, what is wrong with it.
 //!
-//! The one promise: a file that is checked stands for a map from identifiers to records, with every block in one role, and
-//! what is said to be wrong with a file is wrong with it.
+//! The one promise: a file that is checked stands for a map from identifiers to records, with every block in one role,
+//! and what is said to be wrong with a file is wrong with it.
 #![tactic(auto)]
 
 mod block_check;

@@ -31,7 +31,8 @@ pub(crate) fn check_lists<S: Store>(
     ensures chained { OnOk result (IsTrue S.tells
         → AreGroupsOf header.now.blocks (leaves (file_of (S.seen store.old).files name.now) header.now.blocks)
         (groups_of header.now.blocks by_block.now)
-        → Chained nothing_loose header.now.format (file_of (S.seen store.old).files name.now) header.now.blocks header.now.first) }
+        → Chained nothing_loose header.now.format (file_of (S.seen store.old).files name.now) header.now.blocks
+        header.now.first) }
     ensures filled { OnOk result (IsTrue S.tells
         → AreGroupsOf header.now.blocks (leaves (file_of (S.seen store.old).files name.now) header.now.blocks)
         (groups_of header.now.blocks by_block.now)

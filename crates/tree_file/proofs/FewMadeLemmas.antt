@@ -6,7 +6,8 @@ use Rattle.entry_codec.specs.Header.{header_of}
 use Rattle.tree_file.specs.TreeChange.{MakesFew, TreeChanged, TreeMakes}
 
 -- a file of few blocks is there where a file that is there before is related so to one behind it
-few_after : (limit : ℕ) (so : List ℕ → List ℕ → Type 0) (before after : Option (List ℕ)) → IsSomeAnd before (λ old. IsSomeAnd after (MakesFew limit so old))
+few_after : (limit : ℕ) (so : List ℕ → List ℕ → Type 0) (before after : Option (List ℕ))
+    → IsSomeAnd before (λ old. IsSomeAnd after (MakesFew limit so old))
     → IsSomeAnd after (λ bytes. (header_of bytes).blocks ≤ limit)
 few_after limit so (Some before) (Some after) is = is.1
 few_after limit so (Some before) None is = absurd is

@@ -47,7 +47,8 @@ module _ (old bytes : List ℕ) (grace : Grace) (keeps : KeepsOutside 8 16 (bloc
       ∙ ap (byte_at bytes) (let same : at - 1024 * 0 ≡ at = omega arith in same)
 
   first_block : (at : ℕ) → at < 1024 → byte_at (block_of old 0) at ≡ byte_at old at
-  first_block at low = byte_at-block_of old 0 at low ∙ ap (byte_at old) (let same : 1024 * 0 + at ≡ at = omega arith in same)
+  first_block at low =
+      byte_at-block_of old 0 at low ∙ ap (byte_at old) (let same : 1024 * 0 + at ≡ at = omega arith in same)
 
   pub graced_laid : IsGraced grace old laid
   graced_laid = record {
@@ -64,7 +65,9 @@ module _ (old bytes : List ℕ) (grace : Grace) (keeps : KeepsOutside 8 16 (bloc
   }
 
 -- a block whose bytes are the same
-block_same : (new old : List ℕ) (block : ℕ) → ((at : ℕ) → at < 1024 → byte_at new (1024 * block + at) ≡ byte_at old (1024 * block + at)) → block_of new block ≡ block_of old block
+block_same : (new old : List ℕ) (block : ℕ)
+    → ((at : ℕ) → at < 1024 → byte_at new (1024 * block + at) ≡ byte_at old (1024 * block + at))
+    → block_of new block ≡ block_of old block
 block_same new old block same =
     ext_get_or 0 (block_of new block) (block_of old block) (length-block_of new block ∙ sym (length-block_of old block))
     (λ at lt.
@@ -72,18 +75,22 @@ block_same new old block same =
     byte_at-block_of new block at low ∙ same at low ∙ sym (byte_at-block_of old block at low))
 
 -- the blocks behind the header stay
-graced_block : (grace : Grace) (old new : List ℕ) (block : ℕ) → IsGraced grace old new → 0 < block → block_of new block ≡ block_of old block
+graced_block : (grace : Grace) (old new : List ℕ) (block : ℕ) → IsGraced grace old new → 0 < block
+    → block_of new block ≡ block_of old block
 graced_block grace old new block graced some =
     block_same new old block (λ at low. graced.others.behind (1024 * block + at) (omega (arith, some)))
 
 -- once its grace periods were set a file stands for the value with them
-pub graced_stands : (grace : Grace) (old new : List ℕ) (value : QuotaValue) → IsGraced grace old new → TreeStandsFor old value → TreeStandsFor new (with_grace value grace)
+pub graced_stands : (grace : Grace) (old new : List ℕ) (value : QuotaValue) → IsGraced grace old new
+    → TreeStandsFor old value → TreeStandsFor new (with_grace value grace)
 graced_stands grace old new value graced stands =
-    stands_kept old new value grace stands (graced_header old new graced.others) (λ number some low. graced_block grace old new number graced some)
+    stands_kept old new value grace stands (graced_header old new graced.others)
+    (λ number some low. graced_block grace old new number graced some)
     (λ more. omega (arith, stands.sound.long more, graced.long)) (sym graced.block_grace) (sym graced.inode_grace)
 
 -- and its header has them
-pub graced_of : (grace : Grace) (old new : List ℕ) (header : Header) → IsGraced grace old new → AreOf header (header_of old) → AreOf (record header { grace = grace }) (header_of new)
+pub graced_of : (grace : Grace) (old new : List ℕ) (header : Header) → IsGraced grace old new
+    → AreOf header (header_of old) → AreOf (record header { grace = grace }) (header_of new)
 graced_of grace old new header graced are =
     let kept : KeepsHeader (header_of old) (header_of new) = graced_header old new graced.others in
     record {

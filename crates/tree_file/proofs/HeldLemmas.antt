@@ -14,11 +14,15 @@ pub there_bytes : (named : Option (List ℕ)) (file : List ℕ) → named ≡ So
 there_bytes named file there = ap bytes_of there
 
 -- the header that is kept is that of the named file
-pub held_header : (tells : Bool) (named : Option (List ℕ)) (header : Header) (coming : Coming) (limit : ℕ) (value : QuotaValue) → HoldsTree tells named header coming limit value
+pub held_header : (tells : Bool) (named : Option (List ℕ)) (header : Header) (coming : Coming) (limit : ℕ)
+    (value : QuotaValue) → HoldsTree tells named header coming limit value
     → AreOf header (header_of (bytes_of named))
-held_header tells named header coming limit value held = subst (λ (file : List ℕ). AreOf header (header_of file)) (sym (there_bytes named held.file held.there)) held.same
+held_header tells named header coming limit value held =
+    subst (λ (file : List ℕ). AreOf header (header_of file)) (sym (there_bytes named held.file held.there)) held.same
 
 -- and that file stands for what is held
-pub held_file : (tells : Bool) (named : Option (List ℕ)) (header : Header) (coming : Coming) (limit : ℕ) (value : QuotaValue) → HoldsTree tells named header coming limit value
+pub held_file : (tells : Bool) (named : Option (List ℕ)) (header : Header) (coming : Coming) (limit : ℕ)
+    (value : QuotaValue) → HoldsTree tells named header coming limit value
     → TreeStandsFor (bytes_of named) value
-held_file tells named header coming limit value held = subst (λ (file : List ℕ). TreeStandsFor file value) (sym (there_bytes named held.file held.there)) held.stands
+held_file tells named header coming limit value held =
+    subst (λ (file : List ℕ). TreeStandsFor file value) (sym (there_bytes named held.file held.there)) held.stands

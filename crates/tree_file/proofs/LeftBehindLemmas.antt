@@ -23,7 +23,8 @@ module _ (before made left : List ℕ) (torn : IsTorn before made left) where
     behind = λ at past. left_byte at (keeps.behind at past);
   }
 
-  pub left_of_put : (id : ℕ) → PutsInPlace id before made → KeepsBehind (header_of before).blocks (header_of made).blocks before left
+  pub left_of_put : (id : ℕ) → PutsInPlace id before made
+      → KeepsBehind (header_of before).blocks (header_of made).blocks before left
   left_of_put id puts = record {
     at_least = puts.at_least;
     behind = left_outside 0 (1024 * (header_of made).blocks) puts.behind;
@@ -31,11 +32,15 @@ module _ (before made left : List ℕ) (torn : IsTorn before made left) where
     within = omega (arith, torn.shorter, puts.long);
   }
 
-  pub left_of_removed : (id : ℕ) → RemovesInPlace id before made → KeepsOutside 0 (1024 * (header_of before).blocks) before left × (length left ≡ length before)
+  pub left_of_removed : (id : ℕ) → RemovesInPlace id before made
+      → KeepsOutside 0 (1024 * (header_of before).blocks) before left × (length left ≡ length before)
   left_of_removed id removes = (
-    left_outside 0 (1024 * (header_of before).blocks) (subst (λ (blocks : ℕ). KeepsOutside 0 (1024 * blocks) before made) removes.blocks removes.behind),
+    left_outside 0 (1024 * (header_of before).blocks)
+        (subst (λ (blocks : ℕ). KeepsOutside 0 (1024 * blocks) before made) removes.blocks removes.behind),
     omega (arith, torn.others.longer, torn.shorter, removes.long),
   )
 
-  pub left_of_graced : (grace : Grace) → IsGraced grace before made → KeepsOutside 8 16 before left × (length before ≤ length left) × (length left ≤ max 1024 (length before))
-  left_of_graced grace graced = (left_outside 8 16 graced.others, torn.others.longer, omega (arith, torn.shorter, graced.long))
+  pub left_of_graced : (grace : Grace) → IsGraced grace before made
+      → KeepsOutside 8 16 before left × (length before ≤ length left) × (length left ≤ max 1024 (length before))
+  left_of_graced grace graced =
+      (left_outside 8 16 graced.others, torn.others.longer, omega (arith, torn.shorter, graced.long))

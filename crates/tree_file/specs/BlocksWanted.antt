@@ -1,4 +1,5 @@
--- How many blocks a tree file needs for records. Whether it has room for a change rests on that number, and so on the file as it is.
+-- How many blocks a tree file needs for records. Whether it has room for a change rests on that number, and so on the
+-- file as it is.
 use Rattle.std.specs.Prelude.{ℕ, ◌==◌, Bool, is_none, List, find, Option, Some, None}
 use Rattle.quota_types.specs.declared.file_kind.Format.{Format}
 use Rattle.quota_types.specs.declared.file_kind.Format.TheVariants.{V1, V1R32, V2R0, V2R1}
@@ -19,14 +20,16 @@ abbrev pub blocks_with_new : List ℕ → Heads → Option ℕ → ℕ
 blocks_with_new file heads None = heads.blocks
 blocks_with_new file heads (Some id) = blocks_with file heads id
 
--- How many blocks a tree file, as it is, will have once it has records of just these identifiers, of which one at most has no leaf yet:
--- as many as it has, where each has one. What is said of calls that stand on it holds for any number in its place.
+-- How many blocks a tree file, as it is, will have once it has records of just these identifiers, of which one at most
+-- has no leaf yet: as many as it has, where each has one. What is said of calls that stand on it holds for any number
+-- in its place.
 unfoldable pub tree_blocks_wanted : Format → Option (List ℕ) → List ℕ → ℕ
 tree_blocks_wanted format file ids =
     blocks_with_new (bytes_of file) (heads_of (header_of (bytes_of file)))
     (find (has_no_leaf (bytes_of file) (header_of (bytes_of file)).blocks) ids)
 
--- how many blocks a file of this format, as it is, will have once it has records of just these identifiers; a flat file has none
+-- how many blocks a file of this format, as it is, will have once it has records of just these identifiers; a flat file
+-- has none
 abbrev pub blocks_wanted : Format → Option (List ℕ) → List ℕ → ℕ
 blocks_wanted V1 file ids = 0
 blocks_wanted V1R32 file ids = 0

@@ -22,12 +22,14 @@ entry_by found = record { id = found.0; rec = found.1 }
 -- each entry is the next one after the one before it, and the first of them the next one after an identifier
 abbrev pub AreNext : Records → ℕ → List (ℕ × Rec) → Type 0
 AreNext records after [] = ⊤
-AreNext records after (found ∷ rest) = IsNextAfter (Some after) records (Some (entry_by found)) × AreNext records found.0 rest
+AreNext records after (found ∷ rest) =
+    IsNextAfter (Some after) records (Some (entry_by found)) × AreNext records found.0 rest
 
 -- each identifier comes after the one before it and has 32 bits, and the format keeps its record
 abbrev pub AreFit : Format → ℕ → List (ℕ × Rec) → Type 0
 AreFit format after [] = ⊤
-AreFit format after (found ∷ rest) = (after < found.0) × (found.0 < 2 ^ 32) × IsKept format found.0 found.1 × AreFit format found.0 rest
+AreFit format after (found ∷ rest) =
+    (after < found.0) × (found.0 < 2 ^ 32) × IsKept format found.0 found.1 × AreFit format found.0 rest
 
 -- what was found and was not taken yet
 abbrev pub left_of : Coming → List (ℕ × Rec)
@@ -47,9 +49,10 @@ pub record LeadsTo (file : List ℕ) (blocks digits number : ℕ) (bytes : List 
   pub led : block_led_to file blocks digits number ≡ Some block
   pub is : bytes ≡ block_of file block
 
--- A file of a format stands for a value, and has two blocks: one of the lowest level of its tree, to which a number of three
--- digits leads, and one that its references may name as a data block.
-pub record StandsBy (format : Format) (lowest data_block : List ℕ) (number block : ℕ) (value : QuotaValue) : Type 0 where
+-- A file of a format stands for a value, and has two blocks: one of the lowest level of its tree, to which a number of
+-- three digits leads, and one that its references may name as a data block.
+pub record StandsBy (format : Format) (lowest data_block : List ℕ) (number block : ℕ)
+    (value : QuotaValue) : Type 0 where
   pub file : List ℕ
   pub header : Header
   pub of : AreOf header (header_of file)

@@ -2,7 +2,8 @@
 use Rattle.opened_file.specs.declared.quota_file.FileFault.{FileFault}
 use Rattle.opened_file.specs.declared.quota_file.FileFault.TheVariants.{Store, Damage, Full}
 use Rattle.tree_change.specs.declared.change_fault.ChangeFault.{ChangeFault}
-use Rattle.tree_change.specs.declared.change_fault.ChangeFault.TheVariants.{Store as NotChanged, Damage as ChangeDamaged, Full as IsFull}
+use Rattle.tree_change.specs.declared.change_fault.ChangeFault.TheVariants.{Store as NotChanged}
+use Rattle.tree_change.specs.declared.change_fault.ChangeFault.TheVariants.{Damage as ChangeDamaged, Full as IsFull}
 use Rattle.quota_radix.specs.declared.walk_fault.WalkFault.{WalkFault}
 use Rattle.quota_radix.specs.declared.walk_fault.WalkFault.TheVariants.{Store as NotWalked, Damage as WalkDamaged}
 

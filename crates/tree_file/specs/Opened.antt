@@ -18,9 +18,10 @@ use Rattle.tree_file.specs.Coming.{HoldsComing}
 use Rattle.tree_file.specs.BlocksWanted.{blocks_wanted}
 use Rattle.tree_file.specs.declared.coming.Coming.{Coming}
 
--- The store tells its files, the named file stands for the value and has no more blocks than it may have, the header that is
--- kept is the file's, and the answers that are kept are those that come next.
-pub record HoldsTree (tells : Bool) (named : Option (List ℕ)) (header : Header) (coming : Coming) (limit : ℕ) (value : QuotaValue) : Type 0 where
+-- The store tells its files, the named file stands for the value and has no more blocks than it may have, the header
+-- that is kept is the file's, and the answers that are kept are those that come next.
+pub record HoldsTree (tells : Bool) (named : Option (List ℕ)) (header : Header) (coming : Coming) (limit : ℕ)
+    (value : QuotaValue) : Type 0 where
   pub told : IsTrue tells
   pub file : List ℕ
   pub there : named ≡ Some file
@@ -35,8 +36,8 @@ pub record LacksRoom (seen : FileSeen) (file : Option (List ℕ)) (value : Quota
   pub may : limit ≡ seen.limit
   pub passes : limit < blocks
 
--- The faults that a call on an opened tree file may answer, whatever the store tells: a damage names an identifier only where
--- its kind does, and memory never runs out.
+-- The faults that a call on an opened tree file may answer, whatever the store tells: a damage names an identifier only
+-- where its kind does, and memory never runs out.
 abbrev pub MayRefuse : FileFault → Type 0
 MayRefuse Store = ⊤
 MayRefuse (Damage damage) = NamesItsId damage.kind damage.id
@@ -46,7 +47,8 @@ MayRefuse Memory = ⊥
 -- A damage is one of the named file, where the store tells that and it has the header that is kept.
 abbrev pub IsNamedDefect : Bool → (named : Option (List ℕ)) → Header → Damaged → Type 0
 IsNamedDefect tells named header damage =
-    IsTrue tells → AreOf header (header_of (bytes_of named)) → IsTreeDefect header.format (bytes_of named) (header_of (bytes_of named)) damage
+    IsTrue tells → AreOf header (header_of (bytes_of named))
+    → IsTreeDefect header.format (bytes_of named) (header_of (bytes_of named)) damage
 
 -- a header with other heads
 abbrev pub with_heads : Header → Heads → Header

@@ -8,7 +8,8 @@ use Rattle.tree_file.specs.Opened.{HoldsTree}
 use Rattle.tree_file.specs.declared.coming.Coming.{Coming}
 
 -- another store with the same named file
-pub rests_on_named : (tells : Bool) (named named' : Option (List ℕ)) (header : Header) (coming : Coming) (limit : ℕ) (value : QuotaValue) → named' ≡ named
+pub rests_on_named : (tells : Bool) (named named' : Option (List ℕ)) (header : Header) (coming : Coming) (limit : ℕ)
+    (value : QuotaValue) → named' ≡ named
     → HoldsTree tells named header coming limit value → HoldsTree tells named' header coming limit value
 rests_on_named tells named named' header coming limit value n held = record {
   told = held.told;
@@ -21,7 +22,9 @@ rests_on_named tells named named' header coming limit value n held = record {
 }
 
 -- the named file stands for what is held
-pub held_stands : (tells : Bool) (named : Option (List ℕ)) (header : Header) (coming : Coming) (limit : ℕ) (value : QuotaValue) → HoldsTree tells named header coming limit value
+pub held_stands : (tells : Bool) (named : Option (List ℕ)) (header : Header) (coming : Coming) (limit : ℕ)
+    (value : QuotaValue) → HoldsTree tells named header coming limit value
     → IsSomeAnd named (λ bytes. TreeStandsFor bytes value)
 held_stands tells named header coming limit value held =
-    subst (λ (file : Option (List ℕ)). IsSomeAnd file (λ (bytes : List ℕ). TreeStandsFor bytes value)) (sym held.there) held.stands
+    subst (λ (file : Option (List ℕ)). IsSomeAnd file (λ (bytes : List ℕ). TreeStandsFor bytes value))
+    (sym held.there) held.stands

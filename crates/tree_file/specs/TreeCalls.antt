@@ -27,7 +27,8 @@ most_blocks (Put id rec) = 12
 most_blocks (Remove id) = 12
 most_blocks (SetGrace grace) = 1
 
--- how many blocks it writes at most: where a record is taken away the header, the five on its way, and the two beside its data block
+-- how many blocks it writes at most: where a record is taken away the header, the five on its way, and the two beside
+-- its data block
 abbrev pub most_written : FileChange → ℕ
 most_written (Put id rec) = 12
 most_written (Remove id) = 8
@@ -41,7 +42,8 @@ tree_change_reads seen change = most_blocks change
 abbrev pub tree_change_writes : FileSeen → FileChange → ℕ
 tree_change_writes seen change = most_written change
 
--- how many blocks a put that succeeds writes at most, by the record that the identifier had: where there was one, that is written over
+-- how many blocks a put that succeeds writes at most, by the record that the identifier had: where there was one, that
+-- is written over
 abbrev pub blocks_put : Option Rec → ℕ
 blocks_put None = 12
 blocks_put (Some rec) = 1
@@ -55,16 +57,20 @@ tree_done_writes seen value (SetGrace grace) = 1
 -- what is said of all changes of opened tree files, whose store tells its files or doesn't
 abbrev pub tree_laws : Bool → FileLaws
 tree_laws tells =
-    laws_of tells (λ _ file value. TreeStandsFor file value) (λ seen change. TreeMakes seen.limit change) (λ _ _ old after left. TreeLeaves old after left)
-    (λ seen file _ value blocks limit. LacksRoom seen file value blocks limit) (λ _ fault. MayRefuse fault) tree_change_reads tree_change_writes tree_done_writes
+    laws_of tells (λ _ file value. TreeStandsFor file value) (λ seen change. TreeMakes seen.limit change)
+    (λ _ _ old after left. TreeLeaves old after left)
+    (λ seen file _ value blocks limit. LacksRoom seen file value blocks limit) (λ _ fault. MayRefuse fault)
+    tree_change_reads tree_change_writes tree_done_writes
 
--- an opened tree file of this name with this header and these answers that come next, which may have at most this many blocks, with
--- its store
+-- an opened tree file of this name with this header and these answers that come next, which may have at most this many
+-- blocks, with its store
 abbrev pub tree_at : Bool → (name : List ℕ) → FileUse → Header → Coming → ℕ → StoreSeen → FileAt
-tree_at tells name opened header coming limit store = file_at (HoldsTree tells (store.files name) header coming limit) (seen_in opened name header.format limit) store
+tree_at tells name opened header coming limit store =
+    file_at (HoldsTree tells (store.files name) header coming limit) (seen_in opened name header.format limit) store
 
--- Why opening is refused: the store's count of faults rose, there is not enough memory, there is no file, or the file is refused.
--- What is said of the file holds where the store tells it; that no other refusal comes, and where the limit lies, holds always.
+-- Why opening is refused: the store's count of faults rose, there is not enough memory, there is no file, or the file
+-- is refused. What is said of the file holds where the store tells it; that no other refusal comes, and where the limit
+-- lies, holds always.
 abbrev pub IsTreeFault : ℕ → ℕ → Bool → Option (List ℕ) → Kind → Option Format → ℕ → OpenFault → Type 0
 IsTreeFault before now tells named kind asked limit Store = Rose before now
 IsTreeFault before now tells named kind asked limit NoFile = IsTrue tells → named ≡ None

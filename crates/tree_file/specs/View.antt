@@ -1,14 +1,19 @@
--- What is seen of a tree file by whoever opens it: the value that it stands for, or the first refusal that holds. Source:
--- `v2_check_quota_file` and `v2_read_file_info` of the kernel's `fs/quota/quota_v2.c`, and quotaon(8) on formats.
+-- What is seen of a tree file by whoever opens it: the value that it stands for, or the first refusal that holds.
+-- Source: `v2_check_quota_file` and `v2_read_file_info` of the kernel's `fs/quota/quota_v2.c`, and quotaon(8) on
+-- formats.
 use Rattle.std.specs.Prelude.{◌≡◌, ◌≢◌, ℕ, ◌<◌, ◌≤◌, List, Option, Some, None, IfSome, IsSomeAnd, Result, Ok, Err, ⊤}
 use Rattle.quota_types.specs.declared.damage.Damage.{Damage}
 use Rattle.quota_types.specs.declared.file_kind.Format.{Format}
 use Rattle.quota_types.specs.declared.file_kind.Kind.{Kind}
 use Rattle.quota_value.specs.QuotaValue.{QuotaValue}
 use Rattle.opened_file.specs.declared.quota_file.OpenFault.{OpenFault}
-use Rattle.opened_file.specs.declared.quota_file.OpenFault.TheVariants.{Store, NoFile, TooLarge, Memory, NotQuota, WrongKind, UnknownVersion, BadBlockCount, FormatMismatch, Damage as Damaged}
+use Rattle.opened_file.specs.declared.quota_file.OpenFault.TheVariants.{Store, NoFile, TooLarge, Memory, NotQuota}
+use Rattle.opened_file.specs.declared.quota_file.OpenFault.TheVariants.{WrongKind, UnknownVersion, BadBlockCount}
+use Rattle.opened_file.specs.declared.quota_file.OpenFault.TheVariants.{FormatMismatch, Damage as Damaged}
 use Rattle.entry_codec.specs.Header.{HeaderNumbers, format_of, header_fault, header_of}
-use Rattle.entry_codec.specs.declared.header.HeaderFault.TheVariants.{NotQuota as NoMagic, WrongKind as OtherKind, UnknownVersion as OtherVersion, BadBlockCount as FewBlocks}
+use Rattle.entry_codec.specs.declared.header.HeaderFault.TheVariants.{NotQuota as NoMagic, WrongKind as OtherKind}
+use Rattle.entry_codec.specs.declared.header.HeaderFault.TheVariants.{UnknownVersion as OtherVersion}
+use Rattle.entry_codec.specs.declared.header.HeaderFault.TheVariants.{BadBlockCount as FewBlocks}
 use Rattle.tree_meaning.specs.Defect.{IsTreeDefect}
 use Rattle.quota_types.specs.Damage.{NamesItsId}
 use Rattle.tree_meaning.specs.TreeFile.{TreeStandsFor}
@@ -23,7 +28,8 @@ pub record HasHeader (kind : Kind) (numbers : HeaderNumbers) (format : Format) :
   pub version : format_of numbers.version ≡ Some format
 
 -- a header is one of the kind and of the format that was asked for, and has more blocks than there may be
-pub record HasTooManyBlocks (kind : Kind) (asked : Option Format) (limit number : ℕ) (numbers : HeaderNumbers) : Type 0 where
+pub record HasTooManyBlocks (kind : Kind) (asked : Option Format) (limit number : ℕ)
+    (numbers : HeaderNumbers) : Type 0 where
   pub format : Format
   pub header : HasHeader kind numbers format
   pub as_asked : IsAsAsked asked format
@@ -40,8 +46,8 @@ IsRefusedHeader kind asked limit (FormatMismatch found) numbers = HasHeader kind
 IsRefusedHeader kind asked limit (TooLarge number most) numbers = HasTooManyBlocks kind asked limit number numbers
 IsRefusedHeader kind asked limit _ numbers = ⊥
 
--- the header is one of the kind and of the format that was asked for, has no more blocks than there may be, and the damage
--- is one of the file
+-- the header is one of the kind and of the format that was asked for, has no more blocks than there may be, and the
+-- damage is one of the file
 pub record IsDamaged (kind : Kind) (asked : Option Format) (limit : ℕ) (damage : Damage) (file : List ℕ) : Type 0 where
   pub format : Format
   pub header : HasHeader kind (header_of file) format
@@ -54,21 +60,23 @@ abbrev pub IsRefusedFor : Kind → Option Format → ℕ → OpenFault → List 
 IsRefusedFor kind asked limit (Damaged damage) file = IsDamaged kind asked limit damage file
 IsRefusedFor kind asked limit fault file = IsRefusedHeader kind asked limit fault (header_of file)
 
--- What a refusal says beside that: another format was asked for than was found; the limit is the given one, and the number
--- passes it; or the damage names an identifier only where its kind does.
+-- What a refusal says beside that: another format was asked for than was found; the limit is the given one, and the
+-- number passes it; or the damage names an identifier only where its kind does.
 abbrev pub FitsRequest : Option Format → ℕ → OpenFault → Type 0
 FitsRequest asked limit (FormatMismatch found) = IsSomeAnd asked (λ wanted. wanted ≢ found)
 FitsRequest asked limit (TooLarge number most) = (most ≡ limit) × (limit < number)
 FitsRequest asked limit (Damaged damage) = NamesItsId damage.kind damage.id
 FitsRequest asked limit _ = ⊤
 
--- The file stands for a value of the kind, in the format that was asked for, and has no more blocks than there may be; or it
--- is refused: there is none, it is no quota file, one of another kind, of a version that is not known, of fewer than two
--- blocks, of another format, of too many blocks, or damaged, in this order.
+-- The file stands for a value of the kind, in the format that was asked for, and has no more blocks than there may be;
+-- or it is refused: there is none, it is no quota file, one of another kind, of a version that is not known, of fewer
+-- than two blocks, of another format, of too many blocks, or damaged, in this order.
 abbrev pub IsTreeView : Option (List ℕ) → Kind → Option Format → ℕ → Result QuotaValue OpenFault → Type 0
 IsTreeView named kind asked limit (Ok value) =
-    IsSomeAnd named (λ file. ((header_of file).blocks ≤ limit) × TreeStandsFor file value) × (value.kind ≡ kind) × IsAsAsked asked value.format
+    IsSomeAnd named (λ file. ((header_of file).blocks ≤ limit) × TreeStandsFor file value) × (value.kind ≡ kind)
+    × IsAsAsked asked value.format
 IsTreeView named kind asked limit (Err Store) = ⊥
 IsTreeView named kind asked limit (Err NoFile) = named ≡ None
 IsTreeView named kind asked limit (Err Memory) = ⊥
-IsTreeView named kind asked limit (Err fault) = FitsRequest asked limit fault × IsSomeAnd named (IsRefusedFor kind asked limit fault)
+IsTreeView named kind asked limit (Err fault) =
+    FitsRequest asked limit fault × IsSomeAnd named (IsRefusedFor kind asked limit fault)

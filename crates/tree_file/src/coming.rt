@@ -1,4 +1,5 @@
-ghost use Rattle.std.specs.Prelude.{◌≡◌, ◌/◌, ◌%◌, ◌*◌, ◌^◌, ◌<◌, ℕ, Bool, suc, List, [], ◌∷◌, None, Some, IfNone, IfSome};
+ghost use Rattle.std.specs.Prelude.{◌≡◌, ◌/◌, ◌%◌, ◌*◌, ◌^◌, ◌<◌, ℕ, Bool, suc, List, [], ◌∷◌, None, Some, IfNone};
+ghost use Rattle.std.specs.Prelude.{IfSome};
 ghost use Rattle.quota_types.specs.Bytes.{number_at};
 ghost use Rattle.quota_types.specs.Format.{IsTreeFormat};
 ghost use Rattle.quota_types.specs.Kept.{IsKept};
@@ -63,7 +64,8 @@ impl Coming {
         ensures holds { IfSome result (λ entry. (records : Records) → HoldsComing records self.old
             → IsNextAfter (Some after) records (Some entry) × HoldsComing records self.new) }
         ensures fits { IfSome result (λ entry. (format : Format) → FitsComing format self.old
-            → (after < entry.id) × (entry.id < 2 ^ 32) × IsKept format entry.id entry.rec × FitsComing format self.new) }
+            → (after < entry.id) × (entry.id < 2 ^ 32) × IsKept format entry.id entry.rec
+            × FitsComing format self.new) }
     {
         if after != self.after {
             return None;
@@ -80,14 +82,15 @@ impl Coming {
         ensures holds { IfSome result (λ entry. (records : Records) → HoldsComing records self.old
             → IsNextAfter after records (Some entry) × HoldsComing records self.new) }
         ensures fits { IfSome result (λ entry. (format : Format) → FitsComing format self.old
-            → IsAfter after entry.id × (entry.id < 2 ^ 32) × IsKept format entry.id entry.rec × FitsComing format self.new) }
+            → IsAfter after entry.id × (entry.id < 2 ^ 32) × IsKept format entry.id entry.rec
+            × FitsComing format self.new) }
     {
         self.next(after?)
     }
 
-    /// The entries that follow the leaf of an identifier, which was just found, as far as the blocks that are buffered have
-    /// them: those whose references stand in the same block of the tree, and name the same data block. Nothing is read. None
-    /// between two of them is left out, but fewer may be found than are there.
+    /// The entries that follow the leaf of an identifier, which was just found, as far as the blocks that are buffered
+    /// have them: those whose references stand in the same block of the tree, and name the same data block. Nothing is
+    /// read. None between two of them is left out, but fewer may be found than are there.
     pub(crate) fn beside(pages: &Pages, format: Format, blocks: u32, leaf: TreePath) -> Coming
         requires { IsTreeFormat format }
         ensures fits { FitsComing format result }
@@ -126,14 +129,16 @@ fn block_below<'a>(
     block: &[u8; 1024],
     digit: u8,
 ) -> Option<&'a [u8; 1024]>
-    ensures { IfSome result (λ below. (tells : Bool) (seen : StoreSeen) (digits number : ℕ) → IsKnown tells seen pages.now
+    ensures { IfSome result
+        (λ below. (tells : Bool) (seen : StoreSeen) (digits number : ℕ) → IsKnown tells seen pages.now
         → number % 256 ≡ digit → LeadsTo (shown_over seen pages.now) blocks digits (number / 256) block.now
         → LeadsTo (shown_over seen pages.now) blocks (suc digits) number below.now) }
 {
     pages.buffered(led_from(block, blocks, digit)?)
 }
 
-/// The block to which a digit leads from a block of the tree, or None where it leads nowhere in a file of this many blocks.
+/// The block to which a digit leads from a block of the tree, or None where it leads nowhere in a file of this many
+/// blocks.
 fn led_from(block: &[u8; 1024], blocks: u32, digit: u8) -> Option<u32>
     ensures { (file : List ℕ) (number : ℕ) → block.now ≡ block_of file number
         → result ≡ led_by file blocks digit number }
@@ -146,7 +151,8 @@ fn led_from(block: &[u8; 1024], blocks: u32, digit: u8) -> Option<u32>
     }
 }
 
-/// The entries that follow a leaf, found in the block of the lowest level that has its reference, and in its data block.
+/// The entries that follow a leaf, found in the block of the lowest level that has its reference, and in its data
+/// block.
 fn gathered(format: Format, lowest: &[u8; 1024], data_block: &[u8; 1024], leaf: TreePath) -> Coming
     requires { IsTreeFormat format }
     ensures fits { FitsComing format result }
@@ -172,8 +178,8 @@ fn gathered(format: Format, lowest: &[u8; 1024], data_block: &[u8; 1024], leaf: 
     }
 }
 
-/// The entry that follows an identifier, where the reference that follows in the block of the lowest level names this data
-/// block, in which it is looked for at a place first.
+/// The entry that follows an identifier, where the reference that follows in the block of the lowest level names this
+/// data block, in which it is looked for at a place first.
 fn entry_behind(
     format: Format,
     lowest: &[u8; 1024],

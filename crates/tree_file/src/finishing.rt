@@ -13,7 +13,8 @@ ghost use Rattle.quota_pages.specs.Pages.{name_of, pages_of};
 use outside::{Store, StoreFault};
 use quota_pages::Pages;
 
-/// Writes each block that was lent for writing, and then syncs the file. The buffer is empty then, even where that fails.
+/// Writes each block that was lent for writing, and then syncs the file. The buffer is empty then, even where that
+/// fails.
 ///
 /// # Errors
 ///
@@ -34,7 +35,8 @@ pub(crate) fn finish<S: Store>(pages: &mut Pages, store: &mut S) -> Result<(), S
     ensures name { name_of pages.new ≡ name_of pages.old }
     ensures empty { pages_of pages.new ≡ [] }
     ensures commits { CommitsOnce (λ worlds. S.commits worlds store.old store.new) (IsTrue S.tells
-        → (S.seen store.new).files ≡ flushed_files (S.seen store.old).files (name_of pages.old) (pages_of pages.old)) (S.seen store.new).files }
+        → (S.seen store.new).files ≡ flushed_files (S.seen store.old).files (name_of pages.old) (pages_of pages.old))
+        (S.seen store.new).files }
 {
     let flushed = pages.flush(store);
     pages.clear();

@@ -65,7 +65,8 @@ fn lend_periods<S: Store>(pages: &mut Pages, store: &mut S, grace: Grace) -> Res
     Ok(())
 }
 
-/// Sets the two periods of a file where they stand in its first block, and syncs it. The buffer is empty before and then.
+/// Sets the two periods of a file where they stand in its first block, and syncs it. The buffer is empty before and
+/// then.
 ///
 /// # Errors
 ///
@@ -94,7 +95,8 @@ pub(crate) fn set_grace_in<S: Store>(
     ensures name { name_of pages.new ≡ name_of pages.old }
     ensures empty { pages_of pages.new ≡ [] }
     ensures commits { CommitsOnce (λ worlds. S.commits worlds store.old store.new) (IsTrue S.tells
-        → GracesFile grace (name_of pages.old) (S.seen store.old).files (S.seen store.new).files) (S.seen store.new).files }
+        → GracesFile grace (name_of pages.old) (S.seen store.old).files (S.seen store.new).files)
+        (S.seen store.new).files }
 {
     match lend_periods(pages, store, grace) {
         Ok(()) => finish(pages, store),

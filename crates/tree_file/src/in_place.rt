@@ -1,6 +1,7 @@
 //! Records that are put into a tree file, and taken out of one, where they stand.
 
-ghost use Rattle.std.specs.Prelude.{◌≡◌, ◌+◌, ◌<◌, ◌≤◌, [], None, Some, is_none, true, IfErr, IfOk, IfSome, IsSome, IsTrue, OnOk};
+ghost use Rattle.std.specs.Prelude.{◌≡◌, ◌+◌, ◌<◌, ◌≤◌, [], None, Some, is_none, true, IfErr, IfOk, IfSome, IsSome};
+ghost use Rattle.std.specs.Prelude.{IsTrue, OnOk};
 ghost use Rattle.free_chains.specs.declared.heads.Heads.{Heads};
 ghost use Rattle.opened_file.specs.Committed.{CommitsOnce};
 ghost use Rattle.std.specs.FinMap.{get};
@@ -28,8 +29,9 @@ use quota_pages::Pages;
 use quota_types::Rec;
 use tree_change::{ChangeFault, put_record, remove_record};
 
-/// Gives an identifier this record in a file with this header, which may have at most `limit` blocks, and syncs it. Answers
-/// the heads that the header has then. The buffer is empty before and then. A record that is there already costs one write.
+/// Gives an identifier this record in a file with this header, which may have at most `limit` blocks, and syncs it.
+/// Answers the heads that the header has then. The buffer is empty before and then. A record that is there already
+/// costs one write.
 ///
 /// # Errors
 ///
@@ -89,14 +91,14 @@ pub(crate) fn put_in<S: Store>(
     }
 }
 
-/// Takes the record of an identifier out of a file with this header, and syncs it. Answers the heads that the header has
-/// then, or None where the identifier has none and nothing was written. Eight blocks are written at most. The buffer is empty
-/// before and then.
+/// Takes the record of an identifier out of a file with this header, and syncs it. Answers the heads that the header
+/// has then, or None where the identifier has none and nothing was written. Eight blocks are written at most. The
+/// buffer is empty before and then.
 ///
 /// # Errors
 ///
-/// The store failed, or the file is damaged. Nothing was written, but where the store failed while it was: each block is
-/// the old or the new one then.
+/// The store failed, or the file is damaged. Nothing was written, but where the store failed while it was: each block
+/// is the old or the new one then.
 pub(crate) fn remove_in<S: Store>(
     pages: &mut Pages,
     store: &mut S,
@@ -129,7 +131,8 @@ pub(crate) fn remove_in<S: Store>(
     ensures name { name_of pages.new ≡ name_of pages.old }
     ensures empty { pages_of pages.new ≡ [] }
     ensures commits { CommitsOnce (λ worlds. S.commits worlds store.old store.new) (IsTrue S.tells → (heads : Heads)
-        × WritesSo (MayChange header.now.blocks (Remove id) header.now heads) (name_of pages.old) (S.seen store.old).files
+        × WritesSo (MayChange header.now.blocks (Remove id) header.now heads) (name_of pages.old)
+        (S.seen store.old).files
         (S.seen store.new).files) (S.seen store.new).files }
 {
     match remove_record(pages, store, header, id) {

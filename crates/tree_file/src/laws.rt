@@ -19,8 +19,8 @@ pub fn a_file_has_room_for_its_value()
         → ¬ (LacksRoom seen named value blocks most) }
 {}
 
-/// A change that failed leaves what lies behind the last block of the file that it would have made, and of that no more than its
-/// length. Where a record was to be taken out the file is as long as before.
+/// A change that failed leaves what lies behind the last block of the file that it would have made, and of that no more
+/// than its length. Where a record was to be taken out the file is as long as before.
 pub fn a_failed_change_leaves_what_lies_behind()
     ensures put { (id : ℕ) (before made left : List ℕ) → PutsInPlace id before made → IsTorn before made left
         → KeepsBehind (header_of before).blocks (header_of made).blocks before left }

@@ -104,16 +104,16 @@ pub(crate) fn record_of<S: Store>(
     Ok(Some(rec))
 }
 
-/// The least identifier after another one, or the least of all, with its record; None where there is none. `coming` are the
-/// entries that come behind it then.
+/// The least identifier after another one, or the least of all, with its record; None where there is none. `coming` are
+/// the entries that come behind it then.
 ///
-/// It goes down from the root, and backs up once a level at most: at most seven blocks of the tree are read, and one data
-/// block.
+/// It goes down from the root, and backs up once a level at most: at most seven blocks of the tree are read, and one
+/// data block.
 ///
 /// # Errors
 ///
-/// The store failed, or the file is damaged: a reference on the way leads past the last block, a block of the tree below the
-/// root has none, or the data block has no entry of the identifier. The block that is told was read.
+/// The store failed, or the file is damaged: a reference on the way leads past the last block, a block of the tree
+/// below the root has none, or the data block has no entry of the identifier. The block that is told was read.
 pub(crate) fn next_record<S: Store>(
     pages: &mut Pages,
     store: &mut S,

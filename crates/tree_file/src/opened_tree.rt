@@ -23,9 +23,10 @@ use tree_change::ChangeFault;
 
 /// An opened tree file, which keeps the file's name and its header, and no block of it between calls.
 ///
-/// A look-up goes down the tree and reads as many blocks as are on the way: at most five for a record, and eight for the next
-/// one, whose neighbours are kept so that they are answered without a read. A change is made in place: it reads and writes
-/// twelve blocks at most, writes one where a record or the grace periods are written over, and syncs the file once.
+/// A look-up goes down the tree and reads as many blocks as are on the way: at most five for a record, and eight for
+/// the next one, whose neighbours are kept so that they are answered without a read. A change is made in place: it
+/// reads and writes twelve blocks at most, writes one where a record or the grace periods are written over, and syncs
+/// the file once.
 #[derive(Drop)]
 pub struct TreeFile {
     pub(crate) pages: Pages,

@@ -1,4 +1,5 @@
-ghost use Rattle.std.specs.Prelude.{◌≡◌, ◌≢◌, ◌+◌, ◌*◌, ◌<◌, ◌≤◌, ℕ, Option, true, None, Ok, Some, IsTrue, IfErr, IfOk, IfSome, IsSome, IsSomeAnd, OnOk, is_ok, []};
+ghost use Rattle.std.specs.Prelude.{◌≡◌, ◌≢◌, ◌+◌, ◌*◌, ◌<◌, ◌≤◌, ℕ, Option, true, None, Ok, Some, IsTrue, IfErr, IfOk};
+ghost use Rattle.std.specs.Prelude.{IfSome, IsSome, IsSomeAnd, OnOk, is_ok, []};
 ghost use Rattle.entry_codec.specs.Header.{header_of};
 ghost use Rattle.entry_codec.specs.Spelling.{AreOf};
 ghost use Rattle.quota_types.specs.Format.{IsTreeFormat};
@@ -25,14 +26,15 @@ use tree_check::check;
 
 /// Opens a tree file, which is checked block by block as the store has it. Nothing but its header is kept.
 ///
-/// It has one of the kind, of the format that is asked for, where one is, and at most `limit` blocks. The first block is read,
-/// and then each block that the header states twice at most, even where the file is refused.
+/// It has one of the kind, of the format that is asked for, where one is, and at most `limit` blocks. The first block
+/// is read, and then each block that the header states twice at most, even where the file is refused.
 ///
 /// # Errors
 ///
-/// It is refused where there is no such file; where its header is of no quota file, of one of another kind, of a version
-/// that is not known, of fewer than two blocks, of another format than the one that is asked for, or of more blocks than
-/// `limit`; and where it is damaged, in this order; and where the store failed or there was not enough memory.
+/// It is refused where there is no such file; where its header is of no quota file, of one of another kind, of a
+/// version that is not known, of fewer than two blocks, of another format than the one that is asked for, or of more
+/// blocks than `limit`; and where it is damaged, in this order; and where the store failed or there was not enough
+/// memory.
 pub fn open_tree<S: Store>(
     alloc: Global,
     store: &mut S,
@@ -103,8 +105,8 @@ fn first_block<S: Store>(store: &mut S, name: &str) -> Result<[u8; BLOCK], OpenF
     }
 }
 
-/// The header that a file begins with, where it is one of the kind, of the format that is asked for, where one is, and of at
-/// most `limit` blocks.
+/// The header that a file begins with, where it is one of the kind, of the format that is asked for, where one is, and
+/// of at most `limit` blocks.
 fn accepted_header(
     first: &[u8; BLOCK],
     kind: Kind,

@@ -1,5 +1,6 @@
 -- A leaf that was put in its place among others counts as it did while it was awaited.
-use Rattle.std.proofs.Common.{◌≡◌, ℕ, suc, ◌<◌, ◌≤◌, Bool, cond, ◌==◌, nat_lt, List, [], ◌∷◌, ◌++◌, length, map, filter, find, Some, refl, sym, ap, ◌∙◌, inl, inr, arith, eq-eqb, ne_eqb, lt-ltb, le-ltb}
+use Rattle.std.proofs.Common.{◌≡◌, ℕ, suc, ◌<◌, ◌≤◌, Bool, cond, ◌==◌, nat_lt, List, [], ◌∷◌, ◌++◌, length, map, filter}
+use Rattle.std.proofs.Common.{find, Some, refl, sym, ap, ◌∙◌, inl, inr, arith, eq-eqb, ne_eqb, lt-ltb, le-ltb}
 use Rattle.std.proofs.lemmas.Bool.{cases_eq, cases_lt}
 use Rattle.std.proofs.lemmas.List.{map-append}
 use Rattle.std.proofs.lemmas.List.Elements.{filter-append}
@@ -14,7 +15,8 @@ use Rattle.quota_radix.proofs.PathLemmas.{Rises, length_ids}
 ids_at-append : (ps qs : List TreePath) (block : ℕ) → ids_at (ps ++ qs) block ≡ ids_at ps block ++ ids_at qs block
 ids_at-append ps qs block =
     let here : TreePath → Bool = λ path. path.block == block in
-    ap (map (λ (path : TreePath). path.number)) (filter-append here ps qs) ∙ map-append (λ (path : TreePath). path.number) (filter here ps) (filter here qs)
+    ap (map (λ (path : TreePath). path.number)) (filter-append here ps qs)
+    ∙ map-append (λ (path : TreePath). path.number) (filter here ps) (filter here qs)
 
 -- all numbers from one on are above a lower one
 all_above : (number low high : ℕ) (ps : List TreePath) → Rises low ps high → number < low
@@ -26,7 +28,8 @@ all_above number low high (p ∷ ps) rises below =
     let less : TreePath → Bool = λ other. nat_lt other.number number in
     let more : TreePath → Bool = λ other. nat_lt number other.number in (
       ap (λ (b : Bool). cond b (p ∷ filter less ps) (filter less ps)) (le-ltb p.number number (omega arith)) ∙ rest.0,
-      ap (λ (b : Bool). cond b (p ∷ filter more ps) (filter more ps)) (lt-ltb number p.number (omega arith)) ∙ ap (λ (qs : List TreePath). p ∷ qs) rest.1,
+      ap (λ (b : Bool). cond b (p ∷ filter more ps) (filter more ps)) (lt-ltb number p.number (omega arith))
+          ∙ ap (λ (qs : List TreePath). p ∷ qs) rest.1,
     )
 
 -- paths fall into those of lower numbers and those of greater ones, where none has the number itself
@@ -38,19 +41,24 @@ falls_apart number low high (p ∷ ps) rises absent =
     let more : TreePath → Bool = λ other. nat_lt number other.number in
     elim (cases_lt p.number number) [
       | inl below ↦
-          let rest = falls_apart number (suc p.number) high ps rises.1 (sym (times-cons-other p.number (numbers_of ps) number (λ same. omega (arith, same, below))) ∙ absent) in
+          let rest = falls_apart number (suc p.number) high ps rises.1
+          (sym (times-cons-other p.number (numbers_of ps) number (λ same. omega (arith, same, below))) ∙ absent) in
           ap (λ (qs : List TreePath). p ∷ qs) rest
-          ∙ ap (λ (qs : List TreePath). p ∷ (filter less ps ++ qs)) (sym (ap (λ (b : Bool). cond b (p ∷ filter more ps) (filter more ps)) (le-ltb number p.number (omega arith))))
-          ∙ ap (λ (qs : List TreePath). qs ++ filter more (p ∷ ps)) (sym (ap (λ (b : Bool). cond b (p ∷ filter less ps) (filter less ps)) (lt-ltb p.number number below)))
+          ∙ ap (λ (qs : List TreePath). p ∷ (filter less ps ++ qs))
+          (sym (ap (λ (b : Bool). cond b (p ∷ filter more ps) (filter more ps)) (le-ltb number p.number (omega arith))))
+          ∙ ap (λ (qs : List TreePath). qs ++ filter more (p ∷ ps))
+          (sym (ap (λ (b : Bool). cond b (p ∷ filter less ps) (filter less ps)) (lt-ltb p.number number below)))
       | inr high_one ↦ elim (cases_eq number p.number) [
-        | inl same ↦ absurd (omega (arith, absent, times-cons-same p.number (numbers_of ps), ap (times (numbers_of (p ∷ ps))) same))
+        | inl same ↦ absurd
+            (omega (arith, absent, times-cons-same p.number (numbers_of ps), ap (times (numbers_of (p ∷ ps))) same))
         | inr other ↦
             let above = all_above number p.number high (p ∷ ps) (omega arith, rises.1) (omega arith) in
             sym (ap (λ (qs : List TreePath). qs ++ filter more (p ∷ ps)) above.0 ∙ above.1)
       ]
     ]
 
-module _ (ps : List TreePath) (leaf : TreePath) (low high : ℕ) (rises : Rises low ps high) (absent : times (numbers_of ps) leaf.number ≡ 0) where
+module _ (ps : List TreePath) (leaf : TreePath) (low high : ℕ) (rises : Rises low ps high)
+    (absent : times (numbers_of ps) leaf.number ≡ 0) where
   lower : List TreePath
   lower = filter (λ other. nat_lt other.number leaf.number) ps
 
@@ -91,10 +99,14 @@ module _ (ps : List TreePath) (leaf : TreePath) (low high : ℕ) (rises : Rises 
   length-ids block = length_ids (with_path ps leaf) block ∙ times-blocks block ∙ sym (length_ids (leaf ∷ ps) block)
 
 -- and the same leaf is found of each identifier
-pub find-awaited : (ps : List TreePath) (leaf : TreePath) (id : ℕ) → find (λ (other : TreePath). other.number == id) (with_path ps leaf) ≡ find (λ (other : TreePath). other.number == id) (leaf ∷ ps)
+pub find-awaited : (ps : List TreePath) (leaf : TreePath) (id : ℕ)
+    → find (λ (other : TreePath). other.number == id) (with_path ps leaf)
+    ≡ find (λ (other : TreePath). other.number == id) (leaf ∷ ps)
 find-awaited ps leaf id =
     let first = λ (b : Bool). cond b (Some leaf) (find (λ (other : TreePath). other.number == id) ps) in
     elim (cases_eq leaf.number id) [
-      | inl same ↦ ap (λ (n : ℕ). find (λ (other : TreePath). other.number == n) (with_path ps leaf)) (sym same) ∙ find-with_path-same ps leaf ∙ sym (ap first (eq-eqb leaf.number id same))
-      | inr other ↦ find-with_path-other ps leaf id (λ is. other (sym is)) ∙ sym (ap first (ne_eqb leaf.number id other))
+      | inl same ↦ ap (λ (n : ℕ). find (λ (other : TreePath). other.number == n) (with_path ps leaf)) (sym same)
+          ∙ find-with_path-same ps leaf ∙ sym (ap first (eq-eqb leaf.number id same))
+      | inr other ↦
+          find-with_path-other ps leaf id (λ is. other (sym is)) ∙ sym (ap first (ne_eqb leaf.number id other))
     ]

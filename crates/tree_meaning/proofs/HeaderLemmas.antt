@@ -20,4 +20,5 @@ header_in_block file =
     }
   where
     number : (at : ℕ) → at + 4 ≤ 1024 → number_at 4 (block_of file 0) at ≡ number_at 4 file at
-    number at low = let same : 1024 * 0 + at ≡ at = omega arith in number_in_block 4 file 0 at low ∙ ap (number_at 4 file) same
+    number at low =
+        let same : 1024 * 0 + at ≡ at = omega arith in number_in_block 4 file 0 at low ∙ ap (number_at 4 file) same

@@ -7,6 +7,7 @@ pub mod EntryLemmas
 pub mod EntryPlaceLemmas
 pub mod FrameLemmas
 pub mod HeaderLemmas
+pub mod WayWordLemmas
 pub mod LinkedLemmas
 pub mod ListedLemmas
 pub mod MeaningLemmas

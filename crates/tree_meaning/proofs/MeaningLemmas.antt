@@ -26,10 +26,12 @@ kind_of_magic-magic Project = refl
 
 -- a magic number is that of one kind
 pub same_kind : (kind other : Kind) → magic_of kind ≡ magic_of other → kind ≡ other
-same_kind kind other same = same_Some kind other (sym (kind_of_magic-magic kind) ∙ ap kind_of_magic same ∙ kind_of_magic-magic other)
+same_kind kind other same =
+    same_Some kind other (sym (kind_of_magic-magic kind) ∙ ap kind_of_magic same ∙ kind_of_magic-magic other)
 
 -- a file stands for one value at most
-pub one_meaning : (file : List ℕ) (value other : QuotaValue) → TreeStandsFor file value → TreeStandsFor file other → value ≡ other
+pub one_meaning : (file : List ℕ) (value other : QuotaValue) → TreeStandsFor file value
+    → TreeStandsFor file other → value ≡ other
 one_meaning file value other stands stands' =
     let kind : value.kind ≡ other.kind = same_kind value.kind other.kind (sym stands.magic ∙ stands'.magic) in
     let found : Some value.format ≡ Some other.format = sym stands.version ∙ stands'.version in
@@ -37,22 +39,34 @@ one_meaning file value other stands stands' =
     let block : value.grace.block ≡ other.grace.block = stands.block_grace ∙ sym stands'.block_grace in
     let inode : value.grace.inode ≡ other.grace.inode = stands.inode_grace ∙ sym stands'.inode_grace in
     let flags : value.flags ≡ other.flags = stands.flags ∙ sym stands'.flags in
-    let records : value.records ≡ other.records = same_map nat_cmp_total nat_cmp-IsAntisymmetric value.records other.records
-    (λ id. stands.records id ∙ ap (λ (f : Format). tree_record f file (header_of file).blocks id) format ∙ sym (stands'.records id)) in
-    λ i. record { kind = kind i; format = format i; grace = record { block = block i; inode = inode i }; flags = flags i; records = records i }
+    let records : value.records ≡ other.records =
+    same_map nat_cmp_total nat_cmp-IsAntisymmetric value.records other.records
+    (λ id. stands.records id ∙ ap (λ (f : Format). tree_record f file (header_of file).blocks id) format
+    ∙ sym (stands'.records id)) in
+    λ i. record {
+      kind = kind i;
+      format = format i;
+      grace = record { block = block i; inode = inode i };
+      flags = flags i;
+      records = records i;
+    }
 
 -- what a header of the file says is what the value has
-pub header_kind : (file : List ℕ) (header : Header) (value : QuotaValue) → AreOf header (header_of file) → TreeStandsFor file value → header.kind ≡ value.kind
+pub header_kind : (file : List ℕ) (header : Header) (value : QuotaValue) → AreOf header (header_of file)
+    → TreeStandsFor file value → header.kind ≡ value.kind
 header_kind file header value are stands = same_kind header.kind value.kind (sym are.magic ∙ stands.magic)
 
-pub header_format : (file : List ℕ) (header : Header) (value : QuotaValue) → AreOf header (header_of file) → TreeStandsFor file value → header.format ≡ value.format
+pub header_format : (file : List ℕ) (header : Header) (value : QuotaValue) → AreOf header (header_of file)
+    → TreeStandsFor file value → header.format ≡ value.format
 header_format file header value are stands = same_Some header.format value.format (sym are.version ∙ stands.version)
 
-pub header_grace : (file : List ℕ) (header : Header) (value : QuotaValue) → AreOf header (header_of file) → TreeStandsFor file value → header.grace ≡ value.grace
+pub header_grace : (file : List ℕ) (header : Header) (value : QuotaValue) → AreOf header (header_of file)
+    → TreeStandsFor file value → header.grace ≡ value.grace
 header_grace file header value are stands =
     let block : header.grace.block ≡ value.grace.block = sym are.block_grace ∙ sym stands.block_grace in
     let inode : header.grace.inode ≡ value.grace.inode = sym are.inode_grace ∙ sym stands.inode_grace in
     λ i. record { block = block i; inode = inode i }
 
-pub header_flags : (file : List ℕ) (header : Header) (value : QuotaValue) → AreOf header (header_of file) → TreeStandsFor file value → header.flags ≡ value.flags
+pub header_flags : (file : List ℕ) (header : Header) (value : QuotaValue) → AreOf header (header_of file)
+    → TreeStandsFor file value → header.flags ≡ value.flags
 header_flags file header value are stands = sym are.flags ∙ sym stands.flags

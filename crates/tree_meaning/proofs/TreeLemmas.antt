@@ -24,7 +24,8 @@ tree_of_value file value stands = record {
   each_record = stands.records;
 }
 
-value_by_header : (file : List ℕ) (value : QuotaValue) (heads : Heads) → AreOf (header_with value heads) (header_of file)
+value_by_header : (file : List ℕ) (value : QuotaValue) (heads : Heads)
+    → AreOf (header_with value heads) (header_of file)
     → IsTree nothing_loose value.format file (length file) heads value.records → TreeStandsFor file value
 value_by_header file value heads are tree = record {
   magic = are.magic;
@@ -36,7 +37,9 @@ value_by_header file value heads are tree = record {
   records = λ id. tree.each_record id ∙ ap (λ (n : ℕ). tree_record value.format file n id) (sym are.blocks);
 }
 
-pub value_of_tree : (file : List ℕ) (value : QuotaValue) (heads : Heads) → AreOf (header_with value heads) (header_of (block_of file 0))
+pub value_of_tree : (file : List ℕ) (value : QuotaValue) (heads : Heads)
+    → AreOf (header_with value heads) (header_of (block_of file 0))
     → IsTree nothing_loose value.format file (length file) heads value.records → TreeStandsFor file value
 value_of_tree file value heads are tree =
-    value_by_header file value heads (subst (λ (numbers : HeaderNumbers). AreOf (header_with value heads) numbers) (header_in_block file) are) tree
+    value_by_header file value heads
+    (subst (λ (numbers : HeaderNumbers). AreOf (header_with value heads) numbers) (header_in_block file) are) tree

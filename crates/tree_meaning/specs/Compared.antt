@@ -34,7 +34,8 @@ leading_ids groups block = slice_index_or groups block []
 
 -- an identifier leads to a block, which has an unused entry
 abbrev pub is_room : Format → List ℕ → List (List ℕ) → ℕ → Bool
-is_room format file groups block = nat_le 1 (length (leading_ids groups block)) && has_unused format (block_of file block)
+is_room format file groups block =
+    nat_le 1 (length (leading_ids groups block)) && has_unused format (block_of file block)
 
 -- the data blocks with room, among this many blocks
 abbrev pub rooms : Format → List ℕ → List (List ℕ) → ℕ → List ℕ
@@ -42,7 +43,8 @@ rooms format file groups blocks = filter (is_room format file groups) (range_wit
 
 -- a block to which some identifiers lead has a used entry of each of them and of no other, and states their number
 abbrev pub HasEntriesOf : Format → List ℕ → ℕ → List ℕ → Type 0
-HasEntriesOf format file block ids = 1 ≤ length ids → AreEntriesOf (stated_count file block) (used_ids format (block_of file block)) ids
+HasEntriesOf format file block ids =
+    1 ≤ length ids → AreEntriesOf (stated_count file block) (used_ids format (block_of file block)) ids
 
 -- a damage of a block to which some identifiers lead
 pub record IsDataDefect (format : Format) (file ids : List ℕ) (block : ℕ) (damage : Damage) : Type 0 where

@@ -5,7 +5,10 @@ use Rattle.std.specs.List.{last_or}
 use Rattle.quota_types.specs.Damage.{NamesItsId}
 use Rattle.quota_types.specs.declared.damage.Damage.{Damage}
 use Rattle.quota_types.specs.declared.damage.DamageKind.{DamageKind}
-use Rattle.quota_types.specs.declared.damage.DamageKind.TheVariants.{Short, RefOut, TwoRoles, NoRole, EmptyTree, ChainOut, ChainLoop, ForeignInChain, MissingInChain, BadPrev, BadCount, MissingEntry, StrayEntry, DoubleEntry, PartialRecord}
+use Rattle.quota_types.specs.declared.damage.DamageKind.TheVariants.{Short, RefOut, TwoRoles, NoRole, EmptyTree}
+use Rattle.quota_types.specs.declared.damage.DamageKind.TheVariants.{ChainOut, ChainLoop, ForeignInChain}
+use Rattle.quota_types.specs.declared.damage.DamageKind.TheVariants.{MissingInChain, BadPrev, BadCount, MissingEntry}
+use Rattle.quota_types.specs.declared.damage.DamageKind.TheVariants.{StrayEntry, DoubleEntry, PartialRecord}
 use Rattle.quota_types.specs.declared.file_kind.Format.{Format}
 use Rattle.entry_codec.specs.Header.{HeaderNumbers}
 use Rattle.file_blocks.specs.Block.{block_of, previous_of}
@@ -18,8 +21,8 @@ use Rattle.tree_meaning.specs.Roles.{has_room, roles}
 use Rattle.quota_radix.specs.Tree.{data_blocks, ids_at, leaves}
 use Rattle.free_chains.specs.ChainDefect.{IsOut, IsLoop}
 
--- a file of this many bytes has more blocks than header and root and is shorter than they, and the block is the first that
--- is not whole
+-- a file of this many bytes has more blocks than header and root and is shorter than they, and the block is the first
+-- that is not whole
 pub record IsShort (len blocks block : ℕ) : Type 0 where
   pub more : 2 < blocks
   pub short : len < 1024 * blocks
@@ -92,8 +95,10 @@ IsDefectOf format file numbers RefOut block id = IsRefOut file numbers.blocks bl
 IsDefectOf format file numbers TwoRoles block id = HasTwoRoles file numbers.blocks numbers.free block
 IsDefectOf format file numbers NoRole block id = HasNoRole file numbers.blocks numbers.free block
 IsDefectOf format file numbers EmptyTree block id = IsEmptyTree file numbers.blocks block
-IsDefectOf format file numbers ChainOut block id = IsOut file numbers.blocks numbers.free block ⊎ IsOut file numbers.blocks numbers.first block
-IsDefectOf format file numbers ChainLoop block id = IsLoop file numbers.blocks numbers.free block ⊎ IsLoop file numbers.blocks numbers.first block
+IsDefectOf format file numbers ChainOut block id =
+    IsOut file numbers.blocks numbers.free block ⊎ IsOut file numbers.blocks numbers.first block
+IsDefectOf format file numbers ChainLoop block id =
+    IsLoop file numbers.blocks numbers.free block ⊎ IsLoop file numbers.blocks numbers.first block
 IsDefectOf format file numbers ForeignInChain block id = IsForeign format file numbers.blocks numbers.first block
 IsDefectOf format file numbers MissingInChain block id = IsMissing format file numbers.blocks numbers.first block
 IsDefectOf format file numbers BadPrev block id = HasBadPrevious file numbers.blocks numbers.first block
@@ -105,4 +110,5 @@ IsDefectOf format file numbers PartialRecord block id = ⊥
 
 -- a damage is one of a tree file of this format with these numbers in its header
 abbrev pub IsTreeDefect : Format → List ℕ → HeaderNumbers → Damage → Type 0
-IsTreeDefect format file numbers damage = IsDefectOf format file numbers damage.kind damage.block damage.id × NamesItsId damage.kind damage.id
+IsTreeDefect format file numbers damage =
+    IsDefectOf format file numbers damage.kind damage.block damage.id × NamesItsId damage.kind damage.id

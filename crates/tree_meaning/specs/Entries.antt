@@ -31,7 +31,8 @@ entry_of format bytes =
 
 -- the entries of a block that are used, in order
 unfoldable pub used_entries : Format → List ℕ → List Entry
-used_entries format block = filter_map (λ place. entry_of format (entry_bytes format block place)) (range_with_len 0 (entries_per_block format))
+used_entries format block =
+    filter_map (λ place. entry_of format (entry_bytes format block place)) (range_with_len 0 (entries_per_block format))
 
 -- the identifier that an entry stores, or none where it is unused
 abbrev pub id_in : Format → List ℕ → List ℕ
@@ -39,7 +40,8 @@ id_in format bytes = if is_unused bytes then [] else stored_id bytes ∷ []
 
 -- the identifiers of the entries of a block that are used, in order
 unfoldable pub used_ids : Format → List ℕ → List ℕ
-used_ids format block = flat_map (λ place. id_in format (entry_bytes format block place)) (range_with_len 0 (entries_per_block format))
+used_ids format block =
+    flat_map (λ place. id_in format (entry_bytes format block place)) (range_with_len 0 (entries_per_block format))
 
 -- the number of used entries that a data block states
 abbrev pub stated_count : List ℕ → ℕ → ℕ
@@ -47,4 +49,5 @@ stated_count file number = number_at 2 (block_of file number) 8
 
 -- some entry of a block is unused
 unfoldable pub has_unused : Format → List ℕ → Bool
-has_unused format block = list_any (λ place. is_unused (entry_bytes format block place)) (range_with_len 0 (entries_per_block format))
+has_unused format block =
+    list_any (λ place. is_unused (entry_bytes format block place)) (range_with_len 0 (entries_per_block format))

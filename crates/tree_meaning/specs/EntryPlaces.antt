@@ -10,16 +10,19 @@ use Rattle.tree_meaning.specs.EntryRecords.{record_by}
 
 -- every byte of a block outside of its entry at a place is as before
 abbrev pub KeepsOutsideEntry : Format → ℕ → List ℕ → List ℕ → Type 0
-KeepsOutsideEntry format place old new = KeepsOutside (16 + record_size format * place) (16 + record_size format * place + record_size format) old new
+KeepsOutsideEntry format place old new =
+    KeepsOutside (16 + record_size format * place) (16 + record_size format * place + record_size format) old new
 
 -- each entry of a block is as before
 abbrev pub HasSameEntries : Format → List ℕ → List ℕ → Type 0
-HasSameEntries format old new = (at : ℕ) → at < entries_per_block format → entry_bytes format new at ≡ entry_bytes format old at
+HasSameEntries format old new =
+    (at : ℕ) → at < entries_per_block format → entry_bytes format new at ≡ entry_bytes format old at
 
 -- each entry of a block but the one at a place is as before
 pub record KeepsOtherEntries (format : Format) (place : ℕ) (old new : List ℕ) : Type 0 where
   pub low : place < entries_per_block format
-  pub others : (at : ℕ) → at < entries_per_block format → at ≢ place → entry_bytes format new at ≡ entry_bytes format old at
+  pub others : (at : ℕ) → at < entries_per_block format → at ≢ place
+      → entry_bytes format new at ≡ entry_bytes format old at
 
 -- an entry stands now at a place of a block that was unused, and all others are as before
 pub record PutsEntry (format : Format) (place : ℕ) (entry : Entry) (old new : List ℕ) : Type 0 where

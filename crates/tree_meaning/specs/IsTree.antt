@@ -1,5 +1,5 @@
--- What the bytes of a tree file are between two steps of a change, and how that is tied to the value that a whole file stands
--- for. Source: the kernel's `fs/quota/quota_tree.c`, which changes one block after another.
+-- What the bytes of a tree file are between two steps of a change, and how that is tied to the value that a whole file
+-- stands for. Source: the kernel's `fs/quota/quota_tree.c`, which changes one block after another.
 use Rattle.std.specs.Prelude.{◌≡◌, ℕ, ◌*◌, ◌^◌, ◌<◌, ◌≤◌, IsTrue, IfSome, List}
 use Rattle.std.specs.FinMap.{get}
 use Rattle.quota_types.specs.declared.file_kind.Format.{Format}
@@ -14,17 +14,18 @@ use Rattle.tree_meaning.specs.Loose.{Loose}
 use Rattle.tree_meaning.specs.Roles.{Chained, Filled, OneRole, counted_leaves}
 use Rattle.tree_meaning.specs.TreeFile.{record_by_leaves}
 
--- An awaited leaf has an identifier of four bytes that no leaf of the tree has, and names a block other than that of the
--- header.
+-- An awaited leaf has an identifier of four bytes that no leaf of the tree has, and names a block other than that of
+-- the header.
 pub record IsAwaited (file : List ℕ) (blocks : ℕ) (leaf : TreePath) : Type 0 where
   pub small : leaf.number < 2 ^ 32
   pub absent : times (numbers_of (leaves file blocks)) leaf.number ≡ 0
   pub inside : IsTrue (leads blocks leaf.block)
 
--- The bytes of a file of this length are a tree with these heads and records, but for what is loose: it has header and root;
--- where it has more blocks it is as long as they; its roles, its entry list and its entries are in order; and the records are
--- those of the identifiers that have a leaf, or whose leaf is awaited.
-pub record IsTree (loose : Loose) (format : Format) (file : List ℕ) (len : ℕ) (heads : Heads) (records : Records) : Type 0 where
+-- The bytes of a file of this length are a tree with these heads and records, but for what is loose: it has header and
+-- root; where it has more blocks it is as long as they; its roles, its entry list and its entries are in order; and the
+-- records are those of the identifiers that have a leaf, or whose leaf is awaited.
+pub record IsTree (loose : Loose) (format : Format) (file : List ℕ) (len : ℕ) (heads : Heads)
+    (records : Records) : Type 0 where
   pub two : 2 ≤ heads.blocks
   pub long : 2 < heads.blocks → 1024 * heads.blocks ≤ len
   pub awaited : IfSome loose.awaited (IsAwaited file heads.blocks)

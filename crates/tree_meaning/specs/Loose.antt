@@ -2,8 +2,8 @@
 use Rattle.std.specs.Prelude.{ℕ, Bool, not, ◌==◌, if◌then◌else◌, List, [], ◌∷◌, Option, Some, None}
 use Rattle.quota_radix.specs.declared.tree_path.TreePath.{TreePath}
 
--- Blocks that have no role, since they were taken or gave theirs up; a leaf that counts as one though no path leads to it;
--- and one block that stands in the entry list though it should not, or does not though it should.
+-- Blocks that have no role, since they were taken or gave theirs up; a leaf that counts as one though no path leads to
+-- it; and one block that stands in the entry list though it should not, or does not though it should.
 pub record Loose : Type 0 where
   pub held : List ℕ
   pub awaited : Option TreePath

@@ -1,6 +1,7 @@
 -- What makes a tree file a sound one: each block has one role, the entry list has the data blocks with room, and the
 -- entries are those of the leaves. Source: the kernel's `fs/quota/quota_tree.c`, which keeps files so.
-use Rattle.std.specs.Prelude.{◌≡◌, ℕ, ◌<◌, Bool, ◌&&◌, nat_le, nat_lt, if◌then◌else◌, List, ◌∷◌, ◌++◌, length, map, take}
+use Rattle.std.specs.Prelude.{◌≡◌, ℕ, ◌<◌, Bool, ◌&&◌, nat_le, nat_lt, if◌then◌else◌, List, ◌∷◌, ◌++◌, length, map}
+use Rattle.std.specs.Prelude.{take}
 use Rattle.std.specs.List.{filter, range_with_len}
 use Rattle.quota_types.specs.declared.file_kind.Format.{Format}
 use Rattle.file_blocks.specs.Block.{block_of, previous_of, word_at}
@@ -32,28 +33,34 @@ roles loose file blocks free = loose.held ++ 0 ∷ tree_blocks file blocks ++ da
 
 -- No reference of the tree passes the last block, the free list ends, and each block has one role or is held.
 pub record OneRole (loose : Loose) (file : List ℕ) (blocks free_head : ℕ) : Type 0 where
-  pub references : (block : ℕ) → StandsIn (tree_blocks file blocks) block → (digit : ℕ) → digit < 256 → word_at file block digit < blocks
+  pub references : (block : ℕ) → StandsIn (tree_blocks file blocks) block → (digit : ℕ) → digit < 256
+      → word_at file block digit < blocks
   pub free : List ℕ
   pub is_free : IsChain file blocks free_head free 0
   pub once : (block : ℕ) → times (roles loose file blocks free) block ≡ (if nat_lt block blocks then 1 else 0)
 
 -- a block is a data block with an unused entry
 abbrev pub has_room : Loose → Format → List ℕ → ℕ → ℕ → Bool
-has_room loose format file blocks block = counts_as_data loose file blocks block && has_unused format (block_of file block)
+has_room loose format file blocks block =
+    counts_as_data loose file blocks block && has_unused format (block_of file block)
 
--- The entry list ends, it has the data blocks that have room and no other, but for the misplaced block, and each of its blocks
--- names the block before it, the first one 0.
+-- The entry list ends, it has the data blocks that have room and no other, but for the misplaced block, and each of its
+-- blocks names the block before it, the first one 0.
 pub record Chained (loose : Loose) (format : Format) (file : List ℕ) (blocks first : ℕ) : Type 0 where
   pub chain : List ℕ
   pub is_chain : IsChain file blocks first chain 0
-  pub has_those : (block : ℕ) → times chain block ≡ (if but_misplaced loose.misplaced block (has_room loose format file blocks block) then 1 else 0)
+  pub has_those : (block : ℕ)
+      → times chain block
+      ≡ (if but_misplaced loose.misplaced block (has_room loose format file blocks block) then 1 else 0)
   pub previous : map (previous_of file) chain ≡ take (length chain) (0 ∷ chain)
 
 -- No tree block below the root is empty; each data block has one used entry of each identifier that leads to it, and
 -- its used entries are as many as it states, and as many as the leaves that name it.
 pub record Filled (loose : Loose) (format : Format) (file : List ℕ) (blocks : ℕ) : Type 0 where
   pub not_empty : (block : ℕ) → StandsIn (lower_blocks file blocks) block → ¬ IsEmpty file block
-  pub one_entry : (block id : ℕ) → StandsIn (ids_at (counted_leaves loose file blocks) block) id → times (used_ids format (block_of file block)) id ≡ 1
-  pub stated : (block : ℕ) → StandsIn (data_with loose file blocks) block → length (used_ids format (block_of file block)) ≡ stated_count file block
+  pub one_entry : (block id : ℕ) → StandsIn (ids_at (counted_leaves loose file blocks) block) id
+      → times (used_ids format (block_of file block)) id ≡ 1
+  pub stated : (block : ℕ) → StandsIn (data_with loose file blocks) block
+      → length (used_ids format (block_of file block)) ≡ stated_count file block
   pub counted : (block : ℕ) → StandsIn (data_with loose file blocks) block
       → length (used_ids format (block_of file block)) ≡ length (ids_at (counted_leaves loose file blocks) block)

@@ -17,19 +17,21 @@ use Rattle.quota_radix.specs.Tree.{leaves}
 
 -- the record of a block's used entry of an identifier, where there is one
 abbrev pub record_in : Format → List ℕ → ℕ → Option Rec
-record_in format block id = option_map (λ (entry : Entry). entry.rec) (find (λ (entry : Entry). entry.id == id) (used_entries format block))
+record_in format block id =
+    option_map (λ (entry : Entry). entry.rec) (find (λ (entry : Entry). entry.id == id) (used_entries format block))
 
 -- the record of an identifier by some leaves: that of the entry in the data block to which the identifier leads
 abbrev pub record_by_leaves : Format → List ℕ → List TreePath → ℕ → Option Rec
 record_by_leaves format file leaves id =
-    option_and_then (λ (leaf : TreePath). record_in format (block_of file leaf.block) id) (find (λ (leaf : TreePath). leaf.number == id) leaves)
+    option_and_then (λ (leaf : TreePath). record_in format (block_of file leaf.block) id)
+    (find (λ (leaf : TreePath). leaf.number == id) leaves)
 
 -- the record of an identifier by the leaves of a file
 abbrev pub tree_record : Format → List ℕ → ℕ → ℕ → Option Rec
 tree_record format file blocks id = record_by_leaves format file (leaves file blocks) id
 
--- The blocks and entries of a file of this many bytes are sound: it has header and root; where it has more blocks it is as
--- long as they; and its roles, its entry list and its entries are in order.
+-- The blocks and entries of a file of this many bytes are sound: it has header and root; where it has more blocks it is
+-- as long as they; and its roles, its entry list and its entries are in order.
 pub record IsSound (format : Format) (file : List ℕ) (len : ℕ) (numbers : HeaderNumbers) : Type 0 where
   pub two : 2 ≤ numbers.blocks
   pub long : 2 < numbers.blocks → 1024 * numbers.blocks ≤ len
@@ -37,8 +39,8 @@ pub record IsSound (format : Format) (file : List ℕ) (len : ℕ) (numbers : He
   pub chained : Chained nothing_loose format file numbers.blocks numbers.first
   pub filled : Filled nothing_loose format file numbers.blocks
 
--- A tree file stands for a value: its header has the kind, the format, the grace periods and the flags, it is sound, and
--- its records are those of the identifiers that have a leaf.
+-- A tree file stands for a value: its header has the kind, the format, the grace periods and the flags, it is sound,
+-- and its records are those of the identifiers that have a leaf.
 pub record TreeStandsFor (file : List ℕ) (value : QuotaValue) : Type 0 where
   pub magic : (header_of file).magic ≡ magic_of value.kind
   pub version : format_of (header_of file).version ≡ Some value.format

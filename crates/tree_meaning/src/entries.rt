@@ -1,4 +1,5 @@
-ghost use Rattle.std.specs.Prelude.{◌≡◌, ℕ, ◌+◌, ◌<◌, ◌≤◌, ◌++◌, ◌||◌, length, false, None, Some, IfNone, IfOk, IfSome, IsSome, OnOk, IfErr, MatchOption};
+ghost use Rattle.std.specs.Prelude.{◌≡◌, ℕ, ◌+◌, ◌<◌, ◌≤◌, ◌++◌, ◌||◌, length, false, None, Some, IfNone, IfOk, IfSome};
+ghost use Rattle.std.specs.Prelude.{IsSome, OnOk, IfErr, MatchOption};
 ghost use Rattle.std.specs.Option.{option_map};
 ghost use Rattle.std.specs.Bool.{OnFalse, OnTrue};
 ghost use Rattle.arrayvec.specs.ArrayVec.{array_vec_len};
@@ -138,7 +139,8 @@ pub fn find_place(format: Format, block: &[u8; 1024], id: u32) -> Option<usize>
 }
 
 /// The record of an entry of a block that is used by an identifier: of that at the place `near`, where that is one, and
-/// otherwise of the first one. Then the place behind it is near, so that entries that follow one another are found at once.
+/// otherwise of the first one. Then the place behind it is near, so that entries that follow one another are found at
+/// once.
 #[inline(always)]
 pub fn find_near(format: Format, block: &[u8; 1024], id: u32, near: &mut usize) -> Option<Rec>
     requires tree { IsTreeFormat format }
@@ -236,8 +238,8 @@ fn is_full_of(format: Format, block: &[u8; 1024], ids: &[u32]) -> bool
 
 /// Compares the entries of a data block with the identifiers that lead to it, and answers whether one is unused.
 ///
-/// In a file that was built at once each data block but the last is full, and ascends by identifier. For such a block no
-/// list of its entries is made.
+/// In a file that was built at once each data block but the last is full, and ascends by identifier. For such a block
+/// no list of its entries is made.
 pub fn compare_entries(
     format: Format,
     number: u32,

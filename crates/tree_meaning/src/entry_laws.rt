@@ -1,6 +1,7 @@
 //! Laws of the entries of a data block: what a change of one of them leaves.
 
-ghost use Rattle.std.specs.Prelude.{◌≡◌, ◌↔◌, ◌≢◌, ℕ, suc, ◌<◌, ◌≤◌, true, false, nat_lt, List, [], ◌∷◌, length, map, replicate, None, Some};
+ghost use Rattle.std.specs.Prelude.{◌≡◌, ◌↔◌, ◌≢◌, ℕ, suc, ◌<◌, ◌≤◌, true, false, nat_lt, List, [], ◌∷◌, length, map};
+ghost use Rattle.std.specs.Prelude.{replicate, None, Some};
 ghost use Rattle.entry_codec.specs.Entry.{entries_per_block, is_unused};
 ghost use Rattle.quota_types.specs.KeptBytes.{KeepsOutside};
 ghost use Rattle.quota_types.specs.Times.{times};
@@ -8,10 +9,12 @@ ghost use Rattle.quota_types.specs.declared.file_kind.Format.{Format};
 ghost use Rattle.quota_types.specs.declared.record.Entry.{Entry};
 ghost use Rattle.quota_types.specs.declared.record.Rec.{Rec};
 ghost use Rattle.tree_meaning.specs.Entries.{entry_bytes, has_unused, used_entries, used_ids};
-ghost use Rattle.tree_meaning.specs.EntryPlaces.{ClearsEntry, HasOneMore, HasSameEntries, KeepsOutsideEntry, OverwritesEntry, PutsEntry};
+ghost use Rattle.tree_meaning.specs.EntryPlaces.{ClearsEntry, HasOneMore, HasSameEntries, KeepsOutsideEntry};
+ghost use Rattle.tree_meaning.specs.EntryPlaces.{OverwritesEntry, PutsEntry};
 ghost use Rattle.tree_meaning.specs.TreeFile.{record_in};
 
-/// The used identifiers of a block are those of its used entries. An identifier that is none of them has no record there.
+/// The used identifiers of a block are those of its used entries. An identifier that is none of them has no record
+/// there.
 pub fn the_used_ids_are_those_of_the_used_entries()
     ensures ids { (format : Format) (block : List ℕ)
         → used_ids format block ≡ map (λ (entry : Entry). entry.id) (used_entries format block) }
@@ -19,7 +22,8 @@ pub fn the_used_ids_are_those_of_the_used_entries()
         → record_in format block id ≡ None }
 {}
 
-/// A block has an unused entry exactly where it has fewer used ones than places, and it has no more of them than places.
+/// A block has an unused entry exactly where it has fewer used ones than places, and it has no more of them than
+/// places.
 pub fn a_block_has_room_where_fewer_entries_are_used()
     ensures room { (format : Format) (block : List ℕ)
         → has_unused format block ≡ nat_lt (length (used_ids format block)) (entries_per_block format) }
@@ -53,8 +57,8 @@ pub fn the_same_entries_are_used_alike()
         → (id : ℕ) → record_in format new id ≡ record_in format old id }
 {}
 
-/// An entry that is put at an unused place is one more, in its place among the others. It is the record of its identifier
-/// where that used none, and the block is full then exactly where it was the last unused place.
+/// An entry that is put at an unused place is one more, in its place among the others. It is the record of its
+/// identifier where that used none, and the block is full then exactly where it was the last unused place.
 pub fn a_put_entry_is_one_more()
     ensures entries { (format : Format) (place : ℕ) (entry : Entry) (old new : List ℕ)
         → PutsEntry format place entry old new
@@ -77,7 +81,8 @@ pub fn a_put_entry_is_one_more()
         → is_unused (entry_bytes format old at) ≡ false)) }
 {}
 
-/// An entry that is cleared is one less. Its identifier has no record then where it used one entry, and the block has room.
+/// An entry that is cleared is one less. Its identifier has no record then where it used one entry, and the block has
+/// room.
 pub fn a_cleared_entry_is_one_less()
     ensures entries { (format : Format) (place id : ℕ) (old new : List ℕ) → ClearsEntry format place id old new
         → (rec : Rec) × HasOneMore (record { id = id; rec = rec }) (used_entries format new) (used_entries format old) }

@@ -70,8 +70,8 @@ pub fn put_entry(format: Format, block: &mut [u8; 1024], place: usize, id: u32, 
     write_entry(format, id, rec, &mut block[start..start + size]);
 }
 
-/// Clears the entry at a place among the entries of a block, so that it is unused. All other bytes of the block stay, the
-/// stated number too.
+/// Clears the entry at a place among the entries of a block, so that it is unused. All other bytes of the block stay,
+/// the stated number too.
 pub fn clear_entry(format: Format, block: &mut [u8; 1024], place: usize)
     requires tree { IsTreeFormat format }
     requires place { place < entries_per_block format }

@@ -24,8 +24,8 @@ pub fn a_file_has_one_meaning()
         → value ≡ other }
 {}
 
-/// A file whose header is one of the kind stands for a value of the kind exactly where nothing is wrong with it, however
-/// many blocks it has.
+/// A file whose header is one of the kind stands for a value of the kind exactly where nothing is wrong with it,
+/// however many blocks it has.
 pub fn a_file_has_a_meaning_where_nothing_is_wrong()
     ensures { (file : List ℕ) (kind : Kind) (format : Format) → header_fault kind (header_of file) ≡ None
         → format_of (header_of file).version ≡ Some format
@@ -33,15 +33,15 @@ pub fn a_file_has_a_meaning_where_nothing_is_wrong()
         ↔ ((damage : Damage) → ¬ IsTreeDefect format file (header_of file) damage) }
 {}
 
-/// A file that stands for a value is a tree of which nothing is loose, in the value's format, with the heads of its header
-/// and the records of the value.
+/// A file that stands for a value is a tree of which nothing is loose, in the value's format, with the heads of its
+/// header and the records of the value.
 pub fn a_file_of_a_value_is_a_tree()
     ensures { (file : List ℕ) (value : QuotaValue) → TreeStandsFor file value
         → IsTree nothing_loose value.format file (length file) (heads_of (header_of file)) value.records }
 {}
 
-/// A tree of which nothing is loose stands for a value, in the value's format and with its records, where block 0 has the
-/// header of the value with the heads of the tree.
+/// A tree of which nothing is loose stands for a value, in the value's format and with its records, where block 0 has
+/// the header of the value with the heads of the tree.
 pub fn a_tree_with_a_header_has_a_meaning()
     ensures { (file : List ℕ) (value : QuotaValue) (heads : Heads)
         → AreOf (header_with value heads) (header_of (block_of file 0))

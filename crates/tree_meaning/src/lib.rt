@@ -1,8 +1,8 @@
-//! What tree quota files mean, vfsv0 and vfsv1, and what may be wrong with one: blocks of 1,024 bytes in a tree by which
-//! each identifier's entry is found.
+//! What tree quota files mean, vfsv0 and vfsv1, and what may be wrong with one: blocks of 1,024 bytes in a tree by
+//! which each identifier's entry is found.
 //!
-//! The one promise: a file stands for one value at most, and for one exactly where nothing is wrong with it; what is said of
-//! the bytes and the entries of a block is so.
+//! The one promise: a file stands for one value at most, and for one exactly where nothing is wrong with it; what is
+//! said of the bytes and the entries of a block is so.
 #![tactic(auto)]
 
 mod entries;

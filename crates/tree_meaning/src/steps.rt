@@ -1,6 +1,7 @@
 //! Laws of the steps of a change: what each makes of a tree with what is loose of it.
 
-ghost use Rattle.std.specs.Prelude.{◌≡◌, ℕ, ◌+◌, ◌-◌, ◌*◌, ◌≤◌, true, false, List, [], ◌∷◌, ◌++◌, length, replicate, Option, Some, None};
+ghost use Rattle.std.specs.Prelude.{◌≡◌, ℕ, ◌+◌, ◌-◌, ◌*◌, ◌≤◌, true, false, List, [], ◌∷◌, ◌++◌, length, replicate};
+ghost use Rattle.std.specs.Prelude.{Option, Some, None};
 ghost use Rattle.quota_types.specs.Times.{StandsIn, times};
 ghost use Rattle.quota_types.specs.declared.file_kind.Format.{Format};
 ghost use Rattle.file_blocks.specs.Block.{block_of, next_of, previous_of};
@@ -25,21 +26,25 @@ ghost use Rattle.tree_meaning.specs.TreeFile.{record_by_leaves};
 /// Where the blocks of a tree keep their references and its data blocks their entries, the tree, the leaves, the data
 /// blocks, those with room, and the records are the same, also among more blocks.
 pub fn a_tree_stays_where_its_entries_do()
-    ensures tree { (loose : Loose) (format : Format) (old new : List ℕ) (len more : ℕ) (heads : Heads) (records : Records)
+    ensures tree { (loose : Loose) (format : Format) (old new : List ℕ) (len more : ℕ) (heads : Heads)
+        (records : Records)
         → IsTree loose format old len heads records → KeepsEntries loose format heads.blocks more old new
         → tree_blocks new more ≡ tree_blocks old heads.blocks }
-    ensures leaves { (loose : Loose) (format : Format) (old new : List ℕ) (len more : ℕ) (heads : Heads) (records : Records)
+    ensures leaves { (loose : Loose) (format : Format) (old new : List ℕ) (len more : ℕ) (heads : Heads)
+        (records : Records)
         → IsTree loose format old len heads records → KeepsEntries loose format heads.blocks more old new
         → counted_leaves loose new more ≡ counted_leaves loose old heads.blocks }
     ensures data_blocks { (loose : Loose) (format : Format) (old new : List ℕ) (len more : ℕ) (heads : Heads)
         (records : Records)
         → IsTree loose format old len heads records → KeepsEntries loose format heads.blocks more old new
         → data_with loose new more ≡ data_with loose old heads.blocks }
-    ensures room { (loose : Loose) (format : Format) (old new : List ℕ) (len more : ℕ) (heads : Heads) (records : Records)
+    ensures room { (loose : Loose) (format : Format) (old new : List ℕ) (len more : ℕ) (heads : Heads)
+        (records : Records)
         (block : ℕ)
         → IsTree loose format old len heads records → KeepsEntries loose format heads.blocks more old new
         → has_room loose format new more block ≡ has_room loose format old heads.blocks block }
-    ensures filled { (loose : Loose) (format : Format) (old new : List ℕ) (len more : ℕ) (heads : Heads) (records : Records)
+    ensures filled { (loose : Loose) (format : Format) (old new : List ℕ) (len more : ℕ) (heads : Heads)
+        (records : Records)
         → IsTree loose format old len heads records → KeepsEntries loose format heads.blocks more old new
         → Filled loose format new more }
     ensures each_record { (loose : Loose) (format : Format) (old new : List ℕ) (len more : ℕ) (heads : Heads)
@@ -49,8 +54,8 @@ pub fn a_tree_stays_where_its_entries_do()
         ≡ record_by_leaves format old (counted_leaves loose old heads.blocks) id }
 {}
 
-/// Where no block of the tree changed, and of the data blocks none but in its links, the tree keeps its references and the
-/// data blocks keep their entries.
+/// Where no block of the tree changed, and of the data blocks none but in its links, the tree keeps its references and
+/// the data blocks keep their entries.
 pub fn links_are_no_entries()
     ensures { (loose : Loose) (format : Format) (blocks more : ℕ) (old new numbers : List ℕ)
         → blocks ≤ more → KeepsBlocksBut numbers old new
@@ -101,12 +106,15 @@ pub fn a_block_without_room_leaves_the_list()
         → ((front back : List ℕ) → IsChain old heads.blocks heads.first (front ++ block ∷ back) 0
         → NamesPrevious old (front ++ block ∷ back)
         → LeavesList old new heads (record heads { first = first }) block front back)
-        → len ≤ now_len → IsTree (loose_of held awaited None) format new now_len (record heads { first = first }) records }
+        → len ≤ now_len
+        → IsTree (loose_of held awaited None) format new now_len (record heads { first = first }) records }
 {}
 
-/// An awaited leaf can be linked by the blocks that are on its way, and by fresh ones that are held and whose bytes are 0.
+/// An awaited leaf can be linked by the blocks that are on its way, and by fresh ones that are held and whose bytes
+/// are 0.
 pub fn an_awaited_leaf_can_be_linked()
-    ensures { (held : List ℕ) (misplaced : Option ℕ) (format : Format) (old found fresh : List ℕ) (len : ℕ) (heads : Heads)
+    ensures { (held : List ℕ) (misplaced : Option ℕ) (format : Format) (old found fresh : List ℕ)
+        (len : ℕ) (heads : Heads)
         (records : Records) (leaf : TreePath)
         → IsTree (loose_of (fresh ++ held) (Some leaf) misplaced) format old len heads records
         → found ≡ blocks_on_way old heads.blocks leaf.number
@@ -114,12 +122,13 @@ pub fn an_awaited_leaf_can_be_linked()
         → IsLinkable old heads.blocks found fresh leaf.number leaf.block }
 {}
 
-/// An awaited leaf that was linked is one of the tree, the fresh blocks that were held for it are blocks of the tree, and
-/// all else is as it was.
+/// An awaited leaf that was linked is one of the tree, the fresh blocks that were held for it are blocks of the tree,
+/// and all else is as it was.
 pub fn a_linked_leaf_is_one_of_the_tree()
     ensures { (held : List ℕ) (format : Format) (old new found fresh : List ℕ) (len now_len : ℕ) (heads : Heads)
         (records : Records) (id leaf_block : ℕ)
-        → IsTree (loose_of (fresh ++ held) (Some (record { number = id; block = leaf_block })) None) format old len heads
+        → IsTree (loose_of (fresh ++ held) (Some (record { number = id; block = leaf_block })) None)
+        format old len heads
         records
         → 1 ≤ length found → length found + length fresh ≡ 4 → IsLinkable old heads.blocks found fresh id leaf_block
         → KeepsBlocksBut (changed_blocks found fresh) old new
@@ -131,7 +140,8 @@ pub fn a_linked_leaf_is_one_of_the_tree()
 
 /// Blocks are held in no order: where the same ones are, all is as it was.
 pub fn held_blocks_have_no_order()
-    ensures { (these those : List ℕ) (awaited : Option TreePath) (misplaced : Option ℕ) (format : Format) (file : List ℕ)
+    ensures { (these those : List ℕ) (awaited : Option TreePath) (misplaced : Option ℕ)
+        (format : Format) (file : List ℕ)
         (len : ℕ) (heads : Heads) (records : Records)
         → ((number : ℕ) → times those number ≡ times these number)
         → IsTree (loose_of these awaited misplaced) format file len heads records

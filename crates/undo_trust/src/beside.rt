@@ -27,8 +27,9 @@ pub struct OpenBeside {
     pub metadata: Metadata,
 }
 
-/// Opens a file that is there, and neither makes nor cuts one. The name is looked at before, and the open file behind that:
-/// another one than was seen is an error, so that no link is followed. Source: open(2), whose O_NOFOLLOW is not to be had.
+/// Opens a file that is there, and neither makes nor cuts one. The name is looked at before, and the open file behind
+/// that: another one than was seen is an error, so that no link is followed. Source: open(2), whose O_NOFOLLOW is not
+/// to be had.
 pub fn open_beside<R: Files<File = File>>(
     files: &R,
     path: &str,

@@ -1,5 +1,5 @@
-//! The files that stand beside quota files, under names that other accounts could have made: how they are opened, which undo
-//! files are believed, and who may use what is made.
+//! The files that stand beside quota files, under names that other accounts could have made: how they are opened, which
+//! undo files are believed, and who may use what is made.
 //!
 //! No clause says anything of them.
 #![tactic(auto)]

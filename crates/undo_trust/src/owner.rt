@@ -24,9 +24,9 @@ const WRITING: u32 = 0o022;
 /// To read and write it, of its owner.
 const OWN: u32 = 0o600;
 
-/// The permissions that a file gets which is to be no more open than one of this mode. Where it did not get the group of
-/// that one, its own may do nothing, and others what both the group and others may; where it did not get the owner, nobody
-/// may do more than the owner.
+/// The permissions that a file gets which is to be no more open than one of this mode. Where it did not get the group
+/// of that one, its own may do nothing, and others what both the group and others may; where it did not get the owner,
+/// nobody may do more than the owner.
 fn mode_no_more_open(mode: u32, has_owner: bool, has_group: bool) -> u32 {
     let owner = if has_owner { mode & OWNER } else { OWN };
     let mut group = mode & GROUP;
@@ -42,8 +42,8 @@ fn mode_no_more_open(mode: u32, has_owner: bool, has_group: bool) -> u32 {
     owner | group | others
 }
 
-/// Gives an open file the owner, the group and the permissions of another one, as far as the system lets us, and never more.
-/// Source: fchown(2), fchmod(2).
+/// Gives an open file the owner, the group and the permissions of another one, as far as the system lets us, and never
+/// more. Source: fchown(2), fchmod(2).
 pub fn give_owner(file: &File, of: &Metadata) {
     let has_group = fchown(file, None, Some(of.gid())).is_ok();
     let has_owner = fchown(file, Some(of.uid()), None).is_ok();
@@ -51,8 +51,8 @@ pub fn give_owner(file: &File, of: &Metadata) {
     let _ = file.set_permissions(Permissions::from_mode(mode));
 }
 
-/// Whether a file has the permissions that it would get as a new one beside another file, with the owner and the group that it
-/// has.
+/// Whether a file has the permissions that it would get as a new one beside another file, with the owner and the group
+/// that it has.
 fn has_given_mode(file: &Metadata, of: &Metadata) -> bool {
     let has_owner = file.uid() == of.uid();
     let has_group = file.gid() == of.gid();
@@ -64,13 +64,14 @@ fn has_given_owner(file: &Metadata, of: &Metadata) -> bool {
     file.uid() == of.uid() && file.gid() == of.gid()
 }
 
-/// Whether a file is as one that was made beside another file, by an account that can give files away, or by another one.
+/// Whether a file is as one that was made beside another file, by an account that can give files away, or by another
+/// one.
 pub fn is_as_made(file: &Metadata, of: &Metadata, gives_away: bool) -> bool {
     has_given_mode(file, of) && (!gives_away || has_given_owner(file, of))
 }
 
-/// Gives a file that this program has made the owner, the group and the permissions of another one, where those have changed
-/// since. Meanwhile only its owner may use it.
+/// Gives a file that this program has made the owner, the group and the permissions of another one, where those have
+/// changed since. Meanwhile only its owner may use it.
 pub fn follow_owner(file: &File, now: &Metadata, of: &Metadata) {
     if is_as_made(now, of, true) {
         return;

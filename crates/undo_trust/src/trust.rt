@@ -13,8 +13,8 @@ const ROOT: u32 = 0;
 /// The most seconds by which a file is changed last behind the moment at which its gate was opened.
 const MOST_SECONDS: i64 = 60;
 
-/// The most seconds behind that moment at which a file was made that had its gate opened. A commit makes no file, but clocks
-/// of files are coarse.
+/// The most seconds behind that moment at which a file was made that had its gate opened. A commit makes no file, but
+/// clocks of files are coarse.
 const MADE_SECONDS: i64 = 2;
 
 /// Why an undo file is not believed.
@@ -40,10 +40,15 @@ fn caller() -> u32 {
     libc::geteuid()
 }
 
-/// Whether a user is the owner of a file, root or the caller. Where the file is not there, it has no owner.
-fn is_trusted(user: u32, of: Option<&Metadata>) -> bool {
+/// Whether a user is the owner of a file or the caller. Where the file is not there, it has no owner.
+pub fn is_owner_or_caller(user: u32, of: Option<&Metadata>) -> bool {
     let is_owner = of.is_some_and(|of| of.uid() == user);
-    is_owner || user == ROOT || user == caller()
+    is_owner || user == caller()
+}
+
+/// Whether a user is the owner of a file, root or the caller.
+fn is_trusted(user: u32, of: Option<&Metadata>) -> bool {
+    user == ROOT || is_owner_or_caller(user, of)
 }
 
 /// Why an undo file is not believed whatever it says, where it is not one of ours. Its file may be absent.
@@ -60,10 +65,10 @@ pub fn distrust_of(undo: &Metadata, of: Option<&Metadata>) -> Option<Distrust> {
     None
 }
 
-/// Whether an undo file of ours, with a closed gate, is as one that the caller would make, so that a commit may go on with it.
-/// What is there is never given away or opened to more accounts: it may be another file that was moved there. So a caller who
-/// may change it makes a new one where the owner, the group or the permissions of its file have changed, and another caller
-/// where it is more open than its file.
+/// Whether an undo file of ours, with a closed gate, is as one that the caller would make, so that a commit may go on
+/// with it. What is there is never given away or opened to more accounts: it may be another file that was moved there.
+/// So a caller who may change it makes a new one where the owner, the group or the permissions of its file have
+/// changed, and another caller where it is more open than its file.
 pub fn serves(undo: &Metadata, of: Option<&Metadata>) -> bool {
     let Some(of) = of else {
         return true;
@@ -93,8 +98,8 @@ fn made(file: &Metadata) -> Option<i64> {
     i64::try_from(since.as_secs()).ok()
 }
 
-/// Whether a file, with an undo file whose gate is open, is not as a stop of our program leaves it: it was changed later than
-/// a commit takes, or behind a start of the machine, or was made since the gate was opened.
+/// Whether a file, with an undo file whose gate is open, is not as a stop of our program leaves it: it was changed
+/// later than a commit takes, or behind a start of the machine, or was made since the gate was opened.
 fn is_changed(opened: i64, file: &Metadata, boot: Option<i64>) -> bool {
     let changed = file.ctime();
     changed > opened.saturating_add(MOST_SECONDS)

@@ -47,8 +47,8 @@ pub fn undo_path<R: Files<File = File>>(
     Ok(path)
 }
 
-/// Where an undo file of a file is, as it may be shown on a terminal: a place behind a link may have any characters, which its
-/// owner chose. Where one is not from `!` to `~` the undo file is called by the name of its file.
+/// Where an undo file of a file is, as it may be shown on a terminal: a place behind a link may have any characters,
+/// which its owner chose. Where one is not from `!` to `~` the undo file is called by the name of its file.
 pub fn shown_undo<R: Files<File = File>>(
     alloc: Global,
     files: &R,
@@ -74,8 +74,8 @@ pub fn is_open(undo: &File) -> io::Result<bool> {
     Ok(count == 1 && gate[0] == OPEN)
 }
 
-/// Whether a gate is open, whoever made the undo file: what is no regular file has none. Without a lock another command may
-/// put a new undo file in the place of the one that is looked at, which is looked at then.
+/// Whether a gate is open, whoever made the undo file: what is no regular file has none. Without a lock another command
+/// may put a new undo file in the place of the one that is looked at, which is looked at then.
 fn is_open_at<R: Files<File = File>>(files: &R, path: &str) -> io::Result<bool> {
     for _ in 0..MOST_LOOKS {
         match open_beside(files, path, Access::Reading) {

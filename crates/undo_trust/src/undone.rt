@@ -1,6 +1,7 @@
 use std::alloc::{AllocError, Global};
 
-/// Which files have an undo file. What stands under the name of one beside any other file is another account's business.
+/// Which files have an undo file. What stands under the name of one beside any other file is another account's
+/// business.
 #[derive(Drop)]
 pub struct Undone {
     alloc: Global,

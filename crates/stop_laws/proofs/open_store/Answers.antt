@@ -12,6 +12,7 @@ returns g c = λ told name plain synced undo.
     let D = g.D.Disk in
     let files : World = told_files (D.seen c.args.disk).files [] [] in
     let kept : IsKept files name (D.seen c.args.disk) =
-    synced_kept (D.seen c.args.disk) name plain (g.met.D.Disk.synced_is_kept c.args.disk name told synced) (g.met.D.Disk.synced_is_kept c.args.disk (undo_name name) told undo) in
+    synced_kept (D.seen c.args.disk) name plain (g.met.D.Disk.synced_is_kept c.args.disk name told synced)
+    (g.met.D.Disk.synced_is_kept c.args.disk (undo_name name) told undo) in
     subst (λ (w : World). IsKept w name (disk_seen c.new.result)) (sym (c.new.ensures.told told))
     (subst (λ d. IsKept files name (D.seen d)) (sym c.new.ensures.disk) kept)

@@ -11,8 +11,10 @@ abbrev pub invariant-loop-made : goal.invariant-loop-made
 invariant-loop-made g l =
     let S = g.S.Store in
     record {
-      made : IsTrue S.tells → (way : Way) (start : QuotaValue) → HoldsAny S.tells (S.seen l.fn.store).files l.fn.opened start
-          → AreCommitted way l.file l.now l.lines (drop l.made l.lines) start l.made (S.seen l.fn.store) (S.seen l.store) (HoldsAny S.tells (S.seen l.store).files l.opened)
+      made : IsTrue S.tells → (way : Way) (start : QuotaValue)
+          → HoldsAny S.tells (S.seen l.fn.store).files l.fn.opened start
+          → AreCommitted way l.file l.now l.lines (drop l.made l.lines) start l.made (S.seen l.fn.store)
+          (S.seen l.store) (HoldsAny S.tells (S.seen l.store).files l.opened)
           (λ worlds. S.commits worlds l.fn.store l.store);
       same : any_seen l.opened ≡ any_seen l.fn.opened;
       leaves : EditsOne l.file (S.seen l.fn.store) (S.seen l.store);

@@ -9,7 +9,8 @@ invariant-loop-edits g l =
     let I = g.I.Source in
     record {
       read : IsTrue I.tells → input_asks l.names l.place (I.seen l.fn.source).left
-          ≡ asked_with l.edits.items (lines_ask l.names l.place l.reader.number (lines_left 1024 16777216 l.reader (I.seen l.source).left));
+          ≡ asked_with l.edits.items
+          (lines_ask l.names l.place l.reader.number (lines_left 1024 16777216 l.reader (I.seen l.source).left));
       later : (I.seen l.fn.source).faults ≤ (I.seen l.source).faults;
       kept : I.keeps true l.fn.source l.source;
     }

@@ -7,8 +7,10 @@ loop-line-preserved c =
     let so_far = c.loop-line.invariant in
     record {
       reaches = omega (arith, so_far.reaches, c.max-most.ensures);
-      holds = reach_more c.args.format c.args.lines.now c.loop-line.line-index c.loop-line.most c.max-most.result c.record_end.result _ c.loop-line-test.true c.record_end.ensures c.max-most.ensures so_far.holds;
+      holds = reach_more c.args.format c.args.lines.now c.loop-line.line-index c.loop-line.most c.max-most.result
+          c.record_end.result _ c.loop-line-test.true c.record_end.ensures c.max-most.ensures so_far.holds;
       least = λ room some all.
-          reach_least c.args.format c.args.lines.now c.loop-line.line-index c.loop-line.most c.max-most.result c.record_end.result room _ c.loop-line-test.true c.record_end.ensures c.max-most.ensures
+          reach_least c.args.format c.args.lines.now c.loop-line.line-index c.loop-line.most c.max-most.result
+          c.record_end.result room _ c.loop-line-test.true c.record_end.ensures c.max-most.ensures
           (so_far.least room some all) all;
     }

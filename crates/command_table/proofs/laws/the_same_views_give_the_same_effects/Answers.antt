@@ -7,7 +7,8 @@ returns-clause-acts c command invocation one other new to acts more status code 
     effects_same command invocation one other new to acts more status code alike effect also
 
 pub returns-clause-other : goal.returns-clause-other
-returns-clause-other c command invocation one other new acts status alike effect = other_effect command invocation one other new acts status alike effect
+returns-clause-other c command invocation one other new acts status alike effect =
+    other_effect command invocation one other new acts status alike effect
 
 pub returns-clause-opens : goal.returns-clause-opens
 returns-clause-opens c command invocation old file opens = (sound command).opens invocation old file opens

@@ -10,7 +10,8 @@ pub returns : goal.returns
 returns c =
     let texts = texts_of c.args.behind.now in
     let count : length c.args.behind.now + 1 ≡ length texts + 1 = rw length-map refl in
-    let kept : take 7 (operands_seen c.as_slice.result.now) ≡ take 7 (operands_in (items_of c.args.tool AnyWord 1 texts)) =
+    let kept : take 7 (operands_seen c.as_slice.result.now)
+    ≡ take 7 (operands_in (items_of c.args.tool AnyWord 1 texts)) =
     rw c.as_slice.ensures.value c.in_ok-scan.ensures.operands in
     rw (asked_formed c.args.in_script c.args.tool texts (given_options c.in_ok-scan.scan.given) c.mode_of-mode.result
     (length c.args.behind.now + 1) (operands_seen c.as_slice.result.now)

@@ -16,6 +16,7 @@ returns-in-Ok-read_all-clause-read g c =
     let grace = c.grace-grace.result in
     read_of S.tells ((S.seen c.args.store.now).files c.args.name.now) c.args.kind c.args.format grace list
     opened.seen
-    (λ told value view. let held = opened.held told value view in (c.grace-grace.ensures.value c.open_file.new.store value held, read.records value held))
+    (λ told value view. let held = opened.held told value view in
+    (c.grace-grace.ensures.value c.open_file.new.store value held, read.records value held))
     (subst (λ (f : Format). grace_unfit f grace ≡ None) opened.as_asked c.grace-grace.ensures.fits)
     (subst (λ (f : Format). All (λ (entry : Entry). IsKept f entry.id entry.rec) list) opened.as_asked read.kept)

@@ -5,6 +5,8 @@ use Rattle.disk_in_memory.proofs.recorded.make_halves.Given as goal
 
 abbrev pub invariant-loop-call : goal.invariant-loop-call
 invariant-loop-call l = record {
-  whole : file_named l.read.entries.items ≡ read_after (file_named l.fn.read.entries.items) (reverse (take l.call-index l.calls));
-  half : file_named l.left.entries.items ≡ half_left (file_named l.fn.read.entries.items) (reverse (take l.call-index l.calls));
+  whole : file_named l.read.entries.items
+      ≡ read_after (file_named l.fn.read.entries.items) (reverse (take l.call-index l.calls));
+  half : file_named l.left.entries.items
+      ≡ half_left (file_named l.fn.read.entries.items) (reverse (take l.call-index l.calls));
 }

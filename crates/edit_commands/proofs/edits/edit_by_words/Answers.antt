@@ -14,37 +14,46 @@ use Rattle.edit_commands.proofs.edits.edit_by_words.Goals as goal
 pub returns-in-Ok-clause-carries : goal.returns-in-Ok-clause-carries
 returns-in-Ok-clause-carries g c = λ input out link input_tells out_tells link_tells.
     let read = rw c.names_wanted-names.ensures at c.in-Ok.ensures in
-    carries_naming _ c.args.common.kind (names_wanted c.args.words c.args.common.names) c.in-Ok.names _ _ _ _ _ _ _ _ _ read.leaves
+    carries_naming _ c.args.common.kind (names_wanted c.args.words c.args.common.names) c.in-Ok.names _ _ _ _ _ _
+    _ _ _ read.leaves
     read.read
-    (λ cause said may. inr (c.in-Ok.names, read.given, may)) (c.edit_named.ensures.carries input out link input_tells out_tells link_tells)
+    (λ cause said may. inr (c.in-Ok.names, read.given, may))
+    (c.edit_named.ensures.carries input out link input_tells out_tells link_tells)
 
 pub returns-in-Ok-clause-word : goal.returns-in-Ok-clause-word
 returns-in-Ok-clause-word g c = λ refusal faulty.
     let read = rw c.names_wanted-names.ensures at c.in-Ok.ensures in
-    c.edit_named.ensures.word refusal (faulty_given c.args.words (names_wanted c.args.words c.args.common.names) c.in-Ok.names refusal read.given faulty)
+    c.edit_named.ensures.word refusal
+    (faulty_given c.args.words (names_wanted c.args.words c.args.common.names) c.in-Ok.names refusal read.given faulty)
 
 pub returns-in-Ok-clause-store : goal.returns-in-Ok-clause-store
 returns-in-Ok-clause-store g c = λ refusal faulty.
     let read = rw c.names_wanted-names.ensures at c.in-Ok.ensures in
     let wanted = names_wanted c.args.words c.args.common.names in
-    c.edit_named.ensures.store refusal (faulty_given c.args.words wanted c.in-Ok.names refusal read.given faulty) ∙ read.untouched (faulty_none c.args.words wanted refusal faulty)
+    c.edit_named.ensures.store refusal (faulty_given c.args.words wanted c.in-Ok.names refusal read.given faulty)
+    ∙ read.untouched (faulty_none c.args.words wanted refusal faulty)
 
 pub returns-in-Ok-clause-silent : goal.returns-in-Ok-clause-silent
 returns-in-Ok-clause-silent g c = λ refusal faulty.
     let read = rw c.names_wanted-names.ensures at c.in-Ok.ensures in
-    c.edit_named.ensures.silent refusal (faulty_given c.args.words (names_wanted c.args.words c.args.common.names) c.in-Ok.names refusal read.given faulty)
+    c.edit_named.ensures.silent refusal
+    (faulty_given c.args.words (names_wanted c.args.words c.args.common.names) c.in-Ok.names refusal read.given faulty)
 
 pub returns-in-Ok-clause-named : goal.returns-in-Ok-clause-named
 returns-in-Ok-clause-named g c = λ no.
-    IfErr-weaker c.edit_named.result _ _ (λ refusal left told. left_for-read refusal.cause _ _ _ (ap (λ (w : World). w c.args.file) c.in-Ok.ensures.leaves.files) (left told)) (c.edit_named.ensures.named no)
+    IfErr-weaker c.edit_named.result _ _
+    (λ refusal left told. left_for-read refusal.cause _ _ _
+    (ap (λ (w : World). w c.args.file) c.in-Ok.ensures.leaves.files) (left told)) (c.edit_named.ensures.named no)
 
 pub returns-in-Ok-clause-synced : goal.returns-in-Ok-clause-synced
-returns-in-Ok-clause-synced g c = λ told. syncs-after_read _ _ _ _ c.in-Ok.ensures.leaves (c.edit_named.ensures.synced told)
+returns-in-Ok-clause-synced g c =
+    λ told. syncs-after_read _ _ _ _ c.in-Ok.ensures.leaves (c.edit_named.ensures.synced told)
 
 pub returns-in-Err-clause-carries : goal.returns-in-Err-clause-carries
 returns-in-Err-clause-carries g c = λ input out link input_tells out_tells link_tells.
     let read = rw c.names_wanted-names.ensures at c.in-Err.ensures in
-    naming_refused c.args.common.kind (names_wanted c.args.words c.args.common.names) _ _ _ _ _ _ _ read.leaves read.refused read.may
+    naming_refused c.args.common.kind (names_wanted c.args.words c.args.common.names) _ _ _ _ _ _ _ read.leaves
+    read.refused read.may
     (λ may. inl may) read.placed
 
 pub returns-in-Err-clause-word : goal.returns-in-Err-clause-word
@@ -54,7 +63,9 @@ returns-in-Err-clause-word g c = λ refusal faulty.
 
 pub returns-in-Err-clause-store : goal.returns-in-Err-clause-store
 returns-in-Err-clause-store g c = λ refusal faulty.
-    c.in-Err.ensures.untouched (c.names_wanted-names.ensures ∙ faulty_none c.args.words (names_wanted c.args.words c.args.common.names) refusal faulty)
+    c.in-Err.ensures.untouched
+    (c.names_wanted-names.ensures
+    ∙ faulty_none c.args.words (names_wanted c.args.words c.args.common.names) refusal faulty)
 
 pub returns-in-Err-clause-named : goal.returns-in-Err-clause-named
 returns-in-Err-clause-named g c = λ no told. inl (ap (λ (w : World). w c.args.file) c.in-Err.ensures.leaves.files)
@@ -69,7 +80,8 @@ pub returns-in-Ok-clause-made : goal.returns-in-Ok-clause-made
 returns-in-Ok-clause-made g c =
     let read = rw c.names_wanted-names.ensures at c.in-Ok.ensures in
     on_ok_weaker c.edit_named.result (λ made told.
-    words_made c.args.common c.args.words c.args.file c.args.invocation.now _ _ _ c.in-Ok.names (read.read told) read.leaves.files (made told)) c.edit_named.ensures.made
+    words_made c.args.common c.args.words c.args.file c.args.invocation.now _ _ _ c.in-Ok.names (read.read told)
+    read.leaves.files (made told)) c.edit_named.ensures.made
 
 pub returns-in-Err-clause-synced : goal.returns-in-Err-clause-synced
 returns-in-Err-clause-synced g c = λ told. syncs-read _ _ _ c.in-Err.ensures.leaves
@@ -77,9 +89,12 @@ returns-in-Err-clause-synced g c = λ told. syncs-read _ _ _ c.in-Err.ensures.le
 pub returns-in-Ok-clause-commits : goal.returns-in-Ok-clause-commits
 returns-in-Ok-clause-commits g c = λ input datagrams told.
     let read = rw c.names_wanted-names.ensures at c.in-Ok.ensures in
-    committed_since _ _ _ c.args.file _ _ _ input input datagrams _ _ read.leaves.files (λ worlds it. g.met.S.Store.commits_behind_none worlds _ _ _ read.commits it)
-    (λ world to. comes_named c.args.common.kind (names_wanted c.args.words c.args.common.names) c.in-Ok.names _ _ world (read.read told) to) (c.edit_named.ensures.commits input datagrams told)
+    committed_since _ _ _ c.args.file _ _ _ input input datagrams _ _ read.leaves.files
+    (λ worlds it. g.met.S.Store.commits_behind_none worlds _ _ _ read.commits it)
+    (λ world to. comes_named c.args.common.kind (names_wanted c.args.words c.args.common.names) c.in-Ok.names _ _ world
+    (read.read told) to) (c.edit_named.ensures.commits input datagrams told)
 
 pub returns-in-Err-clause-commits : goal.returns-in-Err-clause-commits
 returns-in-Err-clause-commits g c = λ input datagrams told.
-    read_committed _ c.args.file _ _ _ (λ worlds. g.met.S.Store.commits_more worlds _ _) c.in-Err.ensures.commits c.in-Err.ensures.leaves.files
+    read_committed _ c.args.file _ _ _ (λ worlds. g.met.S.Store.commits_more worlds _ _) c.in-Err.ensures.commits
+    c.in-Err.ensures.leaves.files

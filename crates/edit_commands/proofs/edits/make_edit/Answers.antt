@@ -5,19 +5,22 @@ pub returns-in-Limits-clause-edits : goal.returns-in-Limits-clause-edits
 returns-in-Limits-clause-edits g c =
     let S = g.S.Store in
     rw (c.in-Limits.is, c.unskipped.ensures)
-    (edits_unskipped _ S.tells c.args.opened.now c.set_limits.new.file (S.seen c.args.store.now) (S.seen c.set_limits.new.store) c.set_limits.result c.set_limits.ensures.edits)
+    (edits_unskipped _ S.tells c.args.opened.now c.set_limits.new.file (S.seen c.args.store.now)
+    (S.seen c.set_limits.new.store) c.set_limits.result c.set_limits.ensures.edits)
 
 pub returns-in-Copy-clause-edits : goal.returns-in-Copy-clause-edits
 returns-in-Copy-clause-edits g c =
     let S = g.S.Store in
     rw (c.in-Copy.is, c.unskipped-in-Copy.ensures)
-    (edits_unskipped _ S.tells c.args.opened.now c.copy_limits.new.file (S.seen c.args.store.now) (S.seen c.copy_limits.new.store) c.copy_limits.result c.copy_limits.ensures.edits)
+    (edits_unskipped _ S.tells c.args.opened.now c.copy_limits.new.file (S.seen c.args.store.now)
+    (S.seen c.copy_limits.new.store) c.copy_limits.result c.copy_limits.ensures.edits)
 
 pub returns-in-Grace-clause-edits : goal.returns-in-Grace-clause-edits
 returns-in-Grace-clause-edits g c =
     let S = g.S.Store in
     rw (c.in-Grace.is, c.unskipped-in-Grace.ensures)
-    (edits_unskipped _ S.tells c.args.opened.now c.set_grace_periods.new.file (S.seen c.args.store.now) (S.seen c.set_grace_periods.new.store) c.set_grace_periods.result c.set_grace_periods.ensures.edits)
+    (edits_unskipped _ S.tells c.args.opened.now c.set_grace_periods.new.file (S.seen c.args.store.now)
+    (S.seen c.set_grace_periods.new.store) c.set_grace_periods.result c.set_grace_periods.ensures.edits)
 
 pub returns-in-Times-clause-edits : goal.returns-in-Times-clause-edits
 returns-in-Times-clause-edits g c = rw c.in-Times.is c.set_times.ensures.edits

@@ -13,17 +13,20 @@ returns-in-Ok-clause-carries g c = λ input err link input_tells err_tells link_
 
 pub returns-in-Ok-clause-word : goal.returns-in-Ok-clause-word
 returns-in-Ok-clause-word g c = λ refusal faulty.
-    c.print_named.ensures.word refusal (faulty_word_given c.args.word c.args.common.names c.in-Ok.names refusal c.in-Ok.ensures.given faulty)
+    c.print_named.ensures.word refusal
+    (faulty_word_given c.args.word c.args.common.names c.in-Ok.names refusal c.in-Ok.ensures.given faulty)
 
 pub returns-in-Ok-clause-store : goal.returns-in-Ok-clause-store
 returns-in-Ok-clause-store g c = λ refusal faulty.
-    c.print_named.ensures.store refusal (faulty_word_given c.args.word c.args.common.names c.in-Ok.names refusal c.in-Ok.ensures.given faulty)
+    c.print_named.ensures.store refusal
+    (faulty_word_given c.args.word c.args.common.names c.in-Ok.names refusal c.in-Ok.ensures.given faulty)
     ∙ c.in-Ok.ensures.untouched (faulty_word_none c.args.word c.args.common.names refusal faulty)
 
 pub returns-in-Err-clause-carries : goal.returns-in-Err-clause-carries
 returns-in-Err-clause-carries g c = λ input err link input_tells err_tells link_tells now line.
     let read = c.in-Err.ensures in
-    naming_refused c.args.common.kind c.args.common.names _ _ _ _ _ _ _ read.leaves read.refused read.may (λ may. inl may) read.placed
+    naming_refused c.args.common.kind c.args.common.names _ _ _ _ _ _ _ read.leaves read.refused read.may
+    (λ may. inl may) read.placed
 
 pub returns-in-Err-clause-word : goal.returns-in-Err-clause-word
 returns-in-Err-clause-word g c = λ refusal faulty.

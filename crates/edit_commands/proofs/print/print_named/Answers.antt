@@ -13,10 +13,12 @@ returns-in-Ok-clause-carries g c = λ input err link input_tells err_tells link_
     (c.print_opened.ensures.carries input err link input_tells err_tells link_tells)
 
 pub returns-in-Ok-clause-word : goal.returns-in-Ok-clause-word
-returns-in-Ok-clause-word g c = λ refusal is. passed_not (identifier_of c.args.names.now c.args.word) c.in-Ok.id refusal is c.in-Ok.ensures
+returns-in-Ok-clause-word g c =
+    λ refusal is. passed_not (identifier_of c.args.names.now c.args.word) c.in-Ok.id refusal is c.in-Ok.ensures
 
 pub returns-in-Ok-clause-store : goal.returns-in-Ok-clause-store
-returns-in-Ok-clause-store g c = λ refusal is. passed_not (identifier_of c.args.names.now c.args.word) c.in-Ok.id refusal is c.in-Ok.ensures
+returns-in-Ok-clause-store g c =
+    λ refusal is. passed_not (identifier_of c.args.names.now c.args.word) c.in-Ok.id refusal is c.in-Ok.ensures
 
 pub returns-in-Err-clause-carries : goal.returns-in-Err-clause-carries
 returns-in-Err-clause-carries g c = λ input err link input_tells err_tells link_tells.
@@ -24,7 +26,9 @@ returns-in-Err-clause-carries g c = λ input err link input_tells err_tells link
     (identifier_refusal c.args.names.now c.args.word c.in-Err.refusal c.in-Err.ensures) (λ read. inl read)
 
 pub returns-in-Err-clause-word : goal.returns-in-Err-clause-word
-returns-in-Err-clause-word g c = λ refusal is. ap (λ (r : Refusal). Err r) (refused_as (identifier_of c.args.names.now c.args.word) refusal c.in-Err.refusal is c.in-Err.ensures)
+returns-in-Err-clause-word g c =
+    λ refusal is. ap (λ (r : Refusal). Err r)
+    (refused_as (identifier_of c.args.names.now c.args.word) refusal c.in-Err.refusal is c.in-Err.ensures)
 
 pub returns-in-Err-clause-synced : goal.returns-in-Err-clause-synced
 returns-in-Err-clause-synced g c = syncs-none _

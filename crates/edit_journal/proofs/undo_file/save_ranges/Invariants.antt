@@ -10,7 +10,9 @@ abbrev pub invariant-loop-index : goal.invariant-loop-index
 invariant-loop-index g l =
     let D = g.D.Disk in
     record {
-      saved : IsTrue D.tells → SavesFrom (unwrap_or ((D.seen l.fn.disk).files l.name) []) 0 (ranges_of (take l.index l.ranges)) (unwrap_or ((D.seen l.disk).files l.undo) []);
+      saved : IsTrue D.tells
+          → SavesFrom (unwrap_or ((D.seen l.fn.disk).files l.name) []) 0 (ranges_of (take l.index l.ranges))
+          (unwrap_or ((D.seen l.disk).files l.undo) []);
       passes : Passes (TearsFrom l.undo 8) (D.seen l.fn.disk) (D.seen l.disk);
       names : KeepsOthers l.undo (D.seen l.fn.disk).unsynced (D.seen l.disk).unsynced;
       counted : (D.seen l.fn.disk).faults ≤ (D.seen l.disk).faults;

@@ -18,7 +18,8 @@ returns-then-not-fits-clause-fit g c told =
     ∙ sym c.fits.ensures ∙ c.if-not-fits.true in
     let here : c.loop-k.k ≡ 0 + c.loop-k.k = omega arith in
     sym (false_from_ne_true _ (λ all.
-    false≢true (sym one ∙ ap (λ (n : ℕ). range_fits c.args.old_length (saved_range undo n)) here ∙ fit-each c.args.old_length undo 0 c.args.count all c.loop-k.k (omega arith))))
+    false≢true (sym one ∙ ap (λ (n : ℕ). range_fits c.args.old_length (saved_range undo n)) here
+    ∙ fit-each c.args.old_length undo 0 c.args.count all c.loop-k.k (omega arith))))
 
 pub loop-k-preserved : goal.loop-k-preserved
 loop-k-preserved g c =
@@ -43,4 +44,5 @@ returns-clause-fit g c told =
     sym (fit-all c.args.old_length undo 0 c.args.count
     (λ i below.
     let here : 0 + i ≡ i = omega arith in
-    ap (λ (n : ℕ). range_fits c.args.old_length (saved_range undo n)) here ∙ c.loop-k.invariant.fit told i (omega (arith, below, c.loop-k-test.false))))
+    ap (λ (n : ℕ). range_fits c.args.old_length (saved_range undo n)) here
+    ∙ c.loop-k.invariant.fit told i (omega (arith, below, c.loop-k-test.false))))

@@ -9,7 +9,8 @@ abbrev pub invariant-loop-k : goal.invariant-loop-k
 invariant-loop-k g l =
     let D = g.D.Disk in
     record {
-      within : IsTrue D.tells → (i : ℕ) → i < l.k → range_at i + 16 + number_at 2 (unwrap_or ((D.seen l.fn.disk).files l.undo) []) (range_at i + 8) ≤ l.length;
+      within : IsTrue D.tells → (i : ℕ) → i < l.k
+          → range_at i + 16 + number_at 2 (unwrap_or ((D.seen l.fn.disk).files l.undo) []) (range_at i + 8) ≤ l.length;
       names : (D.seen l.disk).unsynced ≡ (D.seen l.fn.disk).unsynced;
       counted : (D.seen l.fn.disk).faults ≤ (D.seen l.disk).faults;
       looks : Passes IsSame (D.seen l.fn.disk) (D.seen l.disk);

@@ -3,7 +3,9 @@ use Rattle.quota_types.proofs.NumberLemmas.{number_before}
 use Rattle.entry_codec.proofs.entry.write_v2r0.Goals as goal
 
 pub returns-clause-id : goal.returns-clause-id
-returns-clause-id c = number_before 4 0 _ _ _ _ c.set_le64s_at.ensures.others (omega arith) ∙ c.set_le32s_at.ensures.written 0 (omega arith)
+returns-clause-id c =
+    number_before 4 0 _ _ _ _ c.set_le64s_at.ensures.others (omega arith)
+    ∙ c.set_le32s_at.ensures.written 0 (omega arith)
 
 pub returns-clause-stored : goal.returns-clause-stored
 returns-clause-stored c =

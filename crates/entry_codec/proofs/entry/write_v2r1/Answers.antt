@@ -3,10 +3,14 @@ use Rattle.quota_types.proofs.NumberLemmas.{number_before}
 use Rattle.entry_codec.proofs.entry.write_v2r1.Goals as goal
 
 pub returns-clause-id : goal.returns-clause-id
-returns-clause-id c = number_before 4 0 _ _ _ _ c.set_le64s_at.ensures.others (omega arith) ∙ c.set_le32s_at.ensures.written 0 (omega arith)
+returns-clause-id c =
+    number_before 4 0 _ _ _ _ c.set_le64s_at.ensures.others (omega arith)
+    ∙ c.set_le32s_at.ensures.written 0 (omega arith)
 
 pub returns-clause-padding : goal.returns-clause-padding
-returns-clause-padding c = number_before 4 4 _ _ _ _ c.set_le64s_at.ensures.others (omega arith) ∙ c.set_le32s_at.ensures.written 1 (omega arith)
+returns-clause-padding c =
+    number_before 4 4 _ _ _ _ c.set_le64s_at.ensures.others (omega arith)
+    ∙ c.set_le32s_at.ensures.written 1 (omega arith)
 
 pub returns-clause-stored : goal.returns-clause-stored
 returns-clause-stored c =

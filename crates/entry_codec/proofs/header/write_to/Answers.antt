@@ -18,4 +18,5 @@ returns-clause-numbers c =
     }
 
 pub returns-clause-rest : goal.returns-clause-rest
-returns-clause-rest c = behind_kept 0 32 c.args.block.now c.set_le32s_at.new.bytes c.set_le32s_at.ensures.others (omega arith)
+returns-clause-rest c =
+    behind_kept 0 32 c.args.block.now c.set_le32s_at.new.bytes c.set_le32s_at.ensures.others (omega arith)

@@ -1,4 +1,4 @@
-use Rattle.std.proofs.Common.{ap, inr, sym, true, false, [], refl, subst}
+use Rattle.std.proofs.Common.{ap, inr, sym, false, [], refl, subst}
 use Rattle.std.specs.Prelude.{Result, ⊤}
 use Rattle.outside.proofs.FrameLemmas.{syncs-none}
 use Rattle.quota_types.specs.declared.field.NoRoom.{NoRoom}
@@ -19,7 +19,8 @@ returns-in-Ok-clause-carries g c = λ input out err link input_tells out_tells e
     carries_as _ _ _ _ _ _ _ _
     (ap (λ (r : Result QuotaValue NoRoom). ReplaceSteps c.args.file r)
     (sym (ap (with_applied (value_in c.args.value)) (rw c.as_slice.ensures.value at c.in-Ok.ensures.applied))))
-    (carries_more _ _ _ (ReplacingMayRefuse (value_in c.args.value) c.args.file) _ _ _ c.write_value.result (λ cause said may. inr may)
+    (carries_more _ _ _ (ReplacingMayRefuse (value_in c.args.value) c.args.file) _ _ _ c.write_value.result
+    (λ cause said may. inr may)
     (c.write_value.ensures.carries input out err link input_tells out_tells err_tells link_tells))
 
 pub returns-clause-carries : goal.returns-clause-carries
@@ -35,11 +36,13 @@ pub returns-in-Ok-clause-commits : goal.returns-in-Ok-clause-commits
 returns-in-Ok-clause-commits g c = λ input datagrams told.
     let S = g.S.Store in
     let old : Outside = record { files = (S.seen c.args.store.now).files; input = input; datagrams = datagrams } in
-    subst (λ (r : Result QuotaValue NoRoom). CommitsSteps ⊤ (is_ok c.write_value.result) (ReplaceSteps c.args.file r) (ReplacesOnly c.args.file old.files) old
+    subst (λ (r : Result QuotaValue NoRoom).
+    CommitsSteps ⊤ (is_ok c.write_value.result) (ReplaceSteps c.args.file r) (ReplacesOnly c.args.file old.files) old
     (S.seen c.write_value.new.store).files (λ worlds. S.commits worlds c.args.store.now c.write_value.new.store))
     (sym (ap (with_applied (value_in c.args.value)) (rw c.as_slice.ensures.value at c.in-Ok.ensures.applied)))
     (c.write_value.ensures.commits input datagrams told)
 
 pub returns-clause-commits : goal.returns-clause-commits
 returns-clause-commits g c = λ input datagrams told.
-    looked_committed ⊤ false _ _ _ _ _ (λ worlds. g.met.S.Store.commits_more worlds _ _) (g.S.Store.commits_nothing [] _) refl (λ other differ differs. refl)
+    looked_committed ⊤ false _ _ _ _ _ (λ worlds. g.met.S.Store.commits_more worlds _ _)
+    (g.S.Store.commits_nothing [] _) refl (λ other differ differs. refl)

@@ -15,7 +15,8 @@ use Rattle.file_commands.proofs.conversion.convert_file.Goals as goal
 pub returns-in-Ok-clause-carries : goal.returns-in-Ok-clause-carries
 returns-in-Ok-clause-carries g c = λ input out err link input_tells out_tells err_tells link_tells invocation.
     converted_done c.args.kind c.args.old c.args.new c.args.source c.args.target invocation _ _ _
-    (rw (c.as_str.ensures, c.as_str-2.ensures) at c.in-Ok.ensures.made) (rw (c.as_str.ensures, c.as_str-2.ensures) at c.in-Ok.ensures.leaves)
+    (rw (c.as_str.ensures, c.as_str-2.ensures) at c.in-Ok.ensures.made)
+    (rw (c.as_str.ensures, c.as_str-2.ensures) at c.in-Ok.ensures.leaves)
 
 pub returns-in-Ok-clause-anew : goal.returns-in-Ok-clause-anew
 returns-in-Ok-clause-anew g c =
@@ -34,13 +35,16 @@ pub returns-in-Err-clause-carries : goal.returns-in-Err-clause-carries
 returns-in-Err-clause-carries g c = λ input out err link input_tells out_tells err_tells link_tells invocation.
     rw c.convert_refusal.ensures
     (not_converted c.args.kind c.args.old c.args.new c.args.source c.args.target invocation _ _ _ c.in-Err.fault
-    (rw (c.as_str.ensures, c.as_str-2.ensures) at c.in-Err.ensures.refused) (rw (c.as_str.ensures, c.as_str-2.ensures) at c.in-Err.ensures.unwritten)
-    ((rw c.as_str-2.ensures at c.in-Err.ensures.unchanged) c.args.target (λ same. replacement_name-ne c.args.target (sym same)))
+    (rw (c.as_str.ensures, c.as_str-2.ensures) at c.in-Err.ensures.refused)
+    (rw (c.as_str.ensures, c.as_str-2.ensures) at c.in-Err.ensures.unwritten)
+    ((rw c.as_str-2.ensures at c.in-Err.ensures.unchanged) c.args.target
+    (λ same. replacement_name-ne c.args.target (sym same)))
     (rw (c.as_str.ensures, c.as_str-2.ensures) at c.in-Err.ensures.leaves))
 
 pub returns-in-Err-clause-named : goal.returns-in-Err-clause-named
 returns-in-Err-clause-named g c =
-    (rw c.as_str-2.ensures at c.in-Err.ensures.unchanged) c.args.target (λ same. replacement_name-ne c.args.target (sym same))
+    (rw c.as_str-2.ensures at c.in-Err.ensures.unchanged) c.args.target
+    (λ same. replacement_name-ne c.args.target (sym same))
 
 pub returns-in-Ok-clause-commits : goal.returns-in-Ok-clause-commits
 returns-in-Ok-clause-commits g c = λ input datagrams invocation told.
@@ -51,13 +55,18 @@ returns-in-Ok-clause-commits g c = λ input datagrams invocation told.
     let old : Outside = record { files = (S.seen c.args.store.now).files; input = input; datagrams = datagrams } in
     let new = (S.seen c.convert.new.store).files in
     let asked = asked_for c.args.source c.args.target c.args.old c.args.new c.args.kind most_blocks in
-    replaced_committed true (ConvertSteps c.args.kind c.args.old c.args.new c.args.source c.args.target invocation) c.args.target (IsMadeOf S.tells asked old.files) old new
+    replaced_committed true (ConvertSteps c.args.kind c.args.old c.args.new c.args.source c.args.target invocation)
+    c.args.target (IsMadeOf S.tells asked old.files) old new
     (λ worlds. S.commits worlds c.args.store.now c.convert.new.store) (λ worlds. g.met.S.Store.commits_more worlds _ _)
-    (λ bytes is. comes_converted c.args.kind c.args.old c.args.new c.args.source c.args.target invocation S.tells old (replaced_files old.files c.args.target bytes) is.made told is.free is.converts is.few
-    (seen_in old.files c.args.target bytes c.args.kind c.args.new is.made (is.seen (omega arith))) (replaced-only old.files c.args.target bytes))
+    (λ bytes is. comes_converted c.args.kind c.args.old c.args.new c.args.source c.args.target invocation S.tells old
+    (replaced_files old.files c.args.target bytes) is.made told is.free is.converts is.few
+    (seen_in old.files c.args.target bytes c.args.kind c.args.new is.made (is.seen (omega arith)))
+    (replaced-only old.files c.args.target bytes))
     (λ well.
-    let is : IsMade S.tells asked (S.seen c.args.store.now) (S.seen c.convert.new.store) = rw (source, target) at done.made in
-    comes_converted c.args.kind c.args.old c.args.new c.args.source c.args.target invocation S.tells old new is.made told is.free is.converts is.few
+    let is : IsMade S.tells asked (S.seen c.args.store.now) (S.seen c.convert.new.store) =
+    rw (source, target) at done.made in
+    comes_converted c.args.kind c.args.old c.args.new c.args.source c.args.target invocation S.tells old new is.made
+    told is.free is.converts is.few
     (is.seen told (omega arith)) (rw target at done.leaves.files))
     (rw target at done.leaves.files) (rw (source, target) at done.commits told)
 
@@ -70,9 +79,12 @@ returns-in-Err-clause-commits g c = λ input datagrams invocation told.
     let old : Outside = record { files = (S.seen c.args.store.now).files; input = input; datagrams = datagrams } in
     let new = (S.seen c.convert.new.store).files in
     let asked = asked_for c.args.source c.args.target c.args.old c.args.new c.args.kind most_blocks in
-    replaced_committed false (ConvertSteps c.args.kind c.args.old c.args.new c.args.source c.args.target invocation) c.args.target (IsMadeOf S.tells asked old.files) old new
+    replaced_committed false (ConvertSteps c.args.kind c.args.old c.args.new c.args.source c.args.target invocation)
+    c.args.target (IsMadeOf S.tells asked old.files) old new
     (λ worlds. S.commits worlds c.args.store.now c.convert.new.store) (λ worlds. g.met.S.Store.commits_more worlds _ _)
-    (λ bytes is. comes_converted c.args.kind c.args.old c.args.new c.args.source c.args.target invocation S.tells old (replaced_files old.files c.args.target bytes) is.made told is.free is.converts is.few
-    (seen_in old.files c.args.target bytes c.args.kind c.args.new is.made (is.seen (omega arith))) (replaced-only old.files c.args.target bytes))
+    (λ bytes is. comes_converted c.args.kind c.args.old c.args.new c.args.source c.args.target invocation S.tells old
+    (replaced_files old.files c.args.target bytes) is.made told is.free is.converts is.few
+    (seen_in old.files c.args.target bytes c.args.kind c.args.new is.made (is.seen (omega arith)))
+    (replaced-only old.files c.args.target bytes))
     (λ well. absurd (false≢true well))
     (rw target at done.leaves.files) (rw (source, target) at done.commits told)

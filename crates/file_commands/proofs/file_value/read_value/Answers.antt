@@ -9,4 +9,5 @@ use Rattle.file_commands.proofs.file_value.read_value.Goals as goal
 pub returns-clause-kept : goal.returns-clause-kept
 returns-clause-kept g c =
     records_kept c.format-format.result c.in_ok-entries.entries.items
-    (subst (λ (f : Format). All (λ (entry : Entry). IsKept f entry.id entry.rec) c.in_ok-entries.entries.items) (sym c.format-format.ensures.kept) c.in_ok-entries.ensures.kept)
+    (subst (λ (f : Format). All (λ (entry : Entry). IsKept f entry.id entry.rec) c.in_ok-entries.entries.items)
+    (sym c.format-format.ensures.kept) c.in_ok-entries.ensures.kept)

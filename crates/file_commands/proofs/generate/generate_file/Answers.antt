@@ -1,4 +1,4 @@
-use Rattle.std.proofs.Common.{inr, refl, sym, true, false, [], subst}
+use Rattle.std.proofs.Common.{inr, refl, sym, false, [], subst}
 use Rattle.std.specs.Prelude.{⊤}
 use Rattle.outside.proofs.FrameLemmas.{syncs-none}
 use Rattle.refusals.specs.declared.cause.Cause.TheVariants.{Memory}
@@ -31,10 +31,12 @@ pub returns-in-Ok-clause-commits : goal.returns-in-Ok-clause-commits
 returns-in-Ok-clause-commits g c = λ input datagrams told.
     let S = g.S.Store in
     let old : Outside = record { files = (S.seen c.args.store.now).files; input = input; datagrams = datagrams } in
-    subst (λ (steps : Steps). CommitsSteps ⊤ (is_ok c.write_made.result) steps (ReplacesOnly c.args.file old.files) old (S.seen c.write_made.new.store).files
+    subst (λ (steps : Steps). CommitsSteps ⊤ (is_ok c.write_made.result) steps (ReplacesOnly c.args.file old.files) old
+    (S.seen c.write_made.new.store).files
     (λ worlds. S.commits worlds c.args.store.now c.write_made.new.store))
     (sym (c.in-Ok.ensures.steps c.args.file)) (c.write_made.ensures.commits input datagrams told)
 
 pub returns-in-Err-clause-commits : goal.returns-in-Err-clause-commits
 returns-in-Err-clause-commits g c = λ input datagrams told.
-    looked_committed ⊤ false _ _ _ _ _ (λ worlds. g.met.S.Store.commits_more worlds _ _) (g.S.Store.commits_nothing [] _) refl (λ other differ differs. refl)
+    looked_committed ⊤ false _ _ _ _ _ (λ worlds. g.met.S.Store.commits_more worlds _ _)
+    (g.S.Store.commits_nothing [] _) refl (λ other differ differs. refl)

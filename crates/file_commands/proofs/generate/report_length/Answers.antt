@@ -25,14 +25,18 @@ returns-in-Ok-clause-bytes g c = λ told value view.
     let text = report_on c.none-names.result file c.args.now c.no_options.result in
     let tells = tells_of S.tells true true true true in
     let old = seen_of (S.seen c.args.store.now) no_input (gathered_seen c.new-gathered.result) no_err no_link in
-    let to = seen_of (S.seen c.report_opened.new.store) no_input (gathered_seen c.report_opened.new.out) no_err no_link in
+    let to =
+    seen_of (S.seen c.report_opened.new.store) no_input (gathered_seen c.report_opened.new.out) no_err no_link in
     let carries = c.in-Ok.ensures.carries no_input no_err no_link true true true in
-    let start : (gathered_seen c.new-gathered.result).written ≡ [] = ap (λ (s : SinkSeen). s.written) c.new-gathered.ensures in
+    let start : (gathered_seen c.new-gathered.result).written ≡ [] =
+    ap (λ (s : SinkSeen). s.written) c.new-gathered.ensures in
     let plain : text value ≡ plain_report file c.args.now value =
-    ap (λ (lines : List NameLine). report_on lines file c.args.now c.no_options.result value) c.none-names.ensures ∙ ap (λ (options : Options). report_on [] file c.args.now options value) c.no_options.ensures in
+    ap (λ (lines : List NameLine). report_on lines file c.args.now c.no_options.result value) c.none-names.ensures
+    ∙ ap (λ (options : Options). report_on [] file c.args.now options value) c.no_options.ensures in
     ap length
     (c.text.ensures
-    ∙ shown_text file text value tells old to refl (carries.done (record { store = told; input = refl; link = refl })) view
+    ∙ shown_text file text value tells old to refl
+    (carries.done (record { store = told; input = refl; link = refl })) view
     ∙ ap (λ (b : List ℕ). b ++ text value) start
     ∙ plain)
 
@@ -48,15 +52,18 @@ returns-clause-refused g c =
     let text = report_on c.none-names.result c.args.file c.args.now c.no_options.result in
     let tells = tells_of S.tells true true true true in
     let old = seen_of (S.seen c.args.store.now) no_input (gathered_seen c.new-gathered.result) no_err no_link in
-    let to = seen_of (S.seen c.report_opened.new.store) no_input (gathered_seen c.report_opened.new.out) no_err no_link in
+    let to =
+    seen_of (S.seen c.report_opened.new.store) no_input (gathered_seen c.report_opened.new.out) no_err no_link in
     let carries = c.in-Err.ensures.carries no_input no_err no_link true true true in
     rw (c.of.ensures, c.gathered_cause.ensures)
-    (unreported c.args.file text tells old to c.in-Err.refusal c.in-Err.refusal.cause c.in-Err.refusal.name refl refl carries.may_refuse carries.refused)
+    (unreported c.args.file text tells old to c.in-Err.refusal c.in-Err.refusal.cause c.in-Err.refusal.name refl refl
+    carries.may_refuse carries.refused)
 
 pub returns-clause-may : goal.returns-clause-may
 returns-clause-may g c =
     let carries = c.in-Err.ensures.carries no_input no_err no_link true true true in
-    rw (c.of.ensures, c.gathered_cause.ensures) (gathered_may c.args.file c.in-Err.refusal.cause c.in-Err.refusal.name carries.may_refuse)
+    rw (c.of.ensures, c.gathered_cause.ensures)
+    (gathered_may c.args.file c.in-Err.refusal.cause c.in-Err.refusal.name carries.may_refuse)
 
 pub returns-clause-unwritten : goal.returns-clause-unwritten
 returns-clause-unwritten g c = (c.in-Err.ensures.carries no_input no_err no_link true true true).only_reads refl

@@ -14,6 +14,8 @@ returns c =
     let users = length (entries records) in
     c.summary_text.ensures
     ∙ ap (λ n. summary_text n c.all_inodes.result (length list) c.all_kib.result c.args.bytes) c.from.ensures
-    ∙ ap (λ n. summary_text c.args.lines n (length list) c.all_kib.result c.args.bytes) (c.all_inodes.ensures ∙ sym (sum_listed (λ rec. rec.inodes) list c.requires))
+    ∙ ap (λ n. summary_text c.args.lines n (length list) c.all_kib.result c.args.bytes)
+    (c.all_inodes.ensures ∙ sym (sum_listed (λ rec. rec.inodes) list c.requires))
     ∙ ap (λ n. summary_text c.args.lines inodes n c.all_kib.result c.args.bytes) (sym (length_listed list c.requires))
-    ∙ ap (λ n. summary_text c.args.lines inodes users n c.args.bytes) (c.all_kib.ensures ∙ sym (sum_listed (λ rec. kib_of rec.space) list c.requires))
+    ∙ ap (λ n. summary_text c.args.lines inodes users n c.args.bytes)
+    (c.all_kib.ensures ∙ sym (sum_listed (λ rec. kib_of rec.space) list c.requires))

@@ -13,7 +13,8 @@ returns-in-Ok-clause-carries g c = λ input err link input_tells err_tells link_
 pub returns-in-Err-clause-carries : goal.returns-in-Err-clause-carries
 returns-in-Err-clause-carries g c = λ input err link input_tells err_tells link_tells line.
     let read = c.in-Err.ensures in
-    naming_refused c.args.common.kind c.args.common.names _ _ _ _ _ _ _ read.leaves read.refused read.may (λ may. inl may) read.placed
+    naming_refused c.args.common.kind c.args.common.names _ _ _ _ _ _ _ read.leaves read.refused read.may
+    (λ may. inl may) read.placed
 
 pub returns-in-Ok-clause-synced : goal.returns-in-Ok-clause-synced
 returns-in-Ok-clause-synced g c = syncs-after_read _ _ _ _ c.in-Ok.ensures.leaves c.report_opened.ensures.synced

@@ -20,7 +20,8 @@ returns-in-Ok-report-clause-carries g c = λ input err link input_tells err_tell
     let reported = c.in-Ok-report.ensures in
     let file = c.as_str.ensures in
     let written = λ (told : IsTrue g.S.Store.tells) (out_told : IsTrue g.O.Sink.tells) (value : QuotaValue)
-    (view : IsView ((g.S.Store.seen c.args.store.now).files c.args.file) c.args.kind (asked_of c.args.format) (Ok value)).
+    (view : IsView ((g.S.Store.seen c.args.store.now).files c.args.file) c.args.kind
+    (asked_of c.args.format) (Ok value)).
     rw c.as_str-in-Ok.ensures at (reported.ok out_told value (opened.held told value (rw (sym file) at view))
     (view_kind _ c.args.kind (asked_of c.args.format) value view)) in
     shown_whole _ _ _ (report_on c.args.names.now c.args.file c.args.now c.args.options.now) _ _ _ _ _
@@ -42,7 +43,8 @@ returns-in-Err-report-clause-carries g c = λ input err link input_tells err_tel
     let after = g.S.Store.seen c.report.new.store in
     let out = g.O.Sink.seen c.report.new.sink in
     rw (c.of.ensures, c.report_cause.ensures)
-    (shown_in_part c.args.kind (asked_of c.args.format) c.args.file (report_on c.args.names.now c.args.file c.args.now c.args.options.now)
+    (shown_in_part c.args.kind (asked_of c.args.format) c.args.file
+    (report_on c.args.names.now c.args.file c.args.now c.args.options.now)
     _ old after out (report_cause c.in-Err-report.fault)
     (record {
       seen = λ told. rw file at (opened.seen told);
@@ -53,21 +55,26 @@ returns-in-Err-report-clause-carries g c = λ input err link input_tells err_tel
           (view_kind _ c.args.kind (asked_of c.args.format) value view));
       later = reported.sink_later;
     })
-    (report_unshown (asked_of c.args.format) c.args.file _ old after out (any_seen c.in-Ok.opened).format _ _ c.in-Err-report.fault opened.as_asked
+    (report_unshown (asked_of c.args.format) c.args.file _ old after out (any_seen c.in-Ok.opened).format _ _
+    c.in-Err-report.fault opened.as_asked
     opened.leaves.later
-    (λ told none. let good = opened.seen told in none good.0 (opened.held told good.0 good.1)) reported.unsent reported.looks.refused reported.looks.may))
+    (λ told none. let good = opened.seen told in none good.0 (opened.held told good.0 good.1)) reported.unsent
+    reported.looks.refused reported.looks.may))
 
 pub returns-in-Err-clause-carries : goal.returns-in-Err-clause-carries
 returns-in-Err-clause-carries g c = λ input err link input_tells err_tells link_tells.
     rw (c.of-in-Err.ensures, c.opening_cause.ensures)
     (not_opened c.args.kind (asked_of c.args.format) c.args.file _ _ _ _ _ _ c.in-Err.fault
-    (rw c.as_str.ensures at c.in-Err.ensures.refused) (rw c.as_str.ensures at c.in-Err.ensures.leaves) (λ cause may. inr may))
+    (rw c.as_str.ensures at c.in-Err.ensures.refused) (rw c.as_str.ensures at c.in-Err.ensures.leaves)
+    (λ cause may. inr may))
 
 pub returns-in-Ok-report-clause-synced : goal.returns-in-Ok-report-clause-synced
-returns-in-Ok-report-clause-synced g c = syncs-after_read _ _ _ _ c.in-Ok.ensures.leaves (syncs-read _ _ _ c.in-Ok-report.ensures.looks.leaves)
+returns-in-Ok-report-clause-synced g c =
+    syncs-after_read _ _ _ _ c.in-Ok.ensures.leaves (syncs-read _ _ _ c.in-Ok-report.ensures.looks.leaves)
 
 pub returns-in-Err-report-clause-synced : goal.returns-in-Err-report-clause-synced
-returns-in-Err-report-clause-synced g c = syncs-after_read _ _ _ _ c.in-Ok.ensures.leaves (syncs-read _ _ _ c.in-Err-report.ensures.looks.leaves)
+returns-in-Err-report-clause-synced g c =
+    syncs-after_read _ _ _ _ c.in-Ok.ensures.leaves (syncs-read _ _ _ c.in-Err-report.ensures.looks.leaves)
 
 pub returns-in-Err-clause-synced : goal.returns-in-Err-clause-synced
 returns-in-Err-clause-synced g c = syncs-read _ _ _ c.in-Err.ensures.leaves

@@ -8,7 +8,13 @@ pub loop-at-smaller : goal.loop-at-smaller
 loop-at-smaller g c =
     let now = c.go_to.new.self in
     let fits = walk_fits c.args.blocks now (c.in_ok-at.ensures.walk c.loop-at.invariant.is_walk) in
-    omega (arith, fits, length-map now.links.items (λ (link : ChainLink). link.block), now.links.ok.0, c.in_ok-at.ensures.longer)
+    omega (
+      arith,
+      fits,
+      length-map now.links.items (λ (link : ChainLink). link.block),
+      now.links.ok.0,
+      c.in_ok-at.ensures.longer,
+    )
 
 pub returns-clause-few_reads : goal.returns-clause-few_reads
 returns-clause-few_reads g c =

@@ -18,13 +18,21 @@ unlink-requires-clause-room g c =
     let file : List ℕ = shown_over (g.S.Store.seen c.args.store.now) c.args.pages.now in
     let first = c.in_ok-next.ensures.looked in
     let second = c.in_ok-previous.ensures.looked in
-    beside_others (pages_of c.args.pages.now) (pages_of c.link_at-2.new.pages) c.args.n c.in_ok-previous.previous c.in_ok-next.next (led_to (previous_of file c.args.n) ++ led_to (next_of file c.args.n)) c.requires
+    beside_others (pages_of c.args.pages.now) (pages_of c.link_at-2.new.pages) c.args.n c.in_ok-previous.previous
+    c.in_ok-next.next (led_to (previous_of file c.args.n) ++ led_to (next_of file c.args.n)) c.requires
     (λ known.
     let next_is = c.in_ok-next.ensures.value known in
-    let previous_is = c.in_ok-previous.ensures.value (first.known known) ∙ ap (λ (file : List ℕ). previous_of file c.args.n) (shown_over-looks first) in
-    ap (λ (k : ℕ). led_to k ++ led_to (next_of file c.args.n)) (sym previous_is) ∙ ap (λ (k : ℕ). led_to c.in_ok-previous.previous ++ led_to k) (sym next_is))
+    let previous_is = c.in_ok-previous.ensures.value (first.known known)
+    ∙ ap (λ (file : List ℕ). previous_of file c.args.n) (shown_over-looks first) in
+    ap (λ (k : ℕ). led_to k ++ led_to (next_of file c.args.n)) (sym previous_is)
+    ∙ ap (λ (k : ℕ). led_to c.in_ok-previous.previous ++ led_to k) (sym next_is))
     (λ other there. second.stay other (first.stay other there))
-    (omega (arith, first.few, second.few, missing-there (pages_of c.link_at.new.pages) c.args.n c.in_ok-next.ensures.brought))
+    (omega (
+      arith,
+      first.few,
+      second.few,
+      missing-there (pages_of c.link_at.new.pages) c.args.n c.in_ok-next.ensures.brought,
+    ))
 
 pub returns-then-previous-eq0-clause-left : goal.returns-then-previous-eq0-clause-left
 returns-then-previous-eq0-clause-left g c = λ known front back is_chain named.
@@ -34,8 +42,10 @@ returns-then-previous-eq0-clause-left g c = λ known front back is_chain named.
     let unlinks = c.in_ok-unlink.ensures in
     leaves _ _ _ c.args.heads.now _ c.args.n c.in_ok-next.next c.in_ok-previous.previous front back
     (c.in_ok-next.ensures.value known)
-    (c.in_ok-previous.ensures.value (first.known known) ∙ ap (λ (file : List ℕ). previous_of file c.args.n) (shown_over-looks first))
-    (shown_over-lends (looks_then_lends both unlinks.lends)) (shown_over-looks both) (unlinks.unlinked (both.known known))
+    (c.in_ok-previous.ensures.value (first.known known)
+    ∙ ap (λ (file : List ℕ). previous_of file c.args.n) (shown_over-looks first))
+    (shown_over-lends (looks_then_lends both unlinks.lends)) (shown_over-looks both)
+    (unlinks.unlinked (both.known known))
     (head-first c.in_ok-previous.previous c.in_ok-next.next c.args.heads.now.first c.if-previous-eq0.true)
     is_chain named
 
@@ -47,8 +57,10 @@ returns-else-previous-eq0-clause-left g c = λ known front back is_chain named.
     let unlinks = c.in_ok-unlink.ensures in
     leaves _ _ _ c.args.heads.now _ c.args.n c.in_ok-next.next c.in_ok-previous.previous front back
     (c.in_ok-next.ensures.value known)
-    (c.in_ok-previous.ensures.value (first.known known) ∙ ap (λ (file : List ℕ). previous_of file c.args.n) (shown_over-looks first))
-    (shown_over-lends (looks_then_lends both unlinks.lends)) (shown_over-looks both) (unlinks.unlinked (both.known known))
+    (c.in_ok-previous.ensures.value (first.known known)
+    ∙ ap (λ (file : List ℕ). previous_of file c.args.n) (shown_over-looks first))
+    (shown_over-lends (looks_then_lends both unlinks.lends)) (shown_over-looks both)
+    (unlinks.unlinked (both.known known))
     (head-stays c.in_ok-previous.previous c.in_ok-next.next c.args.heads.now.first c.if-previous-eq0.false)
     is_chain named
 

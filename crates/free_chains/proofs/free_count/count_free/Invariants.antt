@@ -11,7 +11,8 @@ invariant-loop-count g l =
       long : length l.met.items ≡ l.count;
       few : length (pages_of l.pages) ≤ length (pages_of l.fn.pages) + missing_among (pages_of l.fn.pages) l.met.items;
       looked : LooksAtSome S.tells true l.count (S.seen l.fn.store) (S.seen l.store) l.fn.pages l.pages;
-      begun : IsKnown S.tells (S.seen l.fn.store) l.fn.pages → IsBegun (shown_over (S.seen l.fn.store) l.fn.pages) l.heads.blocks l.heads.free l.met.items l.at;
+      begun : IsKnown S.tells (S.seen l.fn.store) l.fn.pages
+          → IsBegun (shown_over (S.seen l.fn.store) l.fn.pages) l.heads.blocks l.heads.free l.met.items l.at;
       held : HoldsAsBuffered l.pages (λ shown. IsBegun shown l.heads.blocks l.heads.free l.met.items l.at);
       commits : S.commits [] l.fn.store l.store;
     }

@@ -7,4 +7,5 @@ pub returns-clause-taken : goal.returns-clause-taken
 returns-clause-taken g c = λ known.
     let looks = c.in_ok-next.ensures.looked in
     let blanks = c.in_ok-blank.ensures in
-    takes_listed _ _ _ c.args.heads.now _ c.requires.some refl (c.in_ok-next.ensures.value known) (shown_over-looks looks) (shown_over-lends blanks.lends) (blanks.blank (looks.known known))
+    takes_listed _ _ _ c.args.heads.now _ c.requires.some refl (c.in_ok-next.ensures.value known)
+    (shown_over-looks looks) (shown_over-lends blanks.lends) (blanks.blank (looks.known known))

@@ -5,7 +5,11 @@ pub returns-clause-some : goal.returns-clause-some
 returns-clause-some c = some_chain
 
 pub returns-clause-chain : goal.returns-clause-chain
-returns-clause-chain c = λ file blocks head chain end chain' end' first second. (one_chain file blocks head chain end chain' end' first second).0
+returns-clause-chain c =
+    λ file blocks head chain end chain' end' first second.
+    (one_chain file blocks head chain end chain' end' first second).0
 
 pub returns-clause-end : goal.returns-clause-end
-returns-clause-end c = λ file blocks head chain end chain' end' first second. (one_chain file blocks head chain end chain' end' first second).1
+returns-clause-end c =
+    λ file blocks head chain end chain' end' first second.
+    (one_chain file blocks head chain end chain' end' first second).1

@@ -13,21 +13,36 @@ returns-then-not-is_ascii_digit c =
 pub returns-in_err-checked_mul : goal.returns-in_err-checked_mul
 returns-in_err-checked_mul c =
     c.from_residual.ensures
-    ∙ sym (id_of_field-too_large c.args.field.now c.loop-digit.digit-index c.loop-digit.id c.loop-digit.invariant c.loop-digit-test.true
+    ∙ sym (id_of_field-too_large c.args.field.now c.loop-digit.digit-index c.loop-digit.id c.loop-digit.invariant
+    c.loop-digit-test.true
     (omega (arith, c.in_err-checked_mul.ensures)))
 
 pub returns-in_err-id : goal.returns-in_err-id
 returns-in_err-id c =
-    let digit : is_ascii_digit (get_or c.args.field.now c.loop-digit.digit-index 0) ≡ true = sym c.is_ascii_digit.ensures.value ∙ c.if-not-is_ascii_digit.false in
+    let digit : is_ascii_digit (get_or c.args.field.now c.loop-digit.digit-index 0) ≡ true =
+    sym c.is_ascii_digit.ensures.value ∙ c.if-not-is_ascii_digit.false in
     c.from_residual-in_err-id.ensures
-    ∙ sym (id_of_field-too_large c.args.field.now c.loop-digit.digit-index c.loop-digit.id c.loop-digit.invariant c.loop-digit-test.true
-    (omega (arith, c.in_ok-checked_mul.ensures, c.in_err-id.ensures, digit_value-digit (get_or c.args.field.now c.loop-digit.digit-index 0) digit)))
+    ∙ sym (id_of_field-too_large c.args.field.now c.loop-digit.digit-index c.loop-digit.id c.loop-digit.invariant
+    c.loop-digit-test.true
+    (omega (
+      arith,
+      c.in_ok-checked_mul.ensures,
+      c.in_err-id.ensures,
+      digit_value-digit (get_or c.args.field.now c.loop-digit.digit-index 0) digit,
+    )))
 
 pub loop-digit-preserved : goal.loop-digit-preserved
 loop-digit-preserved c =
-    let digit : is_ascii_digit (get_or c.args.field.now c.loop-digit.digit-index 0) ≡ true = sym c.is_ascii_digit.ensures.value ∙ c.if-not-is_ascii_digit.false in
-    IsReadBelow-more (2 ^ 32) c.args.field.now c.loop-digit.digit-index c.loop-digit.id c.in_ok-id.id c.loop-digit.invariant c.loop-digit-test.true digit
-    (omega (arith, c.in_ok-checked_mul.ensures, c.in_ok-id.ensures, digit_value-digit (get_or c.args.field.now c.loop-digit.digit-index 0) digit))
+    let digit : is_ascii_digit (get_or c.args.field.now c.loop-digit.digit-index 0) ≡ true =
+    sym c.is_ascii_digit.ensures.value ∙ c.if-not-is_ascii_digit.false in
+    IsReadBelow-more (2 ^ 32) c.args.field.now c.loop-digit.digit-index c.loop-digit.id c.in_ok-id.id
+    c.loop-digit.invariant c.loop-digit-test.true digit
+    (omega (
+      arith,
+      c.in_ok-checked_mul.ensures,
+      c.in_ok-id.ensures,
+      digit_value-digit (get_or c.args.field.now c.loop-digit.digit-index 0) digit,
+    ))
     (omega (arith, c.in_ok-id.ensures))
 
 pub returns : goal.returns

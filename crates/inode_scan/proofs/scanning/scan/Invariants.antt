@@ -9,7 +9,9 @@ abbrev pub invariant-lines : goal.invariant-lines
 invariant-lines g l =
     let I = g.I.Source in
     record {
-      read : (done : List (List ℕ)) × IsReadTo I.tells (input_lines 256 1099511627776 (I.seen l.fn.source).left) (listing_left l.reader (I.seen l.source).left) l.tally l.reader.number done;
+      read : (done : List (List ℕ))
+          × IsReadTo I.tells (input_lines 256 1099511627776 (I.seen l.fn.source).left)
+          (listing_left l.reader (I.seen l.source).left) l.tally l.reader.number done;
       few : l.reader.number + (1099511627776 - l.reader.given) ≤ 1099511627777;
       bounded : IsBounded (l.reader.number - 1) l.tally.sums;
       kind : l.tally.kind ≡ l.fn.kind;

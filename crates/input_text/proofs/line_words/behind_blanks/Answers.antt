@@ -9,10 +9,12 @@ returns-in_err-start-clause-same c = rw c.from_residual.ensures (no_word c.args.
 
 pub returns-clause-same : goal.returns-clause-same
 returns-clause-same c =
-    let place = place-some (λ byte. not (is_blank byte)) c.args.line.now c.in_ok-start.start (sym c.in_ok-start.ensures) in
+    let place =
+    place-some (λ byte. not (is_blank byte)) c.args.line.now c.in_ok-start.start (sym c.in_ok-start.ensures) in
     rw (take_rest c.args.line.now c.in_ok-start.start, place.0) (words_of-behind c.args.line.now)
 
 pub returns-clause-word : goal.returns-clause-word
 returns-clause-word c =
-    let place = place-some (λ byte. not (is_blank byte)) c.args.line.now c.in_ok-start.start (sym c.in_ok-start.ensures) in
+    let place =
+    place-some (λ byte. not (is_blank byte)) c.args.line.now c.in_ok-start.start (sym c.in_ok-start.ensures) in
     rw (take_rest c.args.line.now c.in_ok-start.start, place.0) (word-behind c.args.line.now (rw place.0 at place.1))

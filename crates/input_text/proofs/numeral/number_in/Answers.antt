@@ -13,21 +13,36 @@ returns-then-not-is_ascii_digit c =
 pub returns-in_err-checked_mul : goal.returns-in_err-checked_mul
 returns-in_err-checked_mul c =
     c.from_residual.ensures
-    ∙ sym (number_of-too_large c.args.word.now c.loop-digit.digit-index c.loop-digit.number c.loop-digit.invariant c.loop-digit-test.true
+    ∙ sym (number_of-too_large c.args.word.now c.loop-digit.digit-index c.loop-digit.number c.loop-digit.invariant
+    c.loop-digit-test.true
     (omega (arith, c.in_err-checked_mul.ensures)))
 
 pub returns-in_err-number : goal.returns-in_err-number
 returns-in_err-number c =
-    let digit : is_ascii_digit (get_or c.args.word.now c.loop-digit.digit-index 0) ≡ true = sym c.is_ascii_digit.ensures.value ∙ c.if-not-is_ascii_digit.false in
+    let digit : is_ascii_digit (get_or c.args.word.now c.loop-digit.digit-index 0) ≡ true =
+    sym c.is_ascii_digit.ensures.value ∙ c.if-not-is_ascii_digit.false in
     c.from_residual-in_err-number.ensures
-    ∙ sym (number_of-too_large c.args.word.now c.loop-digit.digit-index c.loop-digit.number c.loop-digit.invariant c.loop-digit-test.true
-    (omega (arith, c.in_ok-checked_mul.ensures, c.in_err-number.ensures, digit_value-digit (get_or c.args.word.now c.loop-digit.digit-index 0) digit)))
+    ∙ sym (number_of-too_large c.args.word.now c.loop-digit.digit-index c.loop-digit.number c.loop-digit.invariant
+    c.loop-digit-test.true
+    (omega (
+      arith,
+      c.in_ok-checked_mul.ensures,
+      c.in_err-number.ensures,
+      digit_value-digit (get_or c.args.word.now c.loop-digit.digit-index 0) digit,
+    )))
 
 pub loop-digit-preserved : goal.loop-digit-preserved
 loop-digit-preserved c =
-    let digit : is_ascii_digit (get_or c.args.word.now c.loop-digit.digit-index 0) ≡ true = sym c.is_ascii_digit.ensures.value ∙ c.if-not-is_ascii_digit.false in
-    IsReadBelow-more (2 ^ 64) c.args.word.now c.loop-digit.digit-index c.loop-digit.number c.in_ok-number.number c.loop-digit.invariant c.loop-digit-test.true digit
-    (omega (arith, c.in_ok-checked_mul.ensures, c.in_ok-number.ensures, digit_value-digit (get_or c.args.word.now c.loop-digit.digit-index 0) digit))
+    let digit : is_ascii_digit (get_or c.args.word.now c.loop-digit.digit-index 0) ≡ true =
+    sym c.is_ascii_digit.ensures.value ∙ c.if-not-is_ascii_digit.false in
+    IsReadBelow-more (2 ^ 64) c.args.word.now c.loop-digit.digit-index c.loop-digit.number c.in_ok-number.number
+    c.loop-digit.invariant c.loop-digit-test.true digit
+    (omega (
+      arith,
+      c.in_ok-checked_mul.ensures,
+      c.in_ok-number.ensures,
+      digit_value-digit (get_or c.args.word.now c.loop-digit.digit-index 0) digit,
+    ))
     (omega (arith, c.in_ok-number.ensures))
 
 pub returns : goal.returns

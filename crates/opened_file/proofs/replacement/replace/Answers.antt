@@ -41,15 +41,18 @@ returns-in_err-rename-clause-commits g c told =
     let same : from ≡ c.as_str.result.now = c.as_str-2.ensures.value ∙ sym c.as_str.ensures.value in
     let wrote : written ≡ with_file files (replacement_name name) (Some c.args.bytes.now) =
     c.in_ok-write_new.ensures.ok told
-    ∙ ap (λ (new : List ℕ). with_file files new (Some c.args.bytes.now)) (c.as_str.ensures.value ∙ c.in_ok-new_name.ensures) in
+    ∙ ap (λ (new : List ℕ). with_file files new (Some c.args.bytes.now))
+    (c.as_str.ensures.value ∙ c.in_ok-new_name.ensures) in
     let synced : (g.S.Store.seen c.write_new.new.store).unsynced from ≡ false =
     ap (λ (n : List ℕ). (g.S.Store.seen c.write_new.new.store).unsynced n) same
     ∙ ap (λ (names : UnsyncedNames). names c.as_str.result.now) (c.in_ok-write_new.ensures.synced told)
     ∙ with_name-at (g.S.Store.seen c.args.store.now).unsynced c.as_str.result.now false in
     subst (λ (world : World). g.S.Store.commits (world ∷ []) c.args.store.now c.rename.new.self)
-    (ap (λ (new : List ℕ). with_new_name written new name) new_name ∙ with_new_name-replaced files written (replacement_name name) name c.args.bytes.now wrote)
+    (ap (λ (new : List ℕ). with_new_name written new name) new_name
+    ∙ with_new_name-replaced files written (replacement_name name) name c.args.bytes.now wrote)
     (g.S.Store.commits_on [] (with_new_name written from name ∷ []) _ _ _
-    (c.write_new.ensures.commits name (c.as_str.ensures.value ∙ c.in_ok-new_name.ensures)) (c.rename.ensures.commits synced))
+    (c.write_new.ensures.commits name (c.as_str.ensures.value ∙ c.in_ok-new_name.ensures))
+    (c.rename.ensures.commits synced))
 
 pub returns-clause-commits : goal.returns-clause-commits
 returns-clause-commits g c told =
@@ -61,12 +64,15 @@ returns-clause-commits g c told =
     let same : from ≡ c.as_str.result.now = c.as_str-2.ensures.value ∙ sym c.as_str.ensures.value in
     let wrote : written ≡ with_file files (replacement_name name) (Some c.args.bytes.now) =
     c.in_ok-write_new.ensures.ok told
-    ∙ ap (λ (new : List ℕ). with_file files new (Some c.args.bytes.now)) (c.as_str.ensures.value ∙ c.in_ok-new_name.ensures) in
+    ∙ ap (λ (new : List ℕ). with_file files new (Some c.args.bytes.now))
+    (c.as_str.ensures.value ∙ c.in_ok-new_name.ensures) in
     let synced : (g.S.Store.seen c.write_new.new.store).unsynced from ≡ false =
     ap (λ (n : List ℕ). (g.S.Store.seen c.write_new.new.store).unsynced n) same
     ∙ ap (λ (names : UnsyncedNames). names c.as_str.result.now) (c.in_ok-write_new.ensures.synced told)
     ∙ with_name-at (g.S.Store.seen c.args.store.now).unsynced c.as_str.result.now false in
     subst (λ (world : World). g.S.Store.commits (world ∷ []) c.args.store.now c.rename.new.self)
-    (ap (λ (new : List ℕ). with_new_name written new name) new_name ∙ with_new_name-replaced files written (replacement_name name) name c.args.bytes.now wrote)
+    (ap (λ (new : List ℕ). with_new_name written new name) new_name
+    ∙ with_new_name-replaced files written (replacement_name name) name c.args.bytes.now wrote)
     (g.S.Store.commits_on [] (with_new_name written from name ∷ []) _ _ _
-    (c.write_new.ensures.commits name (c.as_str.ensures.value ∙ c.in_ok-new_name.ensures)) (c.rename.ensures.commits synced))
+    (c.write_new.ensures.commits name (c.as_str.ensures.value ∙ c.in_ok-new_name.ensures))
+    (c.rename.ensures.commits synced))

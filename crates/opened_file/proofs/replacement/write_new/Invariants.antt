@@ -13,7 +13,8 @@ abbrev pub invariant-loop-at : goal.invariant-loop-at
 invariant-loop-at g l =
     let S = g.S.Store in
     record {
-      written : IsTrue S.tells → (S.seen l.store).files ≡ with_file (S.seen l.fn.store).files l.name (Some (take l.at l.bytes));
+      written : IsTrue S.tells
+          → (S.seen l.store).files ≡ with_file (S.seen l.fn.store).files l.name (Some (take l.at l.bytes));
       unsynced : IsTrue S.tells → (S.seen l.store).unsynced ≡ with_name (S.seen l.fn.store).unsynced l.name true;
       within : l.at ≤ length l.bytes;
       whole : (l.at % 1024 ≡ 0) ⊎ (l.at ≡ length l.bytes);

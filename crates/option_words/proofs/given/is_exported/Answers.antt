@@ -10,6 +10,10 @@ use Rattle.option_words.proofs.given.is_exported.Goals as goal
 
 pub returns : goal.returns
 returns c =
-    any_from_yields_List (λ (e : ExportWords). bytes_eq e.path.now c.args.path.now && bytes_eq (kind_word e.kind) c.args.kind.now) _ _ c.any.result c.any.ensures.ran
+    any_from_yields_List
+    (λ (e : ExportWords). bytes_eq e.path.now c.args.path.now && bytes_eq (kind_word e.kind) c.args.kind.now) _ _
+    c.any.result c.any.ensures.ran
     (YieldsList-from_slice c.args.exports.now c.iter.ensures.rest) (λ x b q k. search (rules, tests))
-    ∙ sym (list_any-map (λ (e : ExportOption). bytes_eq e.path c.args.path.now && bytes_eq (kind_word e.kind) c.args.kind.now) export_given c.args.exports.now)
+    ∙ sym (list_any-map
+    (λ (e : ExportOption). bytes_eq e.path c.args.path.now && bytes_eq (kind_word e.kind) c.args.kind.now) export_given
+    c.args.exports.now)

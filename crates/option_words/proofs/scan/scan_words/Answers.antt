@@ -10,16 +10,21 @@ pub loop-at-preserved : goal.loop-at-preserved
 loop-at-preserved c =
     let inside : c.loop-at.at < length (texts_of c.args.words.now) = rw length-map (omega arith) in
     let text : c.as_str.result.now ≡ get_or (texts_of c.args.words.now) c.loop-at.at [] =
-    text_at c.args.words.now c.loop-at.at _ c.as_str.result.now (omega arith) c.index-words-at.is c.as_str.ensures.value in
-    scanned_more c.args.tool (texts_of c.args.words.now) c.loop-at.at (next_of c.loop-at.wanted) (given_options c.loop-at.given)
+    text_at c.args.words.now c.loop-at.at _ c.as_str.result.now (omega arith) c.index-words-at.is
+    c.as_str.ensures.value in
+    scanned_more c.args.tool (texts_of c.args.words.now) c.loop-at.at (next_of c.loop-at.wanted)
+    (given_options c.loop-at.given)
     (operands_seen c.loop-at.operands.items) c.as_str.result.now c.in-Ok.next (given_options c.read_word.new.given)
-    (operands_seen c.read_word.new.operands.items) c.loop-at.invariant inside text c.in-Ok.ensures.reads c.in-Ok.ensures.keeps
+    (operands_seen c.read_word.new.operands.items) c.loop-at.invariant inside text c.in-Ok.ensures.reads
+    c.in-Ok.ensures.keeps
 
 pub returns-in-Err-clause-given : goal.returns-in-Err-clause-given
 returns-in-Err-clause-given c =
     let inside : c.loop-at.at < length (texts_of c.args.words.now) = rw length-map (omega arith) in
     let text : c.as_str.result.now ≡ get_or (texts_of c.args.words.now) c.loop-at.at [] =
-    text_at c.args.words.now c.loop-at.at _ c.as_str.result.now (omega arith) c.index-words-at.is c.as_str.ensures.value in
-    scanned_fault c.args.tool (texts_of c.args.words.now) c.loop-at.at (next_of c.loop-at.wanted) (given_options c.loop-at.given)
+    text_at c.args.words.now c.loop-at.at _ c.as_str.result.now (omega arith) c.index-words-at.is
+    c.as_str.ensures.value in
+    scanned_fault c.args.tool (texts_of c.args.words.now) c.loop-at.at (next_of c.loop-at.wanted)
+    (given_options c.loop-at.given)
     (operands_seen c.loop-at.operands.items) c.as_str.result.now c.in-Err.met (given_options c.read_word.new.given)
     c.loop-at.invariant inside text c.in-Err.ensures.reads

@@ -7,7 +7,9 @@ use Rattle.quota_cli.proofs.AskedLemmas.{reads_no_commands}
 use Rattle.quota_cli.proofs.run.carry_command.Goals as goal
 
 pub carry_out-requires : goal.carry_out-requires
-carry_out-requires g c = record { known = subst (λ (b : Bool). (script_or b (described c.args.command)).known) (sym c.if-is_script.ensures) c.requires }
+carry_out-requires g c = record {
+  known = subst (λ (b : Bool). (script_or b (described c.args.command)).known) (sym c.if-is_script.ensures) c.requires;
+}
 
 pub returns-then-is_script-clause-carries : goal.returns-then-is_script-clause-carries
 returns-then-is_script-clause-carries g c = rw (sym c.if-is_script.ensures) c.run_script.ensures.carries
@@ -37,7 +39,8 @@ pub returns-else-is_script-clause-carries : goal.returns-else-is_script-clause-c
 returns-else-is_script-clause-carries g c = rw (sym c.if-is_script.ensures) c.carry_out.ensures.carries
 
 pub returns-else-is_script-clause-stands : goal.returns-else-is_script-clause-stands
-returns-else-is_script-clause-stands g c = λ reads. absurd (reads_no_commands c.args.command c.if-is_script.ensures reads)
+returns-else-is_script-clause-stands g c =
+    λ reads. absurd (reads_no_commands c.args.command c.if-is_script.ensures reads)
 
 pub returns-else-is_script-clause-word : goal.returns-else-is_script-clause-word
 returns-else-is_script-clause-word g c = rw (sym c.if-is_script.ensures) c.carry_out.ensures.word
@@ -59,7 +62,11 @@ returns-else-is_script-clause-link g c = rw (sym c.if-is_script.ensures) c.carry
 
 pub returns-then-is_script-clause-commits : goal.returns-then-is_script-clause-commits
 returns-then-is_script-clause-commits g c =
-    rw (sym c.if-is_script.ensures) (λ told. c.run_script.ensures.commits (record { store = told.store; input = told.input refl; link = told.link refl }))
+    rw (sym c.if-is_script.ensures) (λ told. c.run_script.ensures.commits (record {
+      store = told.store;
+      input = told.input refl;
+      link = told.link refl;
+    }))
 
 pub returns-else-is_script-clause-commits : goal.returns-else-is_script-clause-commits
 returns-else-is_script-clause-commits g c = rw (sym c.if-is_script.ensures) c.carry_out.ensures.commits

@@ -12,7 +12,8 @@ invariant-loop-place g l =
     let asked : Asked = record { client = l.client; paths = texts_of l.paths } in
     record {
       prints : IsTrue P.tells
-          → PrintsFirst asked l.xid (asking_tells P.tells O.tells) (asking_of (P.seen l.fn.peer) (O.seen l.fn.out)) (asking_of (P.seen l.peer) (O.seen l.out)) l.place l.answered;
+          → PrintsFirst asked l.xid (asking_tells P.tells O.tells) (asking_of (P.seen l.fn.peer) (O.seen l.fn.out))
+          (asking_of (P.seen l.peer) (O.seen l.out)) l.place l.answered;
       steady : (P.seen l.peer).faults ≡ (P.seen l.fn.peer).faults;
       later : AreLater (asking_of (P.seen l.fn.peer) (O.seen l.fn.out)) (asking_of (P.seen l.peer) (O.seen l.out));
     }

@@ -17,5 +17,7 @@ returns-in_err-put_pieces g c =
 pub returns : goal.returns
 returns g c =
     let O = g.O.Sink in
-    flushed O.tells (joined c.args.pieces.now) (O.seen c.args.out.now) (O.seen c.put_pieces.new.sink) (O.seen c.flush.new.sink) c.put_pieces.new.text c.flush.result c.put_pieces.ensures.later
-    (λ told. c.in_ok-put_pieces.ensures.ok told _ [] (gathered_start _ _ c.new-text.ensures)) c.flush.ensures.ok c.flush.ensures.fault c.flush.ensures.cause c.flush.ensures.later
+    flushed O.tells (joined c.args.pieces.now) (O.seen c.args.out.now) (O.seen c.put_pieces.new.sink)
+    (O.seen c.flush.new.sink) c.put_pieces.new.text c.flush.result c.put_pieces.ensures.later
+    (λ told. c.in_ok-put_pieces.ensures.ok told _ [] (gathered_start _ _ c.new-text.ensures)) c.flush.ensures.ok
+    c.flush.ensures.fault c.flush.ensures.cause c.flush.ensures.later

@@ -10,8 +10,10 @@ use Rattle.quota_map.proofs.laws.a_file_has_one_meaning_of_a_kind_and_format.Goa
 
 -- read as one of the same format
 one_meaning : (flat : Bool) (file : List ℕ) (format : Format) (value other : QuotaValue)
-    → (FlatStandsFor format file value → FlatStandsFor format file other → value ≡ other) → (TreeStandsFor file value → TreeStandsFor file other → value ≡ other)
-    → MatchBool flat (FlatStandsFor format file value) (TreeStandsFor file value) → MatchBool flat (FlatStandsFor format file other) (TreeStandsFor file other) → value ≡ other
+    → (FlatStandsFor format file value → FlatStandsFor format file other → value ≡ other)
+    → (TreeStandsFor file value → TreeStandsFor file other → value ≡ other)
+    → MatchBool flat (FlatStandsFor format file value) (TreeStandsFor file value)
+    → MatchBool flat (FlatStandsFor format file other) (TreeStandsFor file other) → value ≡ other
 one_meaning true file format value other flat tree stands stands' = flat stands stands'
 one_meaning false file format value other flat tree stands stands' = tree stands stands'
 

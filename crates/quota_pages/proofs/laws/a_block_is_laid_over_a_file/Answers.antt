@@ -1,9 +1,12 @@
 use Rattle.std.proofs.Common.{◌∙◌, arith}
-use Rattle.quota_pages.proofs.BlockLemmas.{block_of-with_block_other, block_of-with_block_same, byte_at-with_block_before, byte_at-with_block_behind, length-with_block, whole_block-same}
+use Rattle.quota_pages.proofs.BlockLemmas.{block_of-with_block_other, block_of-with_block_same}
+use Rattle.quota_pages.proofs.BlockLemmas.{byte_at-with_block_before, byte_at-with_block_behind, length-with_block}
+use Rattle.quota_pages.proofs.BlockLemmas.{whole_block-same}
 use Rattle.quota_pages.proofs.laws.a_block_is_laid_over_a_file.Goals as goal
 
 pub returns-clause-same : goal.returns-clause-same
-returns-clause-same c = λ file bytes number long. block_of-with_block_same file number bytes ∙ whole_block-same bytes long
+returns-clause-same c =
+    λ file bytes number long. block_of-with_block_same file number bytes ∙ whole_block-same bytes long
 
 pub returns-clause-other : goal.returns-clause-other
 returns-clause-other c = λ file bytes number other differ. block_of-with_block_other file number other bytes differ

@@ -19,4 +19,6 @@ pub returns-clause-writes : goal.returns-clause-writes
 returns-clause-writes c = λ pages before. counted_by-most before _
 
 pub returns-clause-few : goal.returns-clause-few
-returns-clause-few c = λ buffer before. omega (arith, counted_by-most before (lent_count (pages_of buffer)), few_lent (pages_of buffer), few_pages buffer)
+returns-clause-few c =
+    λ buffer before.
+    omega (arith, counted_by-most before (lent_count (pages_of buffer)), few_lent (pages_of buffer), few_pages buffer)

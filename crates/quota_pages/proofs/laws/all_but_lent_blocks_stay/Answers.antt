@@ -1,5 +1,6 @@
 use Rattle.quota_pages.proofs.LentLemmas.{keeps_but_lent}
-use Rattle.quota_pages.proofs.PageLemmas.{block_of-shown_other, shown-covers, shown-ends, shown-grows}
+use Rattle.quota_pages.proofs.PageLemmas.{block_of-shown_other}
+use Rattle.quota_pages.proofs.LengthLemmas.{shown-covers, shown-ends, shown-grows}
 use Rattle.quota_pages.proofs.laws.all_but_lent_blocks_stay.Goals as goal
 
 pub returns-clause-others : goal.returns-clause-others

@@ -9,7 +9,8 @@ pub returns-clause-shown : goal.returns-clause-shown
 returns-clause-shown c = λ tells ok count before now old new looks. shown_over-looks looks
 
 pub returns-clause-lends : goal.returns-clause-lends
-returns-clause-lends c = λ tells done ok one two these those before between now old middle new first second. lends_both first second
+returns-clause-lends c =
+    λ tells done ok one two these those before between now old middle new first second. lends_both first second
 
 pub returns-clause-once : goal.returns-clause-once
 returns-clause-once c = λ tells ok count numbers more before now old new among lends. lends_among more among lends

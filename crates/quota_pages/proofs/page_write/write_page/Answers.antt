@@ -9,9 +9,11 @@ returns-then-not-lent-clause-ok g c told = sym (flushed-kept _ _ _ c.if-not-lent
 pub returns-clause-ok : goal.returns-clause-ok
 returns-clause-ok g c =
     on_ok c.write.result _ _ _ _ c.write.ensures.ok
-    (flushed-bytes _ _ c.args.number c.args.lent c.args.block.now (1024 * c.from.result) c.if-not-lent.false c.told-block (ap (λ (n : ℕ). 1024 * n) c.from.ensures))
+    (flushed-bytes _ _ c.args.number c.args.lent c.args.block.now (1024 * c.from.result) c.if-not-lent.false
+    c.told-block (ap (λ (n : ℕ). 1024 * n) c.from.ensures))
 
 pub returns-clause-fault : goal.returns-clause-fault
 returns-clause-fault g c =
     either_flushed c.write.result _ _ _ _ _ c.write.ensures.fault
-    (flushed-bytes _ _ c.args.number c.args.lent c.args.block.now (1024 * c.from.result) c.if-not-lent.false c.told-block (ap (λ (n : ℕ). 1024 * n) c.from.ensures))
+    (flushed-bytes _ _ c.args.number c.args.lent c.args.block.now (1024 * c.from.result) c.if-not-lent.false
+    c.told-block (ap (λ (n : ℕ). 1024 * n) c.from.ensures))

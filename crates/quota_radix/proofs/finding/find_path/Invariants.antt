@@ -19,7 +19,10 @@ invariant-loop-digit g l =
           → IsAlong (shown_over (S.seen l.fn.store) l.fn.pages) l.blocks l.id l.digit-index l.block l.found.items;
       held : HoldsAsBuffered l.pages (λ shown. IsAlong shown l.blocks l.id l.digit-index l.block l.found.items);
       few : IsKnown S.tells (S.seen l.fn.store) l.fn.pages
-          → length (pages_of l.pages) ≤ length (pages_of l.fn.pages) + missing_among (pages_of l.fn.pages) (first_on_way (shown_over (S.seen l.fn.store) l.fn.pages) l.blocks l.id l.digit-index);
+          → length (pages_of l.pages)
+          ≤ length (pages_of l.fn.pages)
+          + missing_among (pages_of l.fn.pages)
+          (first_on_way (shown_over (S.seen l.fn.store) l.fn.pages) l.blocks l.id l.digit-index);
       looked : LooksAtSome S.tells true l.digit-index (S.seen l.fn.store) (S.seen l.store) l.fn.pages l.pages;
       commits : S.commits [] l.fn.store l.store;
     }

@@ -10,10 +10,16 @@ invariant-loop-digit g l =
     let S = g.S.Store in
     record {
       within : l.digit-index ≤ 4;
-      along : IsKnown S.tells (S.seen l.fn.store) l.fn.pages → (found : List ℕ) × IsAlong (shown_over (S.seen l.fn.store) l.fn.pages) l.blocks l.id l.digit-index l.block found;
-      held : HoldsAsBuffered l.pages (λ shown. (found : List ℕ) × IsAlong shown l.blocks l.id l.digit-index l.block found);
+      along : IsKnown S.tells (S.seen l.fn.store) l.fn.pages
+          → (found : List ℕ)
+          × IsAlong (shown_over (S.seen l.fn.store) l.fn.pages) l.blocks l.id l.digit-index l.block found;
+      held : HoldsAsBuffered l.pages
+          (λ shown. (found : List ℕ) × IsAlong shown l.blocks l.id l.digit-index l.block found);
       few : IsKnown S.tells (S.seen l.fn.store) l.fn.pages
-          → length (pages_of l.pages) ≤ length (pages_of l.fn.pages) + missing_among (pages_of l.fn.pages) (first_on_way (shown_over (S.seen l.fn.store) l.fn.pages) l.blocks l.id l.digit-index);
+          → length (pages_of l.pages)
+          ≤ length (pages_of l.fn.pages)
+          + missing_among (pages_of l.fn.pages)
+          (first_on_way (shown_over (S.seen l.fn.store) l.fn.pages) l.blocks l.id l.digit-index);
       looked : LooksAtSome S.tells true l.digit-index (S.seen l.fn.store) (S.seen l.store) l.fn.pages l.pages;
       commits : S.commits [] l.fn.store l.store;
     }

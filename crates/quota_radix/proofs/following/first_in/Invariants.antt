@@ -8,5 +8,6 @@ invariant-loop-digit l = record {
   later : (file : List ℕ) → l.block ≡ block_of file l.path.block
       → path_from 0 (later_steps file l.blocks l.path l.digit) ≡ path_from 0 (later_steps file l.blocks l.path l.first);
   some : l.first < l.digit → 0 < l.blocks;
-  zeros : (file : List ℕ) → l.block ≡ block_of file l.path.block → (digit : ℕ) → l.first ≤ digit → digit < l.digit → word_at file l.path.block digit ≡ 0;
+  zeros : (file : List ℕ) → l.block ≡ block_of file l.path.block → (digit : ℕ) → l.first ≤ digit → digit < l.digit
+      → word_at file l.path.block digit ≡ 0;
 }

@@ -7,4 +7,6 @@ pub returns-clause-gone : goal.returns-clause-gone
 returns-clause-gone c = λ old new way emptied blocks id loses. unlinked_gone old new way emptied blocks id loses
 
 pub returns-clause-others : goal.returns-clause-others
-returns-clause-others c = λ old new way emptied blocks id other loses small ne. sym (leaf_of_other new old blocks id _ other small ne loses.leaves)
+returns-clause-others c =
+    λ old new way emptied blocks id other loses small ne.
+    sym (leaf_of_other new old blocks id _ other small ne loses.leaves)

@@ -12,7 +12,8 @@ pub returns-in_err-add_steps-clause-refused : goal.returns-in_err-add_steps-clau
 returns-in_err-add_steps-clause-refused g c =
     let p = err_from_is_err_and c.from_residual-in_err-add_steps.result c.from_residual-in_err-add_steps.ensures.1 in
     let kept = c.loop-path.invariant in
-    rw (p.1, p.2) (level_refused _ _ c.args.blocks _ _ c.read_block.new.block c.args.level.now c.loop-path.path-index _ c.loop-path-test.true
+    rw (p.1, p.2) (level_refused _ _ c.args.blocks _ _ c.read_block.new.block c.args.level.now c.loop-path.path-index _
+    c.loop-path-test.true
     (λ told. read_of_same c.args.name.now _ _ _ _ kept.leaves.files (c.in_ok-read_block.ensures.bytes told))
     _ c.in_err-add_steps.ensures.refused)
 
@@ -23,11 +24,16 @@ loop-path-preserved g c =
     let adds = c.in_ok-add_steps.ensures in
     let file : List ℕ = bytes_of ((g.S.Store.seen c.args.store.now).files c.args.name.now) in
     record {
-      next = λ told. paths_more _ _ c.args.level.now c.loop-path.next.items _ c.loop-path.path-index _ c.loop-path-test.true (kept.next told)
+      next =
+          λ told. paths_more _ _ c.args.level.now c.loop-path.next.items _ c.loop-path.path-index _
+          c.loop-path-test.true (kept.next told)
           (adds.added file (read_of_same c.args.name.now _ _ _ _ kept.leaves.files (read.bytes told)));
-      whole = λ told. All-more (λ (path : TreePath). IsWhole file c.args.blocks path.block) c.args.level.now c.loop-path.path-index _ c.loop-path-test.true (kept.whole told)
+      whole =
+          λ told. All-more (λ (path : TreePath). IsWhole file c.args.blocks path.block) c.args.level.now
+          c.loop-path.path-index _ c.loop-path-test.true (kept.whole told)
           (adds.whole file (read_of_same c.args.name.now _ _ _ _ kept.leaves.files (read.bytes told)));
-      within = λ bound within. adds.within bound (within c.loop-path.path-index _ c.loop-path-test.true).0 (kept.within bound within);
+      within = λ bound within.
+          adds.within bound (within c.loop-path.path-index _ c.loop-path-test.true).0 (kept.within bound within);
       leaves = only_reads-then _ _ _ _ kept.leaves read.leaves;
       reads = omega (arith, read.reads, kept.reads);
       commits = g.S.Store.commits_on [] [] _ _ _ c.loop-path.invariant.commits read.commits;

@@ -13,9 +13,11 @@ invariant-loop-path g l =
     let S = g.S.Store in
     record {
       next : IsTrue S.tells
-          → l.next.items ≡ flat_map (steps (bytes_of ((S.seen l.fn.store).files l.name)) l.blocks) (take l.path-index l.level);
+          → l.next.items
+          ≡ flat_map (steps (bytes_of ((S.seen l.fn.store).files l.name)) l.blocks) (take l.path-index l.level);
       whole : IsTrue S.tells
-          → All (λ (path : TreePath). IsWhole (bytes_of ((S.seen l.fn.store).files l.name)) l.blocks path.block) (take l.path-index l.level);
+          → All (λ (path : TreePath). IsWhole (bytes_of ((S.seen l.fn.store).files l.name)) l.blocks path.block)
+          (take l.path-index l.level);
       within : (bound : ℕ) → AreWithin l.blocks bound l.level → AreWithin l.blocks (256 * bound) l.next.items;
       leaves : OnlyReads true l.name (S.seen l.fn.store) (S.seen l.store);
       reads : (S.seen l.store).reads ≤ (S.seen l.fn.store).reads + l.path-index;

@@ -1,4 +1,5 @@
-use Rattle.std.proofs.Common.{◌≡◌, ℕ, suc, ◌+◌, ◌-◌, ◌*◌, ◌<◌, ◌≤◌, ◌++◌, ◌∷◌, [], List, true, length, get_or, sym, ap, subst, ◌∙◌, arith}
+use Rattle.std.proofs.Common.{◌≡◌, ℕ, suc, ◌+◌, ◌-◌, ◌*◌, ◌<◌, ◌≤◌, ◌++◌, ◌∷◌, [], List, true, length, get_or, sym, ap}
+use Rattle.std.proofs.Common.{subst, ◌∙◌, arith}
 use Rattle.quota_pages.specs.Page.{is_buffered}
 use Rattle.quota_pages.specs.Pages.{pages_of}
 use Rattle.quota_pages.specs.Used.{LendsSome, missing, shown_over}
@@ -20,20 +21,29 @@ loop-place-preserved g c =
     let few : place < 4 = omega arith in
     let from : first ≤ place = omega arith in
     let five : length way ≡ 5 = omega arith in
-    let there : is_buffered (pages_of c.loop-place.pages) block ≡ true = kept.lends.stay block (c.requires.buffered place from few) in
-    let none : 0 + missing (pages_of c.loop-place.pages) block ≡ 0 = omega (arith, missing-there (pages_of c.loop-place.pages) block there) in
+    let there : is_buffered (pages_of c.loop-place.pages) block ≡ true =
+    kept.lends.stay block (c.requires.buffered place from few) in
+    let none : 0 + missing (pages_of c.loop-place.pages) block ≡ 0 =
+    omega (arith, missing-there (pages_of c.loop-place.pages) block there) in
     let next : place + 1 ≡ suc place = omega arith in
     record {
       store = (set.buffered there).1 ∙ kept.store;
-      lends = subst (λ (numbers : List ℕ). LendsSome S.tells true 0 numbers (S.seen c.args.store.now) (S.seen c.set_word.new.store) c.args.pages.now c.set_word.new.self)
+      lends =
+          subst (λ (numbers : List ℕ). LendsSome S.tells true 0 numbers (S.seen c.args.store.now)
+          (S.seen c.set_word.new.store) c.args.pages.now c.set_word.new.self)
           (sym (stretch_more way first place from (omega (arith, few, five))))
-          (subst (λ (count : ℕ). LendsSome S.tells true count (stretch way first (place - first) ++ block ∷ []) (S.seen c.args.store.now) (S.seen c.set_word.new.store) c.args.pages.now c.set_word.new.self)
+          (subst (λ (count : ℕ). LendsSome S.tells true count (stretch way first (place - first) ++ block ∷ [])
+          (S.seen c.args.store.now) (S.seen c.set_word.new.store) c.args.pages.now c.set_word.new.self)
           none (lends_then kept.lends set.lends));
       words = λ known distinct.
           leads_more way first c.args.id place (4 * c.from.result) (get_or way (place + 1) 0)
-          (shown_over (S.seen c.args.store.now) c.args.pages.now) (shown_over (S.seen c.loop-place.store) c.loop-place.pages) (shown_over (S.seen c.set_word.new.store) c.set_word.new.self)
+          (shown_over (S.seen c.args.store.now) c.args.pages.now)
+          (shown_over (S.seen c.loop-place.store) c.loop-place.pages)
+          (shown_over (S.seen c.set_word.new.store) c.set_word.new.self)
           five from few distinct (shown_over-lends kept.lends) (kept.words known distinct)
-          (ap (λ (n : ℕ). 4 * n) (c.from.ensures ∙ ap (λ (ds : List ℕ). get_or ds place 0) c.digits-digits.ensures.digits ∙ digit_there c.args.id place few))
+          (ap (λ (n : ℕ). 4 * n)
+          (c.from.ensures ∙ ap (λ (ds : List ℕ). get_or ds place 0) c.digits-digits.ensures.digits
+          ∙ digit_there c.args.id place few))
           (ap (λ (k : ℕ). get_or way k 0) next)
           (set.set (kept.lends.known known)) (shown_over-lends set.lends);
       commits = g.S.Store.commits_on [] [] _ _ _ c.loop-place.invariant.commits set.commits;
@@ -43,5 +53,6 @@ pub returns-clause-lends : goal.returns-clause-lends
 returns-clause-lends g c =
     let S = g.S.Store in
     let all : c.loop-place.place ≡ 4 = omega arith in
-    subst (λ (end : ℕ). LendsSome S.tells true 0 (stretch c.args.way.now c.args.first (end - c.args.first)) (S.seen c.args.store.now) (S.seen c.loop-place.store) c.args.pages.now c.loop-place.pages)
+    subst (λ (end : ℕ). LendsSome S.tells true 0 (stretch c.args.way.now c.args.first (end - c.args.first))
+    (S.seen c.args.store.now) (S.seen c.loop-place.store) c.args.pages.now c.loop-place.pages)
     all c.loop-place.invariant.lends

@@ -10,7 +10,8 @@ invariant-loop-place g l =
     let S = g.S.Store in
     record {
       store : l.store ≡ l.fn.store;
-      lends : LendsSome S.tells true 0 (stretch l.way l.first (l.place - l.first)) (S.seen l.fn.store) (S.seen l.store) l.fn.pages l.pages;
+      lends : LendsSome S.tells true 0 (stretch l.way l.first (l.place - l.first)) (S.seen l.fn.store) (S.seen l.store)
+          l.fn.pages l.pages;
       words : IsKnown S.tells (S.seen l.fn.store) l.fn.pages → AreDistinct (stretch l.way l.first (4 - l.first))
           → (digits : ℕ) → l.first ≤ digits → digits < l.place
           → HasWord (get_or l.way digits 0) (4 * digit_on_way l.id digits) (get_or l.way (suc digits) 0)

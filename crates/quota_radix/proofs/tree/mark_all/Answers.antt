@@ -9,7 +9,9 @@ returns-then-not-insert-clause-refused c = rw c.damage_at.ensures (
   refl,
   λ blocks bound numbers are within. record {
     kind = refl;
-    twice = met_twice (λ (path : TreePath). path.block) numbers c.args.paths.now c.loop-path.path-index _ c.loop-path-test.true
+    twice =
+        met_twice (λ (path : TreePath). path.block) numbers c.args.paths.now c.loop-path.path-index _
+        c.loop-path-test.true
         (c.if-not-insert.ensures.added blocks _ (c.loop-path.invariant blocks bound numbers are within)
         (leads_below blocks _ (within c.loop-path.path-index _ c.loop-path-test.true).1));
     no_id = refl;
@@ -18,10 +20,12 @@ returns-then-not-insert-clause-refused c = rw c.damage_at.ensures (
 
 pub loop-path-preserved : goal.loop-path-preserved
 loop-path-preserved c = λ blocks bound numbers are within.
-    met_more (λ (path : TreePath). path.block) blocks _ numbers c.args.paths.now c.loop-path.path-index _ c.loop-path-test.true
+    met_more (λ (path : TreePath). path.block) blocks _ numbers c.args.paths.now c.loop-path.path-index _
+    c.loop-path-test.true
     (c.if-not-insert.ensures.added blocks _ (c.loop-path.invariant blocks bound numbers are within)
     (leads_below blocks _ (within c.loop-path.path-index _ c.loop-path-test.true).1)).0
 
 pub returns-clause-marked : goal.returns-clause-marked
 returns-clause-marked c = λ blocks bound numbers are within.
-    met_all (λ (path : TreePath). path.block) blocks _ numbers c.args.paths.now c.loop-path.path-index c.loop-path-test.false (c.loop-path.invariant blocks bound numbers are within)
+    met_all (λ (path : TreePath). path.block) blocks _ numbers c.args.paths.now c.loop-path.path-index
+    c.loop-path-test.false (c.loop-path.invariant blocks bound numbers are within)

@@ -10,6 +10,7 @@ invariant-loop-count g l =
       store : l.store ≡ l.fn.store;
       long : length l.emptied.items ≡ l.count;
       items : l.emptied.items ≡ lowest_blocks l.way l.count;
-      cleared : IsClearedFrom (4 - l.count) l.count (lowest_blocks l.way l.count) l.way l.id S.tells (S.seen l.fn.store) (S.seen l.store) l.fn.pages l.pages;
+      cleared : IsClearedFrom (4 - l.count) l.count (lowest_blocks l.way l.count) l.way l.id S.tells (S.seen l.fn.store)
+          (S.seen l.store) l.fn.pages l.pages;
       commits : S.commits [] l.fn.store l.store;
     }

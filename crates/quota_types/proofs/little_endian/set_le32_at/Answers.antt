@@ -4,10 +4,12 @@ use Rattle.quota_types.proofs.little_endian.set_le32_at.Goals as goal
 
 pub returns-clause-written : goal.returns-clause-written
 returns-clause-written c =
-    rw (written_at 4 c.args.at (length c.args.bytes.now - c.args.at) c.args.value c.args.bytes.now c.write_u32.new.buf (omega arith) c.write_u32.ensures)
+    rw (written_at 4 c.args.at (length c.args.bytes.now - c.args.at) c.args.value c.args.bytes.now c.write_u32.new.buf
+    (omega arith) c.write_u32.ensures)
     (number_at-with_number 4 c.args.at c.args.value c.args.bytes.now (omega arith) (omega arith))
 
 pub returns-clause-others : goal.returns-clause-others
 returns-clause-others c =
-    rw (written_at 4 c.args.at (length c.args.bytes.now - c.args.at) c.args.value c.args.bytes.now c.write_u32.new.buf (omega arith) c.write_u32.ensures)
+    rw (written_at 4 c.args.at (length c.args.bytes.now - c.args.at) c.args.value c.args.bytes.now c.write_u32.new.buf
+    (omega arith) c.write_u32.ensures)
     (keeps-with_number 4 c.args.at c.args.value c.args.bytes.now (omega arith))

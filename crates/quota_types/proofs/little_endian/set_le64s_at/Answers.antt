@@ -5,7 +5,10 @@ use Rattle.quota_types.proofs.little_endian.set_le64s_at.Goals as goal
 pub returns-clause-written : goal.returns-clause-written
 returns-clause-written c = λ k lt.
     rw (written_all 8 c.args.at c.args.values.now c.args.bytes.now c.write_u64_into.new.dst c.write_u64_into.ensures)
-    (number_at-with_numbers 8 c.args.at c.args.values.now c.args.bytes.now k (omega arith) lt (λ i _. omega (arith, c.type_inv.values i)))
+    (number_at-with_numbers 8 c.args.at c.args.values.now c.args.bytes.now k (omega arith) lt (λ i _. omega (
+      arith,
+      c.type_inv.values i,
+    )))
 
 pub returns-clause-others : goal.returns-clause-others
 returns-clause-others c =

@@ -6,4 +6,6 @@ use Rattle.quota_v1.proofs.BuildLemmas.{IsBuiltOf}
 use Rattle.quota_v1.proofs.building.build_v1.Given as goal
 
 abbrev pub invariant-loop-entry : goal.invariant-loop-entry
-invariant-loop-entry l = IsBuiltOf l.fn.format l.fn.grace (take l.entry-index l.list) (record_start l.fn.format (records_needed (ids_of l.list))) l.file.items
+invariant-loop-entry l =
+    IsBuiltOf l.fn.format l.fn.grace (take l.entry-index l.list)
+    (record_start l.fn.format (records_needed (ids_of l.list))) l.file.items

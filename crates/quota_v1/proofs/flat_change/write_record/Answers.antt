@@ -8,7 +8,8 @@ pub returns-clause-written : goal.returns-clause-written
 returns-clause-written c =
     let numbers = c.write_numbers.ensures in
     let times = c.write_times.ensures in
-    written_record c.args.format c.requires.flat c.write_times.new.bytes c.args.id _ c.args.rec.now c.record_start-start.ensures.place (grind (arith, nat_tests)) c.requires.kept.again
+    written_record c.args.format c.requires.flat c.write_times.new.bytes c.args.id _ c.args.rec.now
+    c.record_start-start.ensures.place (grind (arith, nat_tests)) c.requires.kept.again
     (number_before 4 _ _ _ _ _ times.kept (omega arith) ∙ numbers.bhard)
     (number_before 4 _ _ _ _ _ times.kept (omega arith) ∙ numbers.bsoft)
     (number_before 4 _ _ _ _ _ times.kept (omega arith) ∙ numbers.space)

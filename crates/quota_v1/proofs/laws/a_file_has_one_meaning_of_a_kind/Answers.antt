@@ -8,6 +8,7 @@ returns c layout file value other stands stands' kind =
     let format : value.format ≡ other.format = stands.format ∙ sym stands'.format in
     let grace : value.grace ≡ other.grace = stands.grace ∙ sym stands'.grace in
     let flags : value.flags ≡ other.flags = stands.flags ∙ sym stands'.flags in
-    let records : value.records ≡ other.records = same_map nat_cmp_total nat_cmp-IsAntisymmetric value.records other.records
+    let records : value.records ≡ other.records =
+    same_map nat_cmp_total nat_cmp-IsAntisymmetric value.records other.records
     (λ id. stands.records id ∙ sym (stands'.records id)) in
     λ i. record { kind = kind i; format = format i; grace = grace i; flags = flags i; records = records i }

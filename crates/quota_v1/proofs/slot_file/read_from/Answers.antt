@@ -10,4 +10,5 @@ returns-clause-shown g c = λ told.
     read_shows file c.args.at (length c.read.new.buf) c.in_ok-count.count c.read.new.buf c.fill.new.self
     (omega arith) (omega (arith, c.in_ok-count.ensures.fits))
     (c.in_ok-count.ensures.count told ∙ ap (λ (n : ℕ). length (take n (drop c.args.at file))) long)
-    (c.in_ok-count.ensures.bytes told ∙ ap (λ (n : ℕ). take n (drop c.args.at file)) long) (c.fill.ensures.after (λ y same. same))
+    (c.in_ok-count.ensures.bytes told ∙ ap (λ (n : ℕ). take n (drop c.args.at file)) long)
+    (c.fill.ensures.after (λ y same. same))

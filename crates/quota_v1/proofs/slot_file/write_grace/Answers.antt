@@ -25,19 +25,28 @@ returns g c =
     let bytes : List ℕ = take size c.write_times.new.bytes in
     let fill = times_fill format c.requires.flat in
     let some = some_time format in
-    let room : size ≤ length c.write_times.new.bytes = omega (arith, c.write_times.auto.bytes, c.read_from.auto.buf, c.record_size.ensures, fill, some.1) in
-    let shown : size ≤ length c.read_from.new.buf = omega (arith, c.read_from.auto.buf, c.record_size.ensures, fill, some.1) in
+    let room : size ≤ length c.write_times.new.bytes =
+    omega (arith, c.write_times.auto.bytes, c.read_from.auto.buf, c.record_size.ensures, fill, some.1) in
+    let shown : size ≤ length c.read_from.new.buf =
+    omega (arith, c.read_from.auto.buf, c.record_size.ensures, fill, some.1) in
     let long : length bytes ≡ size = omega (arith, length-take size c.write_times.new.bytes, room) in
     let few : length bytes ≤ 1024 = omega (arith, long, c.record_size.ensures, fill, some.1) in
     let some_bytes : 1 ≤ length bytes = omega (arith, long, c.record_size.ensures, fill) in
     record {
-      changes = changes_file S.tells _ c.args.name.now 0 bytes (S.seen c.args.store.now) (S.seen c.read_from.new.store) (S.seen c.write_synced.new.store) c.write_synced.result
-          read.leaves (omega (arith, read.reads)) wrote.written wrote.synced wrote.torn wrote.cause wrote.leaves wrote.writes wrote.rose some_bytes few
-          (λ told. puts_part format c.requires.flat (bytes_of ((S.seen c.args.store.now).files c.args.name.now)) c.args.grace c.read_from.new.buf c.write_times.new.bytes size c.record_size.ensures
+      changes =
+          changes_file S.tells _ c.args.name.now 0 bytes (S.seen c.args.store.now) (S.seen c.read_from.new.store)
+          (S.seen c.write_synced.new.store) c.write_synced.result
+          read.leaves (omega (arith, read.reads)) wrote.written wrote.synced wrote.torn wrote.cause wrote.leaves
+          wrote.writes wrote.rose some_bytes few
+          (λ told. puts_part format c.requires.flat (bytes_of ((S.seen c.args.store.now).files c.args.name.now))
+          c.args.grace c.read_from.new.buf c.write_times.new.bytes size c.record_size.ensures
           (read.shown told) shown room times.kept times.block times.inode);
       commits = once_behind S.commits S.commits_on _ _ _ _ _ _ c.read_from.ensures.commits wrote.commits
-          (λ written told. made_overwritten (FlatGraced format c.args.grace) (S.seen c.args.store.now).files (S.seen c.write_synced.new.store).files c.args.name.now 0 bytes
-          (written told ∙ ap (λ (files : World). with_bytes files c.args.name.now 0 bytes) read.leaves.files) some_bytes few
-          (puts_part format c.requires.flat (bytes_of ((S.seen c.args.store.now).files c.args.name.now)) c.args.grace c.read_from.new.buf c.write_times.new.bytes size c.record_size.ensures
+          (λ written told. made_overwritten (FlatGraced format c.args.grace) (S.seen c.args.store.now).files
+          (S.seen c.write_synced.new.store).files c.args.name.now 0 bytes
+          (written told ∙ ap (λ (files : World). with_bytes files c.args.name.now 0 bytes) read.leaves.files)
+          some_bytes few
+          (puts_part format c.requires.flat (bytes_of ((S.seen c.args.store.now).files c.args.name.now)) c.args.grace
+          c.read_from.new.buf c.write_times.new.bytes size c.record_size.ensures
           (read.shown told) shown room times.kept times.block times.inode));
     }

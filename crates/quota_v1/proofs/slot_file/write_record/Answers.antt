@@ -19,19 +19,27 @@ returns g c =
     let bytes : List ℕ = take c.record_size.result c.record_bytes-bytes.result in
     let fill = times_fill format c.requires.flat in
     let some = some_time format in
-    let long : length bytes ≡ record_size format = omega (arith, length-take c.record_size.result c.record_bytes-bytes.result, c.record_size.ensures, whole.whole) in
+    let long : length bytes ≡ record_size format = omega
+    (arith, length-take c.record_size.result c.record_bytes-bytes.result, c.record_size.ensures, whole.whole) in
     let few : length bytes ≤ 1024 = omega (arith, long, fill, some.1) in
     let some_bytes : 1 ≤ length bytes = omega (arith, long, fill) in
-    let stored = stored_part format c.requires.flat c.record_size.result c.record_bytes-bytes.result c.record_size.ensures ∙ whole.stored in
+    let stored = stored_part format c.requires.flat c.record_size.result c.record_bytes-bytes.result
+    c.record_size.ensures ∙ whole.stored in
     record {
-      changes = changes_file S.tells _ c.args.name.now _ bytes (S.seen c.args.store.now) (S.seen c.args.store.now) (S.seen c.write_synced.new.store) c.write_synced.result
-          (only_reads-none _ _) (omega arith) wrote.written wrote.synced wrote.torn wrote.cause wrote.leaves wrote.writes wrote.rose some_bytes few
-          (λ told. puts_record format c.requires.flat (bytes_of ((S.seen c.args.store.now).files c.args.name.now)) c.args.id c.args.rec.now c.args.times c.times_in-times.result _ bytes
+      changes =
+          changes_file S.tells _ c.args.name.now _ bytes (S.seen c.args.store.now) (S.seen c.args.store.now)
+          (S.seen c.write_synced.new.store) c.write_synced.result
+          (only_reads-none _ _) (omega arith) wrote.written wrote.synced wrote.torn wrote.cause wrote.leaves
+          wrote.writes wrote.rose some_bytes few
+          (λ told. puts_record format c.requires.flat (bytes_of ((S.seen c.args.store.now).files c.args.name.now))
+          c.args.id c.args.rec.now c.args.times c.times_in-times.result _ bytes
           c.record_start-at.ensures.place long stored c.requires.kept times.first times.other);
       reads = wrote.leaves.reads;
       commits = once_then S.commits _ _ _ _ _ wrote.commits
-          (λ written told. made_overwritten (PutsRecord format c.args.id c.args.rec.now c.args.times) (S.seen c.args.store.now).files (S.seen c.write_synced.new.store).files c.args.name.now _ bytes
+          (λ written told. made_overwritten (PutsRecord format c.args.id c.args.rec.now c.args.times)
+          (S.seen c.args.store.now).files (S.seen c.write_synced.new.store).files c.args.name.now _ bytes
           (written told) some_bytes few
-          (puts_record format c.requires.flat (bytes_of ((S.seen c.args.store.now).files c.args.name.now)) c.args.id c.args.rec.now c.args.times c.times_in-times.result _ bytes
+          (puts_record format c.requires.flat (bytes_of ((S.seen c.args.store.now).files c.args.name.now)) c.args.id
+          c.args.rec.now c.args.times c.times_in-times.result _ bytes
           c.record_start-at.ensures.place long stored c.requires.kept times.first times.other));
     }

@@ -7,4 +7,7 @@ returns-in_err-write-clause-commits g c =
 
 pub returns-clause-commits : goal.returns-clause-commits
 returns-clause-commits g c =
-    inr (g.S.Store.commits_on [] _ _ _ _ c.write.ensures.commits c.sync.ensures.commits, λ told. c.sync.ensures.leaves.files ∙ c.in_ok-write.ensures.ok told)
+    inr (
+      g.S.Store.commits_on [] _ _ _ _ c.write.ensures.commits c.sync.ensures.commits,
+      λ told. c.sync.ensures.leaves.files ∙ c.in_ok-write.ensures.ok told,
+    )

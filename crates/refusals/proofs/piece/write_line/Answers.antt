@@ -10,13 +10,15 @@ use Rattle.refusals.proofs.piece.write_line.Goals as goal
 pub returns-in_err-put-clause-fault : goal.returns-in_err-put-clause-fault
 returns-in_err-put-clause-fault g c =
     let p = err_from_is_err_and c.from_residual.result c.from_residual.ensures.1 in
-    rw p.1 (λ told. appends_more _ _ _ (codes "\n") (appends_more _ _ _ (joined c.args.pieces.now) (appends_more _ _ _ (front_of c.args.place)
+    rw p.1 (λ told. appends_more _ _ _ (codes "\n")
+    (appends_more _ _ _ (joined c.args.pieces.now) (appends_more _ _ _ (front_of c.args.place)
     (c.in_err-put.ensures.fault told _ [] (gathered_start _ _ c.new-text.ensures)))))
 
 pub returns-in_err-put_place-clause-fault : goal.returns-in_err-put_place-clause-fault
 returns-in_err-put_place-clause-fault g c =
     let p = err_from_is_err_and c.from_residual-in_err-put_place.result c.from_residual-in_err-put_place.ensures.1 in
-    rw p.1 (λ told. appends_more _ _ _ (codes "\n") (appends_more _ _ _ (joined c.args.pieces.now) (c.in_err-put_place.ensures.fault told _ _
+    rw p.1 (λ told. appends_more _ _ _ (codes "\n")
+    (appends_more _ _ _ (joined c.args.pieces.now) (c.in_err-put_place.ensures.fault told _ _
     (c.in_ok-put.ensures.ok told _ [] (gathered_start _ _ c.new-text.ensures)))))
 
 pub returns-in_err-put_pieces-clause-fault : goal.returns-in_err-put_pieces-clause-fault

@@ -1,5 +1,6 @@
 use Rattle.std.proofs.lemmas.Result.{err_from_is_err_and}
-use Rattle.report_text.proofs.GatherLemmas.{gathers_then, writes_more, writes_then, prefix_written, prefix_flushed, all_written}
+use Rattle.report_text.proofs.GatherLemmas.{gathers_then, writes_more, writes_then, prefix_written, prefix_flushed}
+use Rattle.report_text.proofs.GatherLemmas.{all_written}
 use Rattle.report_text.proofs.LinesLemmas.{report_is}
 use Rattle.report_text.proofs.file_report.report.Goals as goal
 
@@ -14,7 +15,8 @@ returns-in_err-put_head-clause-fault g c =
 
 pub returns-in_err-put_entries-clause-fault : goal.returns-in_err-put_entries-clause-fault
 returns-in_err-put_entries-clause-fault g c =
-    let p = err_from_is_err_and c.from_residual-in_err-put_entries.result c.from_residual-in_err-put_entries.ensures.1 in
+    let p =
+    err_from_is_err_and c.from_residual-in_err-put_entries.result c.from_residual-in_err-put_entries.ensures.1 in
     rw p.1 (λ told value holds kind.
     prefix_written _ _ _ _ _ c.new-text.ensures
     (writes_then _ _ _ _ _ _ _ _ _ c.in_ok-put_head.ensures.ok

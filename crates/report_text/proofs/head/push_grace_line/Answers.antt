@@ -9,5 +9,7 @@ unfolding grace_line
 returns-clause-text c =
     c.push_text.ensures
     ∙ ap (λ (t : List ℕ). t ++ codes "\n")
-    (c.push_period-2.ensures.text ∙ ap (λ (t : List ℕ). t ++ (codes "; Inode grace time: " ++ period_of c.args.grace.inode)) c.push_period.ensures.text)
+    (c.push_period-2.ensures.text
+    ∙ ap (λ (t : List ℕ). t ++ (codes "; Inode grace time: " ++ period_of c.args.grace.inode))
+    c.push_period.ensures.text)
     ∙ appended_pieces c.args.page.now (codes "Block grace time: ") _ _ _ _

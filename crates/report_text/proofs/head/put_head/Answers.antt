@@ -8,13 +8,15 @@ pub returns-in_err-put_title-clause-fault : goal.returns-in_err-put_title-clause
 unfolding head_of
 returns-in_err-put_title-clause-fault g c =
     let p = err_from_is_err_and c.from_residual.result c.from_residual.ensures.1 in
-    rw p.1 (writes_more _ _ _ _ _ (grace_line c.args.grace ++ heading_line c.args.kind ++ hyphen_line) _ c.in_err-put_title.ensures.fault (grind (arith, append_assoc)))
+    rw p.1 (writes_more _ _ _ _ _ (grace_line c.args.grace ++ heading_line c.args.kind ++ hyphen_line) _
+    c.in_err-put_title.ensures.fault (grind (arith, append_assoc)))
 
 pub returns-in_err-make_room-clause-fault : goal.returns-in_err-make_room-clause-fault
 unfolding head_of
 returns-in_err-make_room-clause-fault g c =
     let p = err_from_is_err_and c.from_residual-in_err-make_room.result c.from_residual-in_err-make_room.ensures.1 in
-    rw p.1 (writes_then _ _ _ _ _ _ _ (grace_line c.args.grace ++ heading_line c.args.kind ++ hyphen_line) _ c.in_ok-put_title.ensures.ok
+    rw p.1 (writes_then _ _ _ _ _ _ _ (grace_line c.args.grace ++ heading_line c.args.kind ++ hyphen_line) _
+    c.in_ok-put_title.ensures.ok
     (writes_more _ _ _ _ _ _ _ c.in_err-make_room.ensures.fault refl) (grind (arith, append_assoc)))
 
 pub returns-clause-ok : goal.returns-clause-ok

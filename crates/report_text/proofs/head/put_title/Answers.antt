@@ -6,7 +6,8 @@ use Rattle.report_text.proofs.head.put_title.Goals as goal
 pub returns-in_err-put-clause-fault : goal.returns-in_err-put-clause-fault
 returns-in_err-put-clause-fault g c =
     let p = err_from_is_err_and c.from_residual.result c.from_residual.ensures.1 in
-    rw p.1 (writes_more _ _ _ _ _ (c.args.title.now ++ codes "\n") _ c.in_err-put.ensures.fault (grind (arith, append_assoc)))
+    rw p.1
+    (writes_more _ _ _ _ _ (c.args.title.now ++ codes "\n") _ c.in_err-put.ensures.fault (grind (arith, append_assoc)))
 
 pub returns-in_err-put-2-clause-fault : goal.returns-in_err-put-2-clause-fault
 returns-in_err-put-2-clause-fault g c =

@@ -12,9 +12,12 @@ invariant-loop-left g l =
     let C = g.C.Conns in
     record {
       within : l.left ≤ 16777216;
-      hearing : IsTrue C.tells → (arrival : Arrival) → l.now ≡ arrival.moment → (C.seen l.fn.conns).current ≡ Some (accepted arrival)
-          → IsHearing (Serves S.tells (S.seen l.fn.store).files l.fn.exports) l.now arrival l.marker l.left (C.seen l.conns).current;
-      up : LooksUpIn Some (exports_at S.tells (S.seen l.fn.store) l.fn.exports) (exports_at S.tells (S.seen l.store) l.exports) (any_get_reads * (16777216 - l.left)) (Ok (tt {0}));
+      hearing : IsTrue C.tells → (arrival : Arrival) → l.now ≡ arrival.moment
+          → (C.seen l.fn.conns).current ≡ Some (accepted arrival)
+          → IsHearing (Serves S.tells (S.seen l.fn.store).files l.fn.exports) l.now arrival l.marker l.left
+          (C.seen l.conns).current;
+      up : LooksUpIn Some (exports_at S.tells (S.seen l.fn.store) l.fn.exports)
+          (exports_at S.tells (S.seen l.store) l.exports) (any_get_reads * (16777216 - l.left)) (Ok (tt {0}));
       changes : ChangesCurrent (C.seen l.fn.conns) (C.seen l.conns);
       as_before : C.is_open l.conns ≡ C.is_open l.fn.conns;
       commits : S.commits [] l.fn.store l.store;

@@ -12,8 +12,12 @@ invariant-loop-at g l =
     let C = g.C.Conns in
     record {
       within : l.at ≤ length l.piece;
-      heard : IsTrue C.tells → Answers (Serves S.tells (S.seen l.fn.store).files l.fn.exports) (take l.at l.piece) (awaited_at l.now l.fn.marker) (awaited_at l.now l.marker) (C.seen l.fn.conns).current (C.seen l.conns).current;
-      up : LooksUpIn Some (exports_at S.tells (S.seen l.fn.store) l.fn.exports) (exports_at S.tells (S.seen l.store) l.exports) (any_get_reads * l.at) (Ok (tt {0}));
+      heard : IsTrue C.tells
+          → Answers (Serves S.tells (S.seen l.fn.store).files l.fn.exports) (take l.at l.piece)
+          (awaited_at l.now l.fn.marker) (awaited_at l.now l.marker) (C.seen l.fn.conns).current
+          (C.seen l.conns).current;
+      up : LooksUpIn Some (exports_at S.tells (S.seen l.fn.store) l.fn.exports)
+          (exports_at S.tells (S.seen l.store) l.exports) (any_get_reads * l.at) (Ok (tt {0}));
       changes : ChangesCurrent (C.seen l.fn.conns) (C.seen l.conns);
       as_before : C.is_open l.conns ≡ C.is_open l.fn.conns;
       commits : S.commits [] l.fn.store l.store;

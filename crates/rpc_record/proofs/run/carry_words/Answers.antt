@@ -11,7 +11,9 @@ pub returns-in-Ok-clause-carried : goal.returns-in-Ok-clause-carried
 returns-in-Ok-clause-carried g c = rw c.in-Ok.ensures c.carry_out.ensures.carried
 
 pub returns-in-Ok-clause-worded : goal.returns-in-Ok-clause-worded
-returns-in-Ok-clause-worded g c = IfErr-weaker c.carry_out.result _ _ (λ said no two. absurd (no two)) c.carry_out.ensures.worded
+returns-in-Ok-clause-worded g c =
+    IfErr-weaker c.carry_out.result _ _ (λ said no two. absurd (no two)) c.carry_out.ensures.worded
 
 pub returns-in-Ok-clause-store : goal.returns-in-Ok-clause-store
-returns-in-Ok-clause-store g c = IfErr-weaker c.carry_out.result _ _ (λ said no two. absurd (no two)) c.carry_out.ensures.worded
+returns-in-Ok-clause-store g c =
+    IfErr-weaker c.carry_out.result _ _ (λ said no two. absurd (no two)) c.carry_out.ensures.worded

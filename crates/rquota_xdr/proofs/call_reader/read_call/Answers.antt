@@ -8,7 +8,8 @@ pub returns-in-Err-clause-call : goal.returns-in-Err-clause-call
 returns-in-Err-clause-call c =
     let datagram = c.args.bytes.now in
     let front = first_failing_before (head_rows datagram) (caller_rows datagram) _ c.in-Err.ensures.err in
-    let fails : first_failing (rows_of datagram) ≡ Some c.in-Err.call = first_failing_before (head_rows datagram ++ caller_rows datagram) (argument_rows datagram) _ front in
+    let fails : first_failing (rows_of datagram) ≡ Some c.in-Err.call =
+    first_failing_before (head_rows datagram ++ caller_rows datagram) (argument_rows datagram) _ front in
     rw fails refl
 
 pub returns-in-Err-clause-path : goal.returns-in-Err-clause-path

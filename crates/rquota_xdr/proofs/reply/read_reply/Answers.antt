@@ -11,10 +11,16 @@ are_read c = record {
 }
 
 pub returns-clause-read : goal.returns-clause-read
-returns-clause-read c = is_spelling _ _ c.reply_with.result (are_read (goal.at.returns-clause-read c).After-reply_with) c.reply_with.ensures.read
+returns-clause-read c =
+    is_spelling _ _ c.reply_with.result (are_read (goal.at.returns-clause-read c).After-reply_with)
+    c.reply_with.ensures.read
 
 pub returns-clause-found : goal.returns-clause-found
-returns-clause-found c = is_found _ _ c.reply_with.result (are_read (goal.at.returns-clause-found c).After-reply_with) c.reply_with.ensures.read c.reply_with.ensures.none
+returns-clause-found c =
+    is_found _ _ c.reply_with.result (are_read (goal.at.returns-clause-found c).After-reply_with)
+    c.reply_with.ensures.read c.reply_with.ensures.none
 
 pub returns-clause-none : goal.returns-clause-none
-returns-clause-none c = is_none _ _ c.reply_with.result (are_read (goal.at.returns-clause-none c).After-reply_with) c.reply_with.ensures.read c.reply_with.ensures.none
+returns-clause-none c =
+    is_none _ _ c.reply_with.result (are_read (goal.at.returns-clause-none c).After-reply_with)
+    c.reply_with.ensures.read c.reply_with.ensures.none

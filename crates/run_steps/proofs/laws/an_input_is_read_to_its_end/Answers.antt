@@ -1,4 +1,4 @@
-use Rattle.run_steps.proofs.MeaningLemmas.{to_end}
+use Rattle.run_steps.proofs.TakenLemmas.{to_end}
 use Rattle.run_steps.proofs.laws.an_input_is_read_to_its_end.Goals as goal
 
 pub returns : goal.returns

@@ -1,4 +1,4 @@
-use Rattle.run_steps.proofs.MeaningLemmas.{received}
+use Rattle.run_steps.proofs.TakenLemmas.{received}
 use Rattle.run_steps.proofs.laws.so_many_datagrams_are_received.Goals as goal
 
 pub returns : goal.returns

@@ -9,4 +9,5 @@ pub returns-clause-passes : goal.returns-clause-passes
 returns-clause-passes c steps old new acts refusal sure ends = sure_ends steps old acts new refusal sure ends
 
 pub returns-clause-one : goal.returns-clause-one
-returns-clause-one c steps old new acts first ends = passed_sure true true steps old old acts new first (looks_same true true old) ends
+returns-clause-one c steps old new acts first ends =
+    passed_sure true true steps old old acts new first (looks_same true true old) ends

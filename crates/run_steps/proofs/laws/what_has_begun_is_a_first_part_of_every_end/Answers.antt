@@ -8,4 +8,5 @@ returns-clause-acts c rooms steps old now new done hand acts refusal first begun
     first_part rooms true true steps old old done hand acts now new refusal first (looks_same true true old) begun ends
 
 pub returns-clause-seen : goal.returns-clause-seen
-returns-clause-seen c rooms steps tells why old new to acts refusal first part ends = part_of_end rooms steps tells old new acts to refusal first part ends
+returns-clause-seen c rooms steps tells why old new to acts refusal first part ends =
+    part_of_end rooms steps tells old new acts to refusal first part ends

@@ -7,4 +7,5 @@ pub returns-in-Ok : goal.returns-in-Ok
 returns-in-Ok c = (is_utf8-from_IsUtf8 c.args.line.now c.in-Ok.ensures.cases.1, c.in-Ok.ensures.cases.0)
 
 pub returns-in-Err : goal.returns-in-Err
-returns-in-Err c = none_if (is_utf8 c.args.line.now) (λ is. c.in-Err.ensures.cases.0 (IsUtf8-from_is_utf8 c.args.line.now is))
+returns-in-Err c =
+    none_if (is_utf8 c.args.line.now) (λ is. c.in-Err.ensures.cases.0 (IsUtf8-from_is_utf8 c.args.line.now is))

@@ -15,6 +15,8 @@ pub loop-word-preserved : goal.loop-word-preserved
 loop-word-preserved c =
     record {
       words = rw c.in_ok-push.ensures.items
-          (words_more c.loop-word.words.items c.in_ok-text_of.field-0 c.in-Some.word.now _ _ (words_of c.in-Some.behind.now) c.loop-word.invariant.words c.in-Some.ensures.word c.in_ok-text_of.ensures);
-      texts = All-rest IsUtf8 c.in-Some.word.now (words_of c.in-Some.behind.now) _ c.in-Some.ensures.word c.loop-word.invariant.texts;
+          (words_more c.loop-word.words.items c.in_ok-text_of.field-0 c.in-Some.word.now _ _
+          (words_of c.in-Some.behind.now) c.loop-word.invariant.words c.in-Some.ensures.word c.in_ok-text_of.ensures);
+      texts = All-rest IsUtf8 c.in-Some.word.now (words_of c.in-Some.behind.now) _ c.in-Some.ensures.word
+          c.loop-word.invariant.texts;
     }

@@ -9,7 +9,8 @@ invariant-loop-lines g l =
     let I = g.I.Source in
     record {
       read : IsTrue I.tells → script_said (I.seen l.fn.input).left
-          ≡ said_with l.lines.items (lines_say l.reader.number (lines_left 4096 16777216 l.reader (I.seen l.input).left));
+          ≡ said_with l.lines.items
+          (lines_say l.reader.number (lines_left 4096 16777216 l.reader (I.seen l.input).left));
       later : (I.seen l.fn.input).faults ≤ (I.seen l.input).faults;
       kept : I.keeps true l.fn.input l.input;
     }

@@ -6,4 +6,5 @@ use Rattle.serve_command.proofs.laws.serving_is_sure_where_the_files_are_accepte
 
 pub returns : goal.returns
 returns c asked calls port exports invocation old exported are =
-    sure_opening_all asked exports nothing_exported exported (λ (e : ExportedValues). Starting port (AnsweringSteps e calls)) old are (sure_answering exported calls old)
+    sure_opening_all asked exports nothing_exported exported
+    (λ (e : ExportedValues). Starting port (AnsweringSteps e calls)) old are (sure_answering exported calls old)

@@ -7,4 +7,6 @@ use Rattle.serve_command.proofs.laws.serving_looks_first.Goals as goal
 
 pub returns : goal.returns
 returns c asked calls port exports invocation =
-    looks_opening_all false asked exports nothing_exported (λ (exported : ExportedValues). Starting port (AnsweringSteps exported calls)) (λ exported. looks_answering false exported calls)
+    looks_opening_all false asked exports nothing_exported
+    (λ (exported : ExportedValues). Starting port (AnsweringSteps exported calls))
+    (λ exported. looks_answering false exported calls)

@@ -23,12 +23,16 @@ returns-in-Ok-first_file-clause-carries g c = λ input out err input_tells out_t
     let tells = tells_of S.tells input_tells out_tells err_tells L.tells in
     let old = seen_of (S.seen c.args.store.now) input out err (L.seen c.args.link.now) in
     let new = seen_of (S.seen c.answer_calls.new.store) input out err (L.seen c.answer_calls.new.link) in
-    let opened = (rw c.as_slice.ensures at c.in-Ok.ensures.opened) nothing_exported (λ told. serves_nothing S.tells (S.seen c.args.store.now).files c.new-opened.result c.new-opened.ensures.empty) in
+    let opened = (rw c.as_slice.ensures at c.in-Ok.ensures.opened) nothing_exported
+    (λ told. serves_nothing S.tells (S.seen c.args.store.now).files c.new-opened.result c.new-opened.ensures.empty) in
     let file = c.in-Ok-first_file.file in
     let named : file ≡ first_file c.args.exports = rw c.as_slice-in-Ok.ensures at c.in-Ok-first_file.ensures.copied in
-    carries_more (ServeSteps (asked_of c.args.format) c.args.calls c.args.port c.args.exports invocation) serve_uses (AnsweringMayRefuse (asked_of c.args.format) file) (ServeMayRefuse (asked_of c.args.format) c.args.exports) tells old new c.answer_calls.result
+    carries_more (ServeSteps (asked_of c.args.format) c.args.calls c.args.port c.args.exports invocation) serve_uses
+    (AnsweringMayRefuse (asked_of c.args.format) file) (ServeMayRefuse (asked_of c.args.format) c.args.exports) tells
+    old new c.answer_calls.result
     (λ cause said may. inr (rw named at may))
-    (opened.3 (λ (exported : ExportedValues). Starting c.args.port (AnsweringSteps exported c.args.calls)) file input out err (L.seen c.args.link.now) input_tells out_tells err_tells L.tells new c.answer_calls.result
+    (opened.3 (λ (exported : ExportedValues). Starting c.args.port (AnsweringSteps exported c.args.calls)) file input
+    out err (L.seen c.args.link.now) input_tells out_tells err_tells L.tells new c.answer_calls.result
     (c.answer_calls.ensures.carries opened.0 input out err input_tells out_tells err_tells opened.2))
 
 pub returns-in-Ok-first_file-clause-stopped : goal.returns-in-Ok-first_file-clause-stopped
@@ -36,12 +40,17 @@ returns-in-Ok-first_file-clause-stopped g c =
     let S = g.S.Store in
     let L = g.L.Link in
     let files = (S.seen c.args.store.now).files in
-    let opened = (rw c.as_slice.ensures at c.in-Ok.ensures.opened) nothing_exported (λ told. serves_nothing S.tells files c.new-opened.result c.new-opened.ensures.empty) in
+    let opened = (rw c.as_slice.ensures at c.in-Ok.ensures.opened) nothing_exported
+    (λ told. serves_nothing S.tells files c.new-opened.result c.new-opened.ensures.empty) in
     let serves : ExportedValues → Type 0 = Serves S.tells (S.seen c.add_all.new.store).files c.add_all.new.exports in
     if_refused _ _ c.answer_calls.result
     (λ refusal stopped cause told.
-    stopped-before (λ (exported : ExportedValues). IsTrue S.tells × AreExported (asked_of c.args.format) files c.args.exports nothing_exported exported) serves c.args.calls (L.seen c.args.link.now) (L.seen c.answer_calls.new.link)
-    (λ exported is. subst serves (exported_once (asked_of c.args.format) files c.args.exports nothing_exported opened.0 exported (opened.1 is.0) is.1) (opened.2 is.0))
+    stopped-before (λ (exported : ExportedValues). IsTrue S.tells
+    × AreExported (asked_of c.args.format) files c.args.exports nothing_exported exported) serves c.args.calls
+    (L.seen c.args.link.now) (L.seen c.answer_calls.new.link)
+    (λ exported is. subst serves
+    (exported_once (asked_of c.args.format) files c.args.exports nothing_exported opened.0 exported (opened.1 is.0)
+    is.1) (opened.2 is.0))
     (stopped told))
     c.answer_calls.ensures.stopped
 
@@ -52,13 +61,19 @@ returns-in-Ok-clause-carries g c = λ input out err input_tells out_tells err_te
     let tells = tells_of S.tells input_tells out_tells err_tells L.tells in
     let old = seen_of (S.seen c.args.store.now) input out err (L.seen c.args.link.now) in
     let new = seen_of (S.seen c.add_all.new.store) input out err (L.seen c.args.link.now) in
-    let opened = (rw c.as_slice.ensures at c.in-Ok.ensures.opened) nothing_exported (λ told. serves_nothing S.tells (S.seen c.args.store.now).files c.new-opened.result c.new-opened.ensures.empty) in
+    let opened = (rw c.as_slice.ensures at c.in-Ok.ensures.opened) nothing_exported
+    (λ told. serves_nothing S.tells (S.seen c.args.store.now).files c.new-opened.result c.new-opened.ensures.empty) in
     let first = first_file c.args.exports in
     rw c.in-Err-first_file.ensures.wanting
-    (carries_more (ServeSteps (asked_of c.args.format) c.args.calls c.args.port c.args.exports invocation) serve_uses (AnsweringMayRefuse (asked_of c.args.format) first) (ServeMayRefuse (asked_of c.args.format) c.args.exports) tells old new _
+    (carries_more (ServeSteps (asked_of c.args.format) c.args.calls c.args.port c.args.exports invocation) serve_uses
+    (AnsweringMayRefuse (asked_of c.args.format) first)
+    (ServeMayRefuse (asked_of c.args.format) c.args.exports) tells old new _
     (λ cause said may. inr may)
-    (opened.3 (λ (exported : ExportedValues). Starting c.args.port (AnsweringSteps exported c.args.calls)) first input out err (L.seen c.args.link.now) input_tells out_tells err_tells L.tells new _
-    (nothing_carried (Starting c.args.port (AnsweringSteps opened.0 c.args.calls)) serve_uses (AnsweringMayRefuse (asked_of c.args.format) first) tells new (refusal_of Memory []) memory_no_output tt tt (record { line = λ no. refl; input_line = λ no. refl }))))
+    (opened.3 (λ (exported : ExportedValues). Starting c.args.port (AnsweringSteps exported c.args.calls)) first input
+    out err (L.seen c.args.link.now) input_tells out_tells err_tells L.tells new _
+    (nothing_carried (Starting c.args.port (AnsweringSteps opened.0 c.args.calls)) serve_uses
+    (AnsweringMayRefuse (asked_of c.args.format) first) tells new (refusal_of Memory []) memory_no_output tt tt
+    (record { line = λ no. refl; input_line = λ no. refl }))))
 
 pub returns-clause-carries : goal.returns-clause-carries
 returns-clause-carries g c = λ input out err input_tells out_tells err_tells invocation.
@@ -67,14 +82,19 @@ returns-clause-carries g c = λ input out err input_tells out_tells err_tells in
     let tells = tells_of S.tells input_tells out_tells err_tells L.tells in
     let old = seen_of (S.seen c.args.store.now) input out err (L.seen c.args.link.now) in
     let new = seen_of (S.seen c.add_all.new.store) input out err (L.seen c.args.link.now) in
-    carries_more (ServeSteps (asked_of c.args.format) c.args.calls c.args.port c.args.exports invocation) serve_uses (ExportingMayRefuse (asked_of c.args.format) c.args.exports) (ServeMayRefuse (asked_of c.args.format) c.args.exports) tells old new _
+    carries_more (ServeSteps (asked_of c.args.format) c.args.calls c.args.port c.args.exports invocation) serve_uses
+    (ExportingMayRefuse (asked_of c.args.format) c.args.exports)
+    (ServeMayRefuse (asked_of c.args.format) c.args.exports) tells old new _
     (λ cause said may. inl may)
-    ((rw c.as_slice.ensures at c.in-Err.ensures.unopened) nothing_exported (λ (exported : ExportedValues). Starting c.args.port (AnsweringSteps exported c.args.calls)) input out err (L.seen c.args.link.now) input_tells out_tells err_tells L.tells
+    ((rw c.as_slice.ensures at c.in-Err.ensures.unopened) nothing_exported
+    (λ (exported : ExportedValues). Starting c.args.port (AnsweringSteps exported c.args.calls)) input out err
+    (L.seen c.args.link.now) input_tells out_tells err_tells L.tells
     (λ told. serves_nothing S.tells (S.seen c.args.store.now).files c.new-opened.result c.new-opened.ensures.empty))
 
 pub returns-clause-stopped : goal.returns-clause-stopped
 returns-clause-stopped g c = λ cause told.
-    nothing_stopped _ c.args.calls (g.L.Link.seen c.args.link.now) (g.L.Link.seen c.args.link.now) c.requires.some refl refl
+    nothing_stopped _ c.args.calls (g.L.Link.seen c.args.link.now) (g.L.Link.seen c.args.link.now)
+    c.requires.some refl refl
 
 pub returns-in-Ok-first_file-clause-reads : goal.returns-in-Ok-first_file-clause-reads
 returns-in-Ok-first_file-clause-reads g c =

@@ -21,10 +21,14 @@ returns g c =
     let next = limits_edit to c.limits_of.result now in
     let up = is_looked_up _ _ _ _ _ _ looked_up.looks in
     let same : IsSameAt (value_edit copy) (value_edit next)
-    (file_at (g.F.QuotaFile.holds c.args.file.now c.args.store.now) (g.F.QuotaFile.seen c.args.file.now) (g.S.Store.seen c.args.store.now)) = record {
-      edited = λ value holds. ap (λ (limits : Limits). limits_set value to limits now) (sym (copied ∙ ap limits_of (looked_up.found value holds)));
-      change = λ value holds. ap (λ (limits : Limits). limits_change value to limits now) (sym (copied ∙ ap limits_of (looked_up.found value holds)));
-      idle = λ value holds. ap (λ (limits : Limits). limits_idle value to limits now) (sym (copied ∙ ap limits_of (looked_up.found value holds)));
+    (file_at (g.F.QuotaFile.holds c.args.file.now c.args.store.now) (g.F.QuotaFile.seen c.args.file.now)
+    (g.S.Store.seen c.args.store.now)) = record {
+      edited = λ value holds. ap (λ (limits : Limits). limits_set value to limits now)
+          (sym (copied ∙ ap limits_of (looked_up.found value holds)));
+      change = λ value holds. ap (λ (limits : Limits). limits_change value to limits now)
+          (sym (copied ∙ ap limits_of (looked_up.found value holds)));
+      idle = λ value holds. ap (λ (limits : Limits). limits_idle value to limits now)
+          (sym (copied ∙ ap limits_of (looked_up.found value holds)));
       room = refl;
     } in
     record {
@@ -35,10 +39,12 @@ returns g c =
             may = λ out may. (
               c.in_ok-source.source,
               looked_up.kept,
-              subst (λ (limits : Limits). LimitsMayLack to limits now (g.F.QuotaFile.seen c.args.file.now).format out) copied may,
+              subst (λ (limits : Limits).
+                  LimitsMayLack to limits now (g.F.QuotaFile.seen c.args.file.now).format out) copied may,
             );
           });
-      commits = once_edited g.S.Store.commits g.S.Store.commits_on g.F.QuotaFile.stands_for _ _ _ (value_edit copy) (value_edit next) _ _ _ looked_up.commits up same c.set_limits.ensures.commits;
+      commits = once_edited g.S.Store.commits g.S.Store.commits_on g.F.QuotaFile.stands_for _ _ _ (value_edit copy)
+          (value_edit next) _ _ _ looked_up.commits up same c.set_limits.ensures.commits;
     }
 
 pub returns-in_err-source : goal.returns-in_err-source
@@ -47,6 +53,7 @@ returns-in_err-source g c =
     let looked_up = c.in_err-source.ensures in
     record {
       edits = rw (p.1, p.2)
-          (edits-unlooked (copy_edit c.args.from c.args.to c.args.now) _ _ _ _ c.in_err-source.field-0.0 looked_up.looks);
+          (edits-unlooked (copy_edit c.args.from c.args.to c.args.now) _ _ _ _ c.in_err-source.field-0.0
+          looked_up.looks);
       commits = inl looked_up.commits;
     }

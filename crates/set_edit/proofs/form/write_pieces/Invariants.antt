@@ -7,6 +7,8 @@ abbrev pub invariant-loop-piece : goal.invariant-loop-piece
 invariant-loop-piece g l =
     let O = g.O.Sink in
     record {
-      gathered : IsTrue O.tells → IsGathered (O.seen l.fn.sink).written (flat_map (λ piece. piece.now) (take l.piece-index l.pieces)) (O.seen l.sink).written l.text;
+      gathered : IsTrue O.tells
+          → IsGathered (O.seen l.fn.sink).written (flat_map (λ piece. piece.now) (take l.piece-index l.pieces))
+          (O.seen l.sink).written l.text;
       later : (O.seen l.fn.sink).faults ≤ (O.seen l.sink).faults;
     }

@@ -6,4 +6,5 @@ use Rattle.set_edit.proofs.form_reading.limits_in.Goals as goal
 pub returns-in_err-words : goal.returns-in_err-words
 returns-in_err-words c =
     let many = c.in_err-words.ensures in
-    rw c.from_residual.ensures (sym (limits_in-other c.args.file.now (words_of c.args.line.now) (λ seven. omega (arith, seven, many))))
+    rw c.from_residual.ensures
+    (sym (limits_in-other c.args.file.now (words_of c.args.line.now) (λ seven. omega (arith, seven, many))))

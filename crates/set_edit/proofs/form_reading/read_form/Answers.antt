@@ -17,14 +17,16 @@ returns-in_err-read_title-clause-refused g c =
 
 pub returns-in_err-read_heading-clause-refused : goal.returns-in_err-read_heading-clause-refused
 returns-in_err-read_heading-clause-refused g c =
-    let p = err_from_is_err_and c.from_residual-in_err-read_heading.result c.from_residual-in_err-read_heading.ensures.1 in
+    let p =
+    err_from_is_err_and c.from_residual-in_err-read_heading.result c.from_residual-in_err-read_heading.ensures.1 in
     let a = c.args in
     let left = (g.I.Source.seen a.source.now).left in
     rw (p.1, p.2)
     (fault-then _ _ _ _ _ _ _ c.in_ok-read_title.ensures.later
     (λ told. (
       _,
-      step_on _ _ _ _ (form_read-start a.kind a.name.now a.id a.file.now left c.new-reader.result c.new-reader.ensures) (c.in_ok-read_title.ensures.behind told),
+      step_on _ _ _ _ (form_read-start a.kind a.name.now a.id a.file.now left c.new-reader.result c.new-reader.ensures)
+          (c.in_ok-read_title.ensures.behind told),
     ))
     c.in_err-read_heading.ensures.refused)
 
@@ -38,7 +40,9 @@ returns-in_err-limits-clause-refused g c =
     (λ told. (
       _,
       step_on _ _ _ _
-          (step_on _ _ _ _ (form_read-start a.kind a.name.now a.id a.file.now left c.new-reader.result c.new-reader.ensures) (c.in_ok-read_title.ensures.behind told))
+          (step_on _ _ _ _
+          (form_read-start a.kind a.name.now a.id a.file.now left c.new-reader.result c.new-reader.ensures)
+          (c.in_ok-read_title.ensures.behind told))
           (c.in_ok-read_heading.ensures.behind told),
     ))
     c.in_err-limits.ensures.refused)
@@ -50,17 +54,22 @@ returns-in_err-read_end-clause-refused g c =
     let left = (g.I.Source.seen a.source.now).left in
     let end = form_lines c.read_limits.new.reader (g.I.Source.seen c.read_limits.new.source).left in
     rw (p.1, p.2)
-    (fault-then _ _ _ _ _ _ _ (omega (arith, c.in_ok-read_title.ensures.later, c.in_ok-read_heading.ensures.later, c.in_ok-limits.ensures.later))
+    (fault-then _ _ _ _ _ _ _
+    (omega (arith, c.in_ok-read_title.ensures.later, c.in_ok-read_heading.ensures.later, c.in_ok-limits.ensures.later))
     (λ told. (
       _,
       step_on _ _ _ _
           (step_on _ _ _ _
-          (step_on _ _ _ _ (form_read-start a.kind a.name.now a.id a.file.now left c.new-reader.result c.new-reader.ensures) (c.in_ok-read_title.ensures.behind told))
+          (step_on _ _ _ _
+          (form_read-start a.kind a.name.now a.id a.file.now left c.new-reader.result c.new-reader.ensures)
+          (c.in_ok-read_title.ensures.behind told))
           (c.in_ok-read_heading.ensures.behind told))
           (c.in_ok-limits.ensures.limits told),
     ))
     (subst
-    (λ (number : ℕ). IsFormFault (g.I.Source.seen c.read_limits.new.source).faults (g.I.Source.seen c.read_end.new.source).faults g.I.Source.tells (no_more_words number end) c.in_err-read_end.field-0.0)
+    (λ (number : ℕ). IsFormFault (g.I.Source.seen c.read_limits.new.source).faults
+    (g.I.Source.seen c.read_end.new.source).faults g.I.Source.tells (no_more_words number end)
+    c.in_err-read_end.field-0.0)
     c.in_ok-limits.ensures.number c.in_err-read_end.ensures.refused))
 
 pub returns-clause-limits : goal.returns-clause-limits
@@ -71,7 +80,9 @@ returns-clause-limits g c told =
     step_on _ _ _ _
     (step_on _ _ _ _
     (step_on _ _ _ _
-    (step_on _ _ _ _ (form_read-start a.kind a.name.now a.id a.file.now left c.new-reader.result c.new-reader.ensures) (c.in_ok-read_title.ensures.behind told))
+    (step_on _ _ _ _ (form_read-start a.kind a.name.now a.id a.file.now left c.new-reader.result c.new-reader.ensures)
+    (c.in_ok-read_title.ensures.behind told))
     (c.in_ok-read_heading.ensures.behind told))
     (c.in_ok-limits.ensures.limits told))
-    (ap (λ (number : ℕ). no_more_words number end) (sym c.in_ok-limits.ensures.number) ∙ c.in_ok-read_end.ensures.end told)
+    (ap (λ (number : ℕ). no_more_words number end) (sym c.in_ok-limits.ensures.number)
+    ∙ c.in_ok-read_end.ensures.end told)

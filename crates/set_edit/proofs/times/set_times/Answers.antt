@@ -16,10 +16,13 @@ returns-clause-edits g c =
     let looked_up = c.in_ok-get.ensures in
     let next = c.in_ok-next.ensures in
     let up = is_looked_up _ _ _ _ _ _ looked_up.looks in
-    edits-changed (times_edit c.args.id c.args.block c.args.inode c.args.now) (change_to c.args.id c.in_ok-next.next) _ _ _ _ c.skipped_times-skipped.result (Ok tt)
+    edits-changed (times_edit c.args.id c.args.block c.args.inode c.args.now) (change_to c.args.id c.in_ok-next.next) _
+    _ _ _ c.skipped_times-skipped.result (Ok tt)
     c.in_ok-put_or_remove.ensures.changes up
-    (times-same c.args.id c.args.block c.args.inode c.args.now _ _ _ _ _ c.in_ok-next.next (record { up = up; looked = looked_up.found; value = c.format.ensures.value _ })
-    c.found_or_zeros-rec.ensures next.wanted next.kept (subst (λ (s : Skipped). skips_both s ≡ false) c.skipped_times-skipped.ensures (sym c.if-both.ensures)))
+    (times-same c.args.id c.args.block c.args.inode c.args.now _ _ _ _ _ c.in_ok-next.next
+    (record { up = up; looked = looked_up.found; value = c.format.ensures.value _ })
+    c.found_or_zeros-rec.ensures next.wanted next.kept
+    (subst (λ (s : Skipped). skips_both s ≡ false) c.skipped_times-skipped.ensures (sym c.if-both.ensures)))
 
 pub returns-clause-commits : goal.returns-clause-commits
 returns-clause-commits g c =
@@ -27,21 +30,29 @@ returns-clause-commits g c =
     let next = c.in_ok-next.ensures in
     let up = is_looked_up _ _ _ _ _ _ looked_up.looks in
     once_edited g.S.Store.commits g.S.Store.commits_on g.F.QuotaFile.stands_for _ _ _
-    (value_edit (times_edit c.args.id c.args.block c.args.inode c.args.now)) (edit_by (change_to c.args.id c.in_ok-next.next)) _ _ _ looked_up.commits up
-    (times-same c.args.id c.args.block c.args.inode c.args.now _ _ _ _ _ c.in_ok-next.next (record { up = up; looked = looked_up.found; value = c.format.ensures.value _ })
-    c.found_or_zeros-rec.ensures next.wanted next.kept (subst (λ (s : Skipped). skips_both s ≡ false) c.skipped_times-skipped.ensures (sym c.if-both.ensures)))
+    (value_edit (times_edit c.args.id c.args.block c.args.inode c.args.now))
+    (edit_by (change_to c.args.id c.in_ok-next.next)) _ _ _ looked_up.commits up
+    (times-same c.args.id c.args.block c.args.inode c.args.now _ _ _ _ _ c.in_ok-next.next
+    (record { up = up; looked = looked_up.found; value = c.format.ensures.value _ })
+    c.found_or_zeros-rec.ensures next.wanted next.kept
+    (subst (λ (s : Skipped). skips_both s ≡ false) c.skipped_times-skipped.ensures (sym c.if-both.ensures)))
     c.in_ok-put_or_remove.ensures.commits
 
 pub returns-in_err-put_or_remove-clause-edits : goal.returns-in_err-put_or_remove-clause-edits
 returns-in_err-put_or_remove-clause-edits g c =
-    let p = err_from_is_err_and c.from_residual-in_err-put_or_remove.result c.from_residual-in_err-put_or_remove.ensures.1 in
+    let p =
+    err_from_is_err_and c.from_residual-in_err-put_or_remove.result c.from_residual-in_err-put_or_remove.ensures.1 in
     let looked_up = c.in_ok-get.ensures in
     let next = c.in_ok-next.ensures in
     let up = is_looked_up _ _ _ _ _ _ looked_up.looks in
-    rw (p.1, p.2) (edits-changed (times_edit c.args.id c.args.block c.args.inode c.args.now) (change_to c.args.id c.in_ok-next.next) _ _ _ _ c.skipped_times-skipped.result (Err c.in_err-put_or_remove.field-0.0)
+    rw (p.1, p.2) (edits-changed (times_edit c.args.id c.args.block c.args.inode c.args.now)
+    (change_to c.args.id c.in_ok-next.next) _ _ _ _ c.skipped_times-skipped.result
+    (Err c.in_err-put_or_remove.field-0.0)
     c.in_err-put_or_remove.ensures.changes up
-    (times-same c.args.id c.args.block c.args.inode c.args.now _ _ _ _ _ c.in_ok-next.next (record { up = up; looked = looked_up.found; value = c.format.ensures.value _ })
-    c.found_or_zeros-rec.ensures next.wanted next.kept (subst (λ (s : Skipped). skips_both s ≡ false) c.skipped_times-skipped.ensures (sym c.if-both.ensures))))
+    (times-same c.args.id c.args.block c.args.inode c.args.now _ _ _ _ _ c.in_ok-next.next
+    (record { up = up; looked = looked_up.found; value = c.format.ensures.value _ })
+    c.found_or_zeros-rec.ensures next.wanted next.kept
+    (subst (λ (s : Skipped). skips_both s ≡ false) c.skipped_times-skipped.ensures (sym c.if-both.ensures))))
 
 pub returns-in_err-put_or_remove-clause-commits : goal.returns-in_err-put_or_remove-clause-commits
 returns-in_err-put_or_remove-clause-commits g c =
@@ -49,9 +60,12 @@ returns-in_err-put_or_remove-clause-commits g c =
     let next = c.in_ok-next.ensures in
     let up = is_looked_up _ _ _ _ _ _ looked_up.looks in
     once_edited g.S.Store.commits g.S.Store.commits_on g.F.QuotaFile.stands_for _ _ _
-    (value_edit (times_edit c.args.id c.args.block c.args.inode c.args.now)) (edit_by (change_to c.args.id c.in_ok-next.next)) _ _ _ looked_up.commits up
-    (times-same c.args.id c.args.block c.args.inode c.args.now _ _ _ _ _ c.in_ok-next.next (record { up = up; looked = looked_up.found; value = c.format.ensures.value _ })
-    c.found_or_zeros-rec.ensures next.wanted next.kept (subst (λ (s : Skipped). skips_both s ≡ false) c.skipped_times-skipped.ensures (sym c.if-both.ensures)))
+    (value_edit (times_edit c.args.id c.args.block c.args.inode c.args.now))
+    (edit_by (change_to c.args.id c.in_ok-next.next)) _ _ _ looked_up.commits up
+    (times-same c.args.id c.args.block c.args.inode c.args.now _ _ _ _ _ c.in_ok-next.next
+    (record { up = up; looked = looked_up.found; value = c.format.ensures.value _ })
+    c.found_or_zeros-rec.ensures next.wanted next.kept
+    (subst (λ (s : Skipped). skips_both s ≡ false) c.skipped_times-skipped.ensures (sym c.if-both.ensures)))
     c.in_err-put_or_remove.ensures.commits
 
 pub returns-in_err-get-clause-edits : goal.returns-in_err-get-clause-edits
@@ -59,7 +73,8 @@ returns-in_err-get-clause-edits g c =
     let p = err_from_is_err_and c.from_residual.result c.from_residual.ensures.1 in
     let looked_up = c.in_err-get.ensures in
     rw (p.1, p.2)
-    (edits-unlooked (times_edit c.args.id c.args.block c.args.inode c.args.now) _ _ _ _ c.in_err-get.field-0.0 looked_up.looks)
+    (edits-unlooked (times_edit c.args.id c.args.block c.args.inode c.args.now) _ _ _ _ c.in_err-get.field-0.0
+    looked_up.looks)
 
 pub returns-in_err-next-clause-edits : goal.returns-in_err-next-clause-edits
 returns-in_err-next-clause-edits g c =

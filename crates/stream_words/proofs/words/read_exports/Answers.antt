@@ -12,13 +12,21 @@ loop-place-preserved c =
     let place = c.loop-place.place in
     let before = exports_given c.loop-place.exports.items in
     let export = export_given c.in_ok-export.export in
-    let long : place + 2 < length files = more_whole place (length c.loop-place.exports.items) (length files) c.loop-place.invariant.number c.requires.whole c.loop-place-test.true in
+    let long : place + 2 < length files = more_whole place (length c.loop-place.exports.items) (length files)
+    c.loop-place.invariant.number c.requires.whole c.loop-place-test.true in
     record {
       number = omega (arith, c.push.ensures.len, c.loop-place.invariant.number);
       same =
-          ap (λ (l : List ExportOption). exports_of (3 + (place + 3)) l (texts_of (drop (place + 3) files))) (ap exports_given c.push.ensures.items ∙ one_given c.loop-place.exports.items c.in_ok-export.export)
-          ∙ sym (one_read files place c.index-files-place.result c.index-files-place-in-loop-place.result c.index-files-place-in-loop-place-2.result before export long c.index-files-place.is
+          ap (λ (l : List ExportOption). exports_of (3 + (place + 3)) l (texts_of (drop (place + 3) files)))
+          (ap exports_given c.push.ensures.items ∙ one_given c.loop-place.exports.items c.in_ok-export.export)
+          ∙ sym (one_read files place c.index-files-place.result c.index-files-place-in-loop-place.result
+          c.index-files-place-in-loop-place-2.result before export long c.index-files-place.is
           c.index-files-place-in-loop-place.is c.index-files-place-in-loop-place-2.is
-          (rw (c.as_slice.ensures.value, c.as_str.ensures.value, c.as_str-in-loop-place.ensures.value, c.as_str-in-loop-place-2.ensures.value) at c.in_ok-export.ensures))
+          (rw (
+            c.as_slice.ensures.value,
+            c.as_str.ensures.value,
+            c.as_str-in-loop-place.ensures.value,
+            c.as_str-in-loop-place-2.ensures.value,
+          ) at c.in_ok-export.ensures))
           ∙ c.loop-place.invariant.same;
     }

@@ -23,10 +23,14 @@ loop-entry-preserved c =
     let before : List Entry = c.loop-entry.ordered.items in
     let entry : Entry = c.in-Some.entry in
     let pushed : c.push.new.self.items ≡ before ++ entry ∷ [] = c.in_ok-push.ensures.items in
-    let is_after : IsAfter c.loop-entry.after entry.id = subst (λ (o : Option Entry). IfSome o (λ e. IsAfter c.loop-entry.after e.id)) c.in-Some.is c.kept_behind.ensures.behind in
-    let is_kept : IsKept c.args.format entry.id entry.rec = subst (λ (o : Option Entry). IfSome o (λ e. IsKept c.args.format e.id e.rec)) c.in-Some.is c.kept_behind.ensures.kept in
+    let is_after : IsAfter c.loop-entry.after entry.id = subst
+    (λ (o : Option Entry). IfSome o (λ e. IsAfter c.loop-entry.after e.id)) c.in-Some.is c.kept_behind.ensures.behind in
+    let is_kept : IsKept c.args.format entry.id entry.rec = subst
+    (λ (o : Option Entry). IfSome o (λ e. IsKept c.args.format e.id e.rec)) c.in-Some.is c.kept_behind.ensures.kept in
     record {
-      ascends = subst (AscendTo (Some entry.id)) (sym (ap ids_of pushed ∙ map-append (λ (e : Entry). e.id) before (entry ∷ [])))
+      ascends =
+          subst (AscendTo (Some entry.id))
+          (sym (ap ids_of pushed ∙ map-append (λ (e : Entry). e.id) before (entry ∷ [])))
           (ascend_more c.loop-entry.after (ids_of before) entry.id so_far.ascends is_after);
       kept =
           let P : Entry → Type 0 = λ e. IsKept c.args.format e.id e.rec in

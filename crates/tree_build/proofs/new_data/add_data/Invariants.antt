@@ -7,7 +7,8 @@ abbrev pub invariant-loop-rest : goal.invariant-loop-rest
 invariant-loop-rest l = record {
   count : ℕ;
   blocks : l.file.blocks ≡ l.fn.file.blocks + count;
-  parts : HasParts l.format l.list l.fn.file.blocks l.fn.file.bytes.items l.file.bytes.items l.leaves.items l.rest count;
+  parts : HasParts l.format l.list l.fn.file.blocks l.fn.file.bytes.items l.file.bytes.items
+      l.leaves.items l.rest count;
   below : AreBelow (2 ^ 32) l.leaves.items;
 }
 

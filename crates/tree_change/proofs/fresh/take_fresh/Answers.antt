@@ -18,7 +18,8 @@ pub returns-in_err-block-clause-refused : goal.returns-in_err-block-clause-refus
 returns-in_err-block-clause-refused g c =
     let p = err_from_is_err_and c.from_residual.result c.from_residual.ensures.1 in
     let kept = c.loop.invariant in
-    rw (p.1, p.2) (taking_refused _ _ _ _ _ c.loop.fresh.items c.args.limit c.args.count _ _ c.args.heads.now c.loop.now _
+    rw (p.1, p.2)
+    (taking_refused _ _ _ _ _ c.loop.fresh.items c.args.limit c.args.count _ _ c.args.heads.now c.loop.now _
     kept.uses.leaves.later kept.uses.known kept.taken (omega (arith, kept.long)) c.in_err-block.ensures.refused)
 
 pub loop-preserved : goal.loop-preserved
@@ -31,7 +32,8 @@ loop-preserved g c =
     record {
       long = omega (arith, c.push.ensures.len, kept.long);
       most = omega (arith, kept.most, took.most);
-      takes = takes_then c.args.limit ⊤ ⊤ c.args.heads.now c.loop.now c.take_one.new.heads c.args.pages.now c.loop.pages c.take_one.new.pages (λ is. is) kept.takes took.takes;
+      takes = takes_then c.args.limit ⊤ ⊤ c.args.heads.now c.loop.now c.take_one.new.heads c.args.pages.now c.loop.pages
+          c.take_one.new.pages (λ is. is) kept.takes took.takes;
       beside = λ some. subst (λ (xs : List ℕ). times xs 0 ≡ 0) (sym items)
           (omega (
             arith,
@@ -41,14 +43,20 @@ loop-preserved g c =
           ));
       first = took.first ∙ kept.first;
       same = kept.same;
-      brought = subst (λ (xs : List ℕ). (number : ℕ) → StandsIn xs number → is_buffered (pages_of c.take_one.new.pages) number ≡ true) (sym items)
+      brought =
+          subst (λ (xs : List ℕ).
+          (number : ℕ) → StandsIn xs number → is_buffered (pages_of c.take_one.new.pages) number ≡ true) (sym items)
           (λ number stands. elim (stands_either fresh (block ∷ []) number stands) [
             | inl before ↦ took.lends.stay number (kept.brought number before)
             | inr it ↦ ap (is_buffered (pages_of c.take_one.new.pages)) (sym (only_one block number it)) ∙ took.brought
           ]);
       uses = uses_then kept.uses (uses_of_lends took.lends);
-      taken = λ known. subst (λ (xs : List ℕ). TakesFresh xs (shown_over (g.S.Store.seen c.args.store.now) c.args.pages.now) (shown_over (g.S.Store.seen c.take_one.new.store) c.take_one.new.pages) c.args.heads.now c.take_one.new.heads) (sym items)
-          (takes_one_more fresh _ _ _ c.args.heads.now c.loop.now c.take_one.new.heads block (shown_over-lends took.lends) (kept.taken known) (took.taken (kept.uses.known known)));
+      taken =
+          λ known. subst (λ (xs : List ℕ). TakesFresh xs (shown_over (g.S.Store.seen c.args.store.now) c.args.pages.now)
+          (shown_over (g.S.Store.seen c.take_one.new.store) c.take_one.new.pages) c.args.heads.now c.take_one.new.heads)
+          (sym items)
+          (takes_one_more fresh _ _ _ c.args.heads.now c.loop.now c.take_one.new.heads block
+          (shown_over-lends took.lends) (kept.taken known) (took.taken (kept.uses.known known)));
       commits = g.S.Store.commits_on [] [] _ _ _ c.loop.invariant.commits took.commits;
     }
 
@@ -56,4 +64,5 @@ pub returns-in_err-block-clause-full : goal.returns-in_err-block-clause-full
 returns-in_err-block-clause-full g c =
     let p = err_from_is_err_and c.from_residual.result c.from_residual.ensures.1 in
     let kept = c.loop.invariant in
-    rw (p.1, p.2) (tells_since c.args.heads.now c.loop.now c.args.limit _ kept.takes.at_least kept.most c.in_err-block.ensures.full)
+    rw (p.1, p.2)
+    (tells_since c.args.heads.now c.loop.now c.args.limit _ kept.takes.at_least kept.most c.in_err-block.ensures.full)

@@ -21,6 +21,7 @@ invariant-loop g l =
       brought : AreBuffered (pages_of l.pages) l.fresh.items;
       uses : UsesPages S.tells true l.counter (S.seen l.fn.store) (S.seen l.store) l.fn.pages l.pages;
       taken : IsKnown S.tells (S.seen l.fn.store) l.fn.pages
-          → TakesFresh l.fresh.items (shown_over (S.seen l.fn.store) l.fn.pages) (shown_over (S.seen l.store) l.pages) l.fn.heads l.now;
+          → TakesFresh l.fresh.items (shown_over (S.seen l.fn.store) l.fn.pages) (shown_over (S.seen l.store) l.pages)
+          l.fn.heads l.now;
       commits : S.commits [] l.fn.store l.store;
     }

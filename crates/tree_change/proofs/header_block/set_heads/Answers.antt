@@ -12,4 +12,6 @@ returns-clause-set g c = λ known.
     c.write_in.ensures.heads c.write_in.ensures.others
 
 pub returns-clause-lends : goal.returns-clause-lends
-returns-clause-lends g c = lends_of_page _ _ (c.page.follows.holds c.write_in.new.block (ap is_ok c.in_ok-block.was)) c.in_ok-block.ensures.leaves c.page.ensures.reads
+returns-clause-lends g c =
+    lends_of_page _ _ (c.page.follows.holds c.write_in.new.block (ap is_ok c.in_ok-block.was))
+    c.in_ok-block.ensures.leaves c.page.ensures.reads

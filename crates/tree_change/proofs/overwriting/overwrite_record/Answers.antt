@@ -13,7 +13,8 @@ use Rattle.tree_change.proofs.overwriting.overwrite_record.Goals as goal
 pub returns-in_err-place-clause-refused : goal.returns-in_err-place-clause-refused
 returns-in_err-place-clause-refused g c =
     let p = err_from_is_err_and c.from_residual.result c.from_residual.ensures.1 in
-    rw (p.1, p.2) (overwriting_refused _ _ _ c.args.format _ c.args.block c.args.id _ (omega (arith, c.ranges.id.fits)) c.in_err-place.ensures.refused)
+    rw (p.1, p.2) (overwriting_refused _ _ _ c.args.format _ c.args.block c.args.id _ (omega (arith, c.ranges.id.fits))
+    c.in_err-place.ensures.refused)
 
 pub returns-clause-header : goal.returns-clause-header
 returns-clause-header g c = λ other.
@@ -29,8 +30,12 @@ returns-clause-overwritten g c = λ known held heads records led tree.
     let same : between ≡ old = shown_over-looks looked in
     let place : ℕ = c.in_ok-place.place in
     let used : IsSome (record_by c.args.format (block_of between c.args.block) c.args.id place) =
-    subst (λ (file : List ℕ). IsSome (record_by c.args.format (block_of file c.args.block) c.args.id place)) (sym same) (c.in_ok-place.ensures.used known) in
-    let rewrites : RewritesEntry c.args.format c.args.block place (record { id = c.args.id; rec = c.args.rec.now }) old new =
-    subst (λ (file : List ℕ). RewritesEntry c.args.format c.args.block place (record { id = c.args.id; rec = c.args.rec.now }) file new) same
+    subst (λ (file : List ℕ). IsSome (record_by c.args.format (block_of file c.args.block) c.args.id place)) (sym same)
+    (c.in_ok-place.ensures.used known) in
+    let rewrites : RewritesEntry c.args.format c.args.block place
+    (record { id = c.args.id; rec = c.args.rec.now }) old new =
+    subst (λ (file : List ℕ).
+    RewritesEntry c.args.format c.args.block place (record { id = c.args.id; rec = c.args.rec.now }) file new) same
     (c.in_ok-rewrite_record.ensures.rewritten (looked.known known) used) in
-    overwrites held c.args.format old new heads records c.args.block place c.args.id c.args.rec.now (omega (arith, c.ranges.id.fits)) led rewrites tree
+    overwrites held c.args.format old new heads records c.args.block place c.args.id c.args.rec.now
+    (omega (arith, c.ranges.id.fits)) led rewrites tree

@@ -11,7 +11,8 @@ returns-in_err-take_out-clause-refused g c =
     let p = err_from_is_err_and c.from_residual.result c.from_residual.ensures.1 in
     let start = c.heads_in-heads.ensures in
     rw (p.1, p.2) (of_later _ _ _ _ _ _ _ c.in_err-take_out.field-0.0 (omega arith)
-    (λ none is known are value. no_value c.args.id c.args.path.now.found.items c.args.header.now c.heads_in-heads.result _ value are start.blocks start.free start.first is (none known))
+    (λ none is known are value. no_value c.args.id c.args.path.now.found.items c.args.header.now c.heads_in-heads.result
+    _ value are start.blocks start.free start.first is (none known))
     (λ blocks limit full. full) c.in_err-take_out.ensures.refused)
 
 pub returns-clause-removed : goal.returns-clause-removed
@@ -19,12 +20,16 @@ returns-clause-removed g c = λ is known are value stands.
     let start = c.heads_in-heads.ensures in
     let took = c.in_ok-take_out.ensures in
     let wrote = c.in_ok-renew_heads.ensures in
-    removes_record c.args.id c.args.path.now.found.items c.args.header.now c.heads_in-heads.result c.take_out.new.heads _ _ _ value (omega (arith, c.ranges.id.fits)) are start.blocks start.free start.first is c.requires.found stands
+    removes_record c.args.id c.args.path.now.found.items c.args.header.now c.heads_in-heads.result c.take_out.new.heads
+    _ _ _ value (omega (arith, c.ranges.id.fits)) are start.blocks start.free start.first is c.requires.found stands
     (took.taken known) took.blocks wrote.keeps (wrote.set (took.uses.known known))
 
 pub returns-clause-beside : goal.returns-clause-beside
 returns-clause-beside g c =
     let S = g.S.Store in
     let way : List ℕ = c.args.path.now.found.items in
-    subst (λ (first : ℕ). LendsBeside (0 ∷ take 4 way) (get_or way 4 0) first S.tells 5 (S.seen c.args.store.now) (S.seen c.renew_heads.new.store) c.args.pages.now c.renew_heads.new.pages)
-    c.heads_in-heads.ensures.first (beside_headed (get_or way 4 0) c.heads_in-heads.result.first c.in_ok-take_out.ensures.beside c.in_ok-renew_heads.ensures.lends)
+    subst (λ (first : ℕ). LendsBeside (0 ∷ take 4 way) (get_or way 4 0) first S.tells 5 (S.seen c.args.store.now)
+    (S.seen c.renew_heads.new.store) c.args.pages.now c.renew_heads.new.pages)
+    c.heads_in-heads.ensures.first
+    (beside_headed (get_or way 4 0) c.heads_in-heads.result.first c.in_ok-take_out.ensures.beside
+    c.in_ok-renew_heads.ensures.lends)

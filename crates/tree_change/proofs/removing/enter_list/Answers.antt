@@ -9,18 +9,22 @@ use Rattle.free_chains.proofs.RoomLemmas.{enter_room}
 use Rattle.tree_change.proofs.removing.enter_list.Goals as goal
 
 pub enter_entry_list-requires : goal.enter_entry_list-requires
-enter_entry_list-requires g c = λ inside. enter_room (pages_of c.args.pages.now) c.args.block c.args.heads.now.first c.requires.room
+enter_entry_list-requires g c =
+    λ inside. enter_room (pages_of c.args.pages.now) c.args.block c.args.heads.now.first c.requires.room
 
 pub returns-in_err-enter_entry_list-clause-refused :
     goal.returns-in_err-enter_entry_list-clause-refused
 returns-in_err-enter_entry_list-clause-refused g c =
     let p = err_from_is_err_and c.from_residual.result c.from_residual.ensures.1 in
-    rw (p.1, p.2) (of_chain _ _ _ _ _ _ _ (λ number out is known format. entering_no_tree format _ c.args.heads.now (omega (arith, out, is))) c.in_err-enter_entry_list.ensures.refused)
+    rw (p.1, p.2) (of_chain _ _ _ _ _ _ _
+    (λ number out is known format. entering_no_tree format _ c.args.heads.now (omega (arith, out, is)))
+    c.in_err-enter_entry_list.ensures.refused)
 
 pub returns-clause-entered : goal.returns-clause-entered
 returns-clause-entered g c = λ known format.
     let enters = c.in_ok-enter_entry_list.ensures in
-    enters_tree format c.args.block _ _ c.args.heads.now _ enters.head (shown_over-lends enters.lends) (enters.entered known)
+    enters_tree format c.args.block _ _ c.args.heads.now _ enters.head (shown_over-lends enters.lends)
+    (enters.entered known)
 
 pub returns-clause-beside : goal.returns-clause-beside
 returns-clause-beside g c = beside_entered c.args.block c.args.heads.now.first c.in_ok-enter_entry_list.ensures.lends

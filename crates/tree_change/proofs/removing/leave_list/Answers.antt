@@ -12,7 +12,9 @@ pub returns-in_err-leave_entry_list-clause-refused :
     goal.returns-in_err-leave_entry_list-clause-refused
 returns-in_err-leave_entry_list-clause-refused g c =
     let p = err_from_is_err_and c.from_residual.result c.from_residual.ensures.1 in
-    rw (p.1, p.2) (of_chain _ _ _ _ _ _ _ (λ number out stops known format. leaving_no_tree format _ c.args.heads.now c.args.block number out (stops known)) c.in_err-leave_entry_list.ensures.refused)
+    rw (p.1, p.2) (of_chain _ _ _ _ _ _ _
+    (λ number out stops known format. leaving_no_tree format _ c.args.heads.now c.args.block number out (stops known))
+    c.in_err-leave_entry_list.ensures.refused)
 
 pub returns-clause-left : goal.returns-clause-left
 returns-clause-left g c = λ known format.

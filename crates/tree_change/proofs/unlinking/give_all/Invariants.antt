@@ -13,6 +13,7 @@ invariant-loop-block g l =
       lends : LendsSome S.tells true 0 l.given (S.seen l.fn.store) (S.seen l.store) l.fn.pages l.pages;
       uses : UsesPages S.tells true 0 (S.seen l.fn.store) (S.seen l.store) l.fn.pages l.pages;
       gives : IsKnown S.tells (S.seen l.fn.store) l.fn.pages
-          → GivesBut l.given (drop l.block-index l.given) (reverse (take l.block-index l.given)) (shown_over (S.seen l.fn.store) l.fn.pages) (shown_over (S.seen l.store) l.pages) l.fn.heads l.now;
+          → GivesBut l.given (drop l.block-index l.given) (reverse (take l.block-index l.given))
+          (shown_over (S.seen l.fn.store) l.fn.pages) (shown_over (S.seen l.store) l.pages) l.fn.heads l.now;
       commits : S.commits [] l.fn.store l.store;
     }

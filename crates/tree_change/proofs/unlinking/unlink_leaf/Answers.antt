@@ -15,20 +15,28 @@ returns-clause-unlinked g c =
     let way : List ℕ = c.args.path.now.found.items in
     let emptied : List ℕ = c.in_ok-emptied.emptied.items in
     on_ok_weaker
-    {P = IsKnown S.tells (S.seen c.unlink.new.store) c.unlink.new.pages → GivesHeld emptied (shown_over (S.seen c.unlink.new.store) c.unlink.new.pages) (shown_over (S.seen c.give_all.new.store) c.give_all.new.pages) c.args.heads.now c.give_all.new.heads}
+    {P = IsKnown S.tells (S.seen c.unlink.new.store) c.unlink.new.pages
+    → GivesHeld emptied (shown_over (S.seen c.unlink.new.store) c.unlink.new.pages)
+    (shown_over (S.seen c.give_all.new.store) c.give_all.new.pages) c.args.heads.now c.give_all.new.heads}
     c.give_all.result
-    (λ gives known. unlinks_leaf way emptied c.args.id _ _ _ c.args.heads.now c.give_all.new.heads c.requires.found (omega (arith, c.ranges.id.fits)) gone.answered c.give_all.ensures.blocks
-    (gone.words known) (gone.emptied known) (gone.loses known) (shown_over-lends gone.lends) (gives (gone.lends.known known)))
+    (λ gives known. unlinks_leaf way emptied c.args.id _ _ _ c.args.heads.now c.give_all.new.heads c.requires.found
+    (omega (arith, c.ranges.id.fits)) gone.answered c.give_all.ensures.blocks
+    (gone.words known) (gone.emptied known) (gone.loses known) (shown_over-lends gone.lends)
+    (gives (gone.lends.known known)))
     (rw c.as_slice.ensures.value at c.give_all.ensures.given)
 
 pub returns-clause-brought : goal.returns-clause-brought
 returns-clause-brought g c =
-    on_ok_weaker c.give_all.result (λ gives number stands. c.give_all.ensures.uses.stay number (c.in_ok-emptied.ensures.brought number stands)) c.give_all.ensures.given
+    on_ok_weaker c.give_all.result
+    (λ gives number stands. c.give_all.ensures.uses.stay number (c.in_ok-emptied.ensures.brought number stands))
+    c.give_all.ensures.given
 
 pub returns-clause-lends : goal.returns-clause-lends
 returns-clause-lends g c =
     let gone = c.in_ok-emptied.ensures in
     let way : List ℕ = c.args.path.now.found.items in
     on_ok_weaker c.give_all.result
-    (λ gave. lends_more _ (omega arith) (lends_among (take 4 way) (unlinked_among way c.in_ok-emptied.emptied.items c.requires.found gone.answered) (lends_then gone.lends gave)))
+    (λ gave. lends_more _ (omega arith)
+    (lends_among (take 4 way) (unlinked_among way c.in_ok-emptied.emptied.items c.requires.found gone.answered)
+    (lends_then gone.lends gave)))
     (rw c.as_slice.ensures.value at c.give_all.ensures.lends)

@@ -14,50 +14,65 @@ use Rattle.tree_check.proofs.checking.check.Goals as goal
 pub returns-in_err-check_length-clause-refused : goal.returns-in_err-check_length-clause-refused
 returns-in_err-check_length-clause-refused g c =
     let p = err_from_is_err_and c.from_residual.result c.from_residual.ensures.1 in
-    rw (p.1, p.2) (length_refused (g.S.Store.seen c.args.store.now).faults (g.S.Store.seen c.check_length.new.store).faults g.S.Store.tells
-    (bytes_of ((g.S.Store.seen c.args.store.now).files c.args.name.now)) c.args.header.now _ c.in_err-check_length.ensures.refused)
+    rw (p.1, p.2) (length_refused (g.S.Store.seen c.args.store.now).faults
+    (g.S.Store.seen c.check_length.new.store).faults g.S.Store.tells
+    (bytes_of ((g.S.Store.seen c.args.store.now).files c.args.name.now)) c.args.header.now _
+    c.in_err-check_length.ensures.refused)
 
 pub returns-in_err-check_length-clause-only_damaged : goal.returns-in_err-check_length-clause-only_damaged
 returns-in_err-check_length-clause-only_damaged g c =
-    only_damaged (g.S.Store.seen c.args.store.now).faults (g.S.Store.seen c.check_length.new.store).faults g.S.Store.tells
-    (bytes_of ((g.S.Store.seen c.args.store.now).files c.args.name.now)) c.args.header.now c.from_residual.result (returns-in_err-check_length-clause-refused g c)
+    only_damaged (g.S.Store.seen c.args.store.now).faults
+    (g.S.Store.seen c.check_length.new.store).faults g.S.Store.tells
+    (bytes_of ((g.S.Store.seen c.args.store.now).files c.args.name.now)) c.args.header.now c.from_residual.result
+    (returns-in_err-check_length-clause-refused g c)
 
 pub returns-in_err-roles-clause-refused : goal.returns-in_err-roles-clause-refused
 returns-in_err-roles-clause-refused g c =
     let p = err_from_is_err_and c.from_residual-in_err-roles.result c.from_residual-in_err-roles.ensures.1 in
     let length = c.in_ok-check_length.ensures in
-    rw (p.1, p.2) (roles_refused (g.S.Store.seen c.args.store.now).faults (g.S.Store.seen c.check_length.new.store).faults (g.S.Store.seen c.check_roles.new.store).faults
+    rw (p.1, p.2) (roles_refused (g.S.Store.seen c.args.store.now).faults
+    (g.S.Store.seen c.check_length.new.store).faults (g.S.Store.seen c.check_roles.new.store).faults
     g.S.Store.tells (bytes_of ((g.S.Store.seen c.args.store.now).files c.args.name.now))
     (bytes_of ((g.S.Store.seen c.check_length.new.store).files c.args.name.now)) c.args.header.now _
     length.leaves.later (same_bytes _ _ c.args.name.now length.leaves.files) c.in_err-roles.ensures.refused)
 
 pub returns-in_err-roles-clause-only_damaged : goal.returns-in_err-roles-clause-only_damaged
 returns-in_err-roles-clause-only_damaged g c =
-    only_damaged (g.S.Store.seen c.args.store.now).faults (g.S.Store.seen c.check_roles.new.store).faults g.S.Store.tells
-    (bytes_of ((g.S.Store.seen c.args.store.now).files c.args.name.now)) c.args.header.now c.from_residual-in_err-roles.result (returns-in_err-roles-clause-refused g c)
+    only_damaged (g.S.Store.seen c.args.store.now).faults
+    (g.S.Store.seen c.check_roles.new.store).faults g.S.Store.tells
+    (bytes_of ((g.S.Store.seen c.args.store.now).files c.args.name.now)) c.args.header.now
+    c.from_residual-in_err-roles.result (returns-in_err-roles-clause-refused g c)
 
 pub returns-in_err-check_lists-clause-refused : goal.returns-in_err-check_lists-clause-refused
 returns-in_err-check_lists-clause-refused g c =
-    let p = err_from_is_err_and c.from_residual-in_err-check_lists.result c.from_residual-in_err-check_lists.ensures.1 in
+    let p =
+    err_from_is_err_and c.from_residual-in_err-check_lists.result c.from_residual-in_err-check_lists.ensures.1 in
     let length = c.in_ok-check_length.ensures in
     let roles = c.in_ok-roles.ensures in
     let header = c.args.header.now in
     let file : List ℕ = bytes_of ((g.S.Store.seen c.args.store.now).files c.args.name.now) in
-    rw (p.1, p.2) (lists_refused (g.S.Store.seen c.args.store.now).faults (g.S.Store.seen c.check_roles.new.store).faults (g.S.Store.seen c.check_lists.new.store).faults
+    rw (p.1, p.2) (lists_refused (g.S.Store.seen c.args.store.now).faults
+    (g.S.Store.seen c.check_roles.new.store).faults (g.S.Store.seen c.check_lists.new.store).faults
     g.S.Store.tells file
-    (bytes_of ((g.S.Store.seen c.check_roles.new.store).files c.args.name.now)) header (groups_of header.blocks c.as_slice.result.now) _
-    (omega (arith, length.leaves.later, roles.leaves.later)) (same_bytes _ _ c.args.name.now (roles.leaves.files ∙ length.leaves.files))
+    (bytes_of ((g.S.Store.seen c.check_roles.new.store).files c.args.name.now)) header
+    (groups_of header.blocks c.as_slice.result.now) _
+    (omega (arith, length.leaves.later, roles.leaves.later))
+    (same_bytes _ _ c.args.name.now (roles.leaves.files ∙ length.leaves.files))
     (λ told.
     let found : AreRoles file header.blocks header.free c.in_ok-roles.roles =
-    subst (λ (f : List ℕ). AreRoles f header.blocks header.free c.in_ok-roles.roles) (same_bytes _ _ c.args.name.now length.leaves.files)
+    subst (λ (f : List ℕ). AreRoles f header.blocks header.free c.in_ok-roles.roles)
+    (same_bytes _ _ c.args.name.now length.leaves.files)
     (roles.roles told) in
-    subst (λ (sorted : List TreePath). AreGroupsOf header.blocks (leaves file header.blocks) (groups_of header.blocks sorted)) (sym c.as_slice.ensures.value) found.groups)
+    subst (λ (sorted : List TreePath). AreGroupsOf header.blocks (leaves file header.blocks)
+    (groups_of header.blocks sorted)) (sym c.as_slice.ensures.value) found.groups)
     c.in_err-check_lists.ensures.refused)
 
 pub returns-in_err-check_lists-clause-only_damaged : goal.returns-in_err-check_lists-clause-only_damaged
 returns-in_err-check_lists-clause-only_damaged g c =
-    only_damaged (g.S.Store.seen c.args.store.now).faults (g.S.Store.seen c.check_lists.new.store).faults g.S.Store.tells
-    (bytes_of ((g.S.Store.seen c.args.store.now).files c.args.name.now)) c.args.header.now c.from_residual-in_err-check_lists.result (returns-in_err-check_lists-clause-refused g c)
+    only_damaged (g.S.Store.seen c.args.store.now).faults
+    (g.S.Store.seen c.check_lists.new.store).faults g.S.Store.tells
+    (bytes_of ((g.S.Store.seen c.args.store.now).files c.args.name.now)) c.args.header.now
+    c.from_residual-in_err-check_lists.result (returns-in_err-check_lists-clause-refused g c)
 
 pub returns-clause-checked : goal.returns-clause-checked
 returns-clause-checked g c = λ told are.
@@ -68,14 +83,19 @@ returns-clause-checked g c = λ told are.
     let file : List ℕ = bytes_of ((g.S.Store.seen c.args.store.now).files c.args.name.now) in
     let groups : List (List ℕ) = groups_of header.blocks c.as_slice.result.now in
     let found : AreRoles file header.blocks header.free c.in_ok-roles.roles =
-    subst (λ (f : List ℕ). AreRoles f header.blocks header.free c.in_ok-roles.roles) (same_bytes _ _ c.args.name.now length.leaves.files)
+    subst (λ (f : List ℕ). AreRoles f header.blocks header.free c.in_ok-roles.roles)
+    (same_bytes _ _ c.args.name.now length.leaves.files)
     (roles.roles told) in
     let grouped : AreGroupsOf header.blocks (leaves file header.blocks) groups =
-    subst (λ (sorted : List TreePath). AreGroupsOf header.blocks (leaves file header.blocks) (groups_of header.blocks sorted)) (sym c.as_slice.ensures.value) found.groups in
-    let same = same_bytes ((g.S.Store.seen c.args.store.now).files) _ c.args.name.now (roles.leaves.files ∙ length.leaves.files) in
+    subst (λ (sorted : List TreePath). AreGroupsOf header.blocks (leaves file header.blocks)
+    (groups_of header.blocks sorted)) (sym c.as_slice.ensures.value) found.groups in
+    let same =
+    same_bytes ((g.S.Store.seen c.args.store.now).files) _ c.args.name.now (roles.leaves.files ∙ length.leaves.files) in
     let chained : Chained nothing_loose header.format file header.blocks header.first =
-    subst (λ (f : List ℕ). AreGroupsOf header.blocks (leaves f header.blocks) groups → Chained nothing_loose header.format f header.blocks header.first) same (lists.chained told) grouped in
+    subst (λ (f : List ℕ). AreGroupsOf header.blocks (leaves f header.blocks) groups
+    → Chained nothing_loose header.format f header.blocks header.first) same (lists.chained told) grouped in
     let filled : Filled nothing_loose header.format file header.blocks =
-    subst (λ (f : List ℕ). AreGroupsOf header.blocks (leaves f header.blocks) groups → HasNoEmptyBlock f header.blocks → Filled nothing_loose header.format f header.blocks) same
+    subst (λ (f : List ℕ). AreGroupsOf header.blocks (leaves f header.blocks) groups → HasNoEmptyBlock f header.blocks
+    → Filled nothing_loose header.format f header.blocks) same
     (lists.filled told) grouped found.not_empty in
     is_checked file header c.in_ok-roles.roles are c.requires.two (length.long told) found chained filled

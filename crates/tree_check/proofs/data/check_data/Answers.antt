@@ -28,13 +28,17 @@ loop-block-preserved g c =
     let block : ℕ = c.loop-block.block in
     let inside : block < c.args.blocks = c.loop-block-test.true in
     let group : leading_ids groups block ≡ c.as_slice.result.now =
-    led_here c.args.blocks c.args.leaves.now _ block _ _ inside (c.part.ensures.here _ kept.left) c.in_ok-list_numbers.ensures c.as_slice.ensures.value in
-    let same : bytes_of ((g.S.Store.seen c.loop-block.store).files c.args.name.now) ≡ bytes_of ((g.S.Store.seen c.args.store.now).files c.args.name.now) =
+    led_here c.args.blocks c.args.leaves.now _ block _ _ inside (c.part.ensures.here _ kept.left)
+    c.in_ok-list_numbers.ensures c.as_slice.ensures.value in
+    let same : bytes_of ((g.S.Store.seen c.loop-block.store).files c.args.name.now)
+    ≡ bytes_of ((g.S.Store.seen c.args.store.now).files c.args.name.now) =
     ap (λ (files : List ℕ → Option (List ℕ)). bytes_of (files c.args.name.now)) kept.leaves.files in
     record {
       left = c.part.ensures.behind _ kept.left;
-      entries = λ told. entries_more c.args.format _ _ groups block c.as_slice.result.now same group (kept.entries told) (found.entries told);
-      room = λ told. room_more c.args.format _ _ groups block c.args.blocks c.as_slice.result.now _ _ same group inside (kept.room told) (found.room told);
+      entries = λ told. entries_more c.args.format _ _ groups block c.as_slice.result.now same group (kept.entries told)
+          (found.entries told);
+      room = λ told. room_more c.args.format _ _ groups block c.args.blocks c.as_slice.result.now _ _ same group inside
+          (kept.room told) (found.room told);
       leaves = only_reads-then _ _ _ _ kept.leaves found.leaves;
       reads = omega (
         arith,
@@ -49,7 +53,9 @@ loop-block-preserved g c =
 pub returns-clause-room : goal.returns-clause-room
 returns-clause-room g c = λ told.
     let all : c.loop-block.block ≡ c.args.blocks = omega arith in
-    subst (λ (n : ℕ). AreFlagsOf c.args.blocks c.loop-block.room.flags.items (rooms c.args.format (bytes_of ((g.S.Store.seen c.args.store.now).files c.args.name.now)) (groups_of c.args.blocks c.args.leaves.now) n))
+    subst (λ (n : ℕ). AreFlagsOf c.args.blocks c.loop-block.room.flags.items
+    (rooms c.args.format (bytes_of ((g.S.Store.seen c.args.store.now).files c.args.name.now))
+    (groups_of c.args.blocks c.args.leaves.now) n))
     all (c.loop-block.invariant.room told)
 
 pub returns-in_err-check_group-clause-reads : goal.returns-in_err-check_group-clause-reads
@@ -58,7 +64,8 @@ returns-in_err-check_group-clause-reads g c =
     let block : ℕ = c.loop-block.block in
     let inside : block < c.args.blocks = c.loop-block-test.true in
     let group : leading_ids groups block ≡ c.as_slice.result.now =
-    led_here c.args.blocks c.args.leaves.now _ block _ _ inside (c.part.ensures.here _ c.loop-block.invariant.left) c.in_ok-list_numbers.ensures c.as_slice.ensures.value in
+    led_here c.args.blocks c.args.leaves.now _ block _ _ inside (c.part.ensures.here _ c.loop-block.invariant.left)
+    c.in_ok-list_numbers.ensures c.as_slice.ensures.value in
     omega (
       arith,
       c.loop-block.invariant.reads,
@@ -70,13 +77,16 @@ returns-in_err-check_group-clause-reads g c =
 
 pub returns-in_err-check_group-clause-refused : goal.returns-in_err-check_group-clause-refused
 returns-in_err-check_group-clause-refused g c =
-    let p = err_from_is_err_and c.from_residual-in_err-check_group.result c.from_residual-in_err-check_group.ensures.1 in
+    let p =
+    err_from_is_err_and c.from_residual-in_err-check_group.result c.from_residual-in_err-check_group.ensures.1 in
     let kept = c.loop-block.invariant in
     let block : ℕ = c.loop-block.block in
     rw (p.1, p.2) (
-    led_refused (g.S.Store.seen c.args.store.now).faults (g.S.Store.seen c.loop-block.store).faults (g.S.Store.seen c.check_group.new.store).faults g.S.Store.tells c.args.format _ _
+    led_refused (g.S.Store.seen c.args.store.now).faults (g.S.Store.seen c.loop-block.store).faults
+    (g.S.Store.seen c.check_group.new.store).faults g.S.Store.tells c.args.format _ _
     (groups_of c.args.blocks c.args.leaves.now) block c.as_slice.result.now _ kept.leaves.later
     (ap (λ (files : List ℕ → Option (List ℕ)). bytes_of (files c.args.name.now)) kept.leaves.files)
-    (led_here c.args.blocks c.args.leaves.now _ block _ _ c.loop-block-test.true (c.part.ensures.here _ kept.left) c.in_ok-list_numbers.ensures c.as_slice.ensures.value)
+    (led_here c.args.blocks c.args.leaves.now _ block _ _ c.loop-block-test.true (c.part.ensures.here _ kept.left)
+    c.in_ok-list_numbers.ensures c.as_slice.ensures.value)
     c.in_err-check_group.ensures.refused
     )

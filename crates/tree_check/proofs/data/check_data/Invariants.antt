@@ -13,10 +13,13 @@ invariant-loop-block g l =
     record {
       left : AreLeftFrom l.leaves l.block l.rest;
       entries : IsTrue S.tells → (block : ℕ) → block < l.block
-          → HasEntriesOf l.format (bytes_of ((S.seen l.fn.store).files l.name)) block (leading_ids (groups_of l.blocks l.leaves) block);
+          → HasEntriesOf l.format (bytes_of ((S.seen l.fn.store).files l.name)) block
+          (leading_ids (groups_of l.blocks l.leaves) block);
       room : IsTrue S.tells
-          → AreFlagsOf l.blocks l.room.flags.items (rooms l.format (bytes_of ((S.seen l.fn.store).files l.name)) (groups_of l.blocks l.leaves) l.block);
+          → AreFlagsOf l.blocks l.room.flags.items
+          (rooms l.format (bytes_of ((S.seen l.fn.store).files l.name)) (groups_of l.blocks l.leaves) l.block);
       leaves : OnlyReads true l.name (S.seen l.fn.store) (S.seen l.store);
-      reads : (S.seen l.store).reads ≤ (S.seen l.fn.store).reads + led_blocks (take l.block (groups_of l.blocks l.leaves));
+      reads : (S.seen l.store).reads
+          ≤ (S.seen l.fn.store).reads + led_blocks (take l.block (groups_of l.blocks l.leaves));
       commits : S.commits [] l.fn.store l.store;
     }

@@ -9,10 +9,11 @@ returns-in-Some-clause-refused c = rw c.damage_at.ensures (λ numbers is are. re
 })
 
 pub returns-in-Some-first_missing-clause-refused : goal.returns-in-Some-first_missing-clause-refused
-returns-in-Some-first_missing-clause-refused c = rw c.damage_at-in-Some-first_missing.ensures (λ numbers is are. record {
-  defect = c.in-Some-first_missing.ensures numbers _ are is.marked;
-  no_id = refl;
-})
+returns-in-Some-first_missing-clause-refused c =
+    rw c.damage_at-in-Some-first_missing.ensures (λ numbers is are. record {
+      defect = c.in-Some-first_missing.ensures numbers _ are is.marked;
+      no_id = refl;
+    })
 
 pub returns-clause-listed : goal.returns-clause-listed
 returns-clause-listed c = λ numbers is are.

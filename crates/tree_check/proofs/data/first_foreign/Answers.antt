@@ -7,16 +7,21 @@ use Rattle.tree_check.proofs.data.first_foreign.Goals as goal
 
 pub returns-then-not-contains : goal.returns-then-not-contains
 returns-then-not-contains c = λ blocks numbers are inside.
-    let stands = stands_mapped (λ (link : ChainLink). link.block) c.args.links.now c.loop-link.link-index _ c.loop-link-test.true in
+    let stands =
+    stands_mapped (λ (link : ChainLink). link.block) c.args.links.now c.loop-link.link-index _ c.loop-link-test.true in
     (stands, c.if-not-contains.ensures.found blocks numbers are (inside _ stands))
 
 pub loop-link-preserved : goal.loop-link-preserved
 loop-link-preserved c = λ blocks numbers are inside.
-    mapped_more (λ (n : ℕ). StandsIn numbers n) (λ (link : ChainLink). link.block) c.args.links.now c.loop-link.link-index _ c.loop-link-test.true
+    mapped_more (λ (n : ℕ). StandsIn numbers n) (λ (link : ChainLink). link.block) c.args.links.now
+    c.loop-link.link-index _ c.loop-link-test.true
     (c.loop-link.invariant blocks numbers are inside)
-    (c.if-not-contains.ensures.found blocks numbers are (inside _ (stands_mapped (λ (link : ChainLink). link.block) c.args.links.now c.loop-link.link-index _ c.loop-link-test.true)))
+    (c.if-not-contains.ensures.found blocks numbers are
+    (inside _
+    (stands_mapped (λ (link : ChainLink). link.block) c.args.links.now c.loop-link.link-index _ c.loop-link-test.true)))
 
 pub returns : goal.returns
 returns c = λ blocks numbers are inside number stands.
     c.loop-link.invariant blocks numbers are inside number
-    (mapped_all (λ (link : ChainLink). link.block) c.args.links.now c.loop-link.link-index number c.loop-link-test.false stands)
+    (mapped_all (λ (link : ChainLink). link.block) c.args.links.now c.loop-link.link-index number
+    c.loop-link-test.false stands)

@@ -8,5 +8,6 @@ loop-index-init c = All-nil (λ (leaf : TreePath). leaf.block ≡ c.args.block)
 
 pub loop-index-preserved : goal.loop-index-preserved
 loop-index-preserved c =
-    All-more (λ (leaf : TreePath). leaf.block ≡ c.args.block) c.args.leaves.now c.loop-index.index (record { number = 0; block = 0 }) c.loop-index-test.true c.loop-index.invariant
+    All-more (λ (leaf : TreePath). leaf.block ≡ c.args.block) c.args.leaves.now c.loop-index.index
+    (record { number = 0; block = 0 }) c.loop-index-test.true c.loop-index.invariant
     c.if-leaf-block.false

@@ -8,5 +8,6 @@ abbrev pub invariant-loop-block : goal.invariant-loop-block
 invariant-loop-block l = record {
   left : AreLeftFrom l.leaves l.block l.rest;
   marked : (led : List TreePath) → (numbers : List ℕ) → AreGroupsOf l.blocks led (groups_of l.blocks l.leaves)
-      → AreFlagsOf l.blocks l.fn.met.flags.items numbers → AreFlagsOf l.blocks l.met.flags.items (numbers ++ named_blocks l.block led);
+      → AreFlagsOf l.blocks l.fn.met.flags.items numbers
+      → AreFlagsOf l.blocks l.met.flags.items (numbers ++ named_blocks l.block led);
 }

@@ -10,7 +10,8 @@ invariant-gather l = record {
   beside : l.last / 256 ≡ l.leaf.number / 256;
   last : l.last ≡ last_of l.leaf.number l.found.items;
   fits : AreFit l.format l.leaf.number l.found.items;
-  next : (value : QuotaValue) → StandsBy l.format l.lowest l.data_block (l.leaf.number / 256) l.leaf.block value → AreNext value.records l.leaf.number l.found.items;
+  next : (value : QuotaValue) → StandsBy l.format l.lowest l.data_block (l.leaf.number / 256) l.leaf.block value
+      → AreNext value.records l.leaf.number l.found.items;
 }
 
 abbrev pub decreases-gather : goal.decreases-gather

@@ -17,9 +17,11 @@ pub returns-in_ok-finish-in-Ok-clause-done : goal.returns-in_ok-finish-in-Ok-cla
 returns-in_ok-finish-in-Ok-clause-done g c = λ told.
     let S = g.S.Store in
     let put = c.in-Ok.ensures in
-    written S.tells true 12 (S.seen c.args.store.now) (S.seen c.put_record.new.store) c.args.pages.now c.put_record.new.pages c.requires.empty put.uses
+    written S.tells true 12 (S.seen c.args.store.now) (S.seen c.put_record.new.store) c.args.pages.now
+    c.put_record.new.pages c.requires.empty put.uses
     (MayChange c.args.limit (Put c.args.id c.args.rec.now) c.args.header.now c.in-Ok.heads)
-    (λ of value stands. put_changes c.args.limit c.args.id c.args.rec.now value _ _ c.in-Ok.heads (omega arith) stands put.few.1
+    (λ of value stands.
+    put_changes c.args.limit c.args.id c.args.rec.now value _ _ c.in-Ok.heads (omega arith) stands put.few.1
     (put.shown (known_empty S.tells (S.seen c.args.store.now) c.args.pages.now c.requires.empty told) of value stands))
     (S.seen c.finish.new.store).files (c.in_ok-finish-in-Ok.ensures.flushed told)
 
@@ -27,8 +29,14 @@ pub returns-in_ok-finish-in-Ok-clause-known : goal.returns-in_ok-finish-in-Ok-cl
 returns-in_ok-finish-in-Ok-clause-known g c =
     let S = g.S.Store in
     of_named S.tells (S.seen c.args.store.now) c.args.pages.now c.requires.empty c.args.header.now
-    (λ file value. IsSome (get value.records c.args.id) → (S.seen c.finish.new.store).writes ≤ (S.seen c.args.store.now).writes + 1)
-    (λ known of value stands there. omega (arith, c.in-Ok.ensures.known known of value stands there, c.in_ok-finish-in-Ok.ensures.writes, c.in-Ok.ensures.uses.leaves.writes))
+    (λ file value.
+    IsSome (get value.records c.args.id) → (S.seen c.finish.new.store).writes ≤ (S.seen c.args.store.now).writes + 1)
+    (λ known of value stands there. omega (
+      arith,
+      c.in-Ok.ensures.known known of value stands there,
+      c.in_ok-finish-in-Ok.ensures.writes,
+      c.in-Ok.ensures.uses.leaves.writes,
+    ))
 
 pub returns-in_err-finish-in-Ok-clause-ended : goal.returns-in_err-finish-in-Ok-clause-ended
 returns-in_err-finish-in-Ok-clause-ended g c =
@@ -38,32 +46,42 @@ returns-in_err-finish-in-Ok-clause-ended g c =
     rw p.1 (inr (
       p.2,
       λ told.
-          left_so S.tells true 12 (S.seen c.args.store.now) (S.seen c.put_record.new.store) c.args.pages.now c.put_record.new.pages c.requires.empty put.uses
+          left_so S.tells true 12 (S.seen c.args.store.now) (S.seen c.put_record.new.store) c.args.pages.now
+          c.put_record.new.pages c.requires.empty put.uses
           (MayChange c.args.limit (Put c.args.id c.args.rec.now) c.args.header.now) c.in-Ok.heads
-          (λ of value stands. put_changes c.args.limit c.args.id c.args.rec.now value _ _ c.in-Ok.heads (omega arith) stands put.few.1
-          (put.shown (known_empty S.tells (S.seen c.args.store.now) c.args.pages.now c.requires.empty told) of value stands))
+          (λ of value stands.
+          put_changes c.args.limit c.args.id c.args.rec.now value _ _ c.in-Ok.heads (omega arith) stands put.few.1
+          (put.shown (known_empty S.tells (S.seen c.args.store.now) c.args.pages.now c.requires.empty told)
+          of value stands))
           (S.seen c.finish.new.store).files (c.in_err-finish-in-Ok.ensures.torn told),
     ))
 
 pub returns-in-Err-clause-refused : goal.returns-in-Err-clause-refused
 returns-in-Err-clause-refused g c =
     let S = g.S.Store in
-    refused_shown S.tells (S.seen c.args.store.now) c.args.pages.now c.requires.empty c.args.header.now (S.seen c.put_record.new.store).faults c.args.limit c.args.id c.in-Err.fault c.in-Err.ensures.refused
+    refused_shown S.tells (S.seen c.args.store.now) c.args.pages.now c.requires.empty c.args.header.now
+    (S.seen c.put_record.new.store).faults c.args.limit c.args.id c.in-Err.fault c.in-Err.ensures.refused
 
 pub returns-in_ok-finish-in-Ok-clause-leaves : goal.returns-in_ok-finish-in-Ok-clause-leaves
 returns-in_ok-finish-in-Ok-clause-leaves g c =
     let S = g.S.Store in
     let uses = c.in-Ok.ensures.uses in
-    edits_flushed (name_of c.args.pages.now) (name_of c.put_record.new.pages) (S.seen c.args.store.now) (S.seen c.put_record.new.store) (S.seen c.finish.new.store) uses.name uses.leaves c.finish.ensures.leaves c.finish.ensures.written
+    edits_flushed (name_of c.args.pages.now) (name_of c.put_record.new.pages) (S.seen c.args.store.now)
+    (S.seen c.put_record.new.store) (S.seen c.finish.new.store) uses.name uses.leaves c.finish.ensures.leaves
+    c.finish.ensures.written
 
 pub returns-in_err-finish-in-Ok-clause-leaves : goal.returns-in_err-finish-in-Ok-clause-leaves
 returns-in_err-finish-in-Ok-clause-leaves g c =
     let S = g.S.Store in
     let uses = c.in-Ok.ensures.uses in
-    edits_flushed (name_of c.args.pages.now) (name_of c.put_record.new.pages) (S.seen c.args.store.now) (S.seen c.put_record.new.store) (S.seen c.finish.new.store) uses.name uses.leaves c.finish.ensures.leaves c.finish.ensures.written
+    edits_flushed (name_of c.args.pages.now) (name_of c.put_record.new.pages) (S.seen c.args.store.now)
+    (S.seen c.put_record.new.store) (S.seen c.finish.new.store) uses.name uses.leaves c.finish.ensures.leaves
+    c.finish.ensures.written
 
 pub returns-in-Err-clause-leaves : goal.returns-in-Err-clause-leaves
-returns-in-Err-clause-leaves g c = edits_one-read (name_of c.args.pages.now) (g.S.Store.seen c.args.store.now) (g.S.Store.seen c.put_record.new.store) c.in-Err.ensures.uses.leaves
+returns-in-Err-clause-leaves g c =
+    edits_one-read (name_of c.args.pages.now) (g.S.Store.seen c.args.store.now) (g.S.Store.seen c.put_record.new.store)
+    c.in-Err.ensures.uses.leaves
 
 pub returns-in_ok-finish-in-Ok-clause-commits : goal.returns-in_ok-finish-in-Ok-clause-commits
 returns-in_ok-finish-in-Ok-clause-commits g c =
@@ -72,10 +90,13 @@ returns-in_ok-finish-in-Ok-clause-commits g c =
     once_behind S.commits S.commits_on _ _ _ _ _ _ c.put_record.ensures.commits c.finish.ensures.commits
     (λ flushed told. (
       c.in-Ok.heads,
-      written S.tells true 12 (S.seen c.args.store.now) (S.seen c.put_record.new.store) c.args.pages.now c.put_record.new.pages c.requires.empty put.uses
+      written S.tells true 12 (S.seen c.args.store.now) (S.seen c.put_record.new.store) c.args.pages.now
+          c.put_record.new.pages c.requires.empty put.uses
           (MayChange c.args.limit (Put c.args.id c.args.rec.now) c.args.header.now c.in-Ok.heads)
-          (λ of value stands. put_changes c.args.limit c.args.id c.args.rec.now value _ _ c.in-Ok.heads (omega arith) stands put.few.1
-          (put.shown (known_empty S.tells (S.seen c.args.store.now) c.args.pages.now c.requires.empty told) of value stands))
+          (λ of value stands.
+          put_changes c.args.limit c.args.id c.args.rec.now value _ _ c.in-Ok.heads (omega arith) stands put.few.1
+          (put.shown (known_empty S.tells (S.seen c.args.store.now) c.args.pages.now c.requires.empty told)
+          of value stands))
           (S.seen c.finish.new.store).files (flushed told),
     ))
 
@@ -86,10 +107,13 @@ returns-in_err-finish-in-Ok-clause-commits g c =
     once_behind S.commits S.commits_on _ _ _ _ _ _ c.put_record.ensures.commits c.finish.ensures.commits
     (λ flushed told. (
       c.in-Ok.heads,
-      written S.tells true 12 (S.seen c.args.store.now) (S.seen c.put_record.new.store) c.args.pages.now c.put_record.new.pages c.requires.empty put.uses
+      written S.tells true 12 (S.seen c.args.store.now) (S.seen c.put_record.new.store) c.args.pages.now
+          c.put_record.new.pages c.requires.empty put.uses
           (MayChange c.args.limit (Put c.args.id c.args.rec.now) c.args.header.now c.in-Ok.heads)
-          (λ of value stands. put_changes c.args.limit c.args.id c.args.rec.now value _ _ c.in-Ok.heads (omega arith) stands put.few.1
-          (put.shown (known_empty S.tells (S.seen c.args.store.now) c.args.pages.now c.requires.empty told) of value stands))
+          (λ of value stands.
+          put_changes c.args.limit c.args.id c.args.rec.now value _ _ c.in-Ok.heads (omega arith) stands put.few.1
+          (put.shown (known_empty S.tells (S.seen c.args.store.now) c.args.pages.now c.requires.empty told)
+          of value stands))
           (S.seen c.finish.new.store).files (flushed told),
     ))
 

@@ -17,7 +17,8 @@ returns-clause-same c = record {
 pub returns-then-ascends-clause-same : goal.returns-then-ascends-clause-same
 returns-then-ascends-clause-same c =
     let same : c.args.used.now ≡ c.args.ids.now = same_text c.args.used.now c.args.ids.now c.if-eq.ensures in
-    let alike : (id : ℕ) → times c.args.used.now id ≡ times c.args.ids.now id = λ id. ap (λ (xs : List ℕ). times xs id) same in
+    let alike : (id : ℕ) → times c.args.used.now id ≡ times c.args.ids.now id =
+    λ id. ap (λ (xs : List ℕ). times xs id) same in
     record {
       count = refl;
       one = λ id leads. omega (arith, c.if-ascends.ensures id, alike id, leads);

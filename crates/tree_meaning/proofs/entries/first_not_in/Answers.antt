@@ -10,8 +10,11 @@ returns-then-not-contains c =
 
 pub loop-number-preserved : goal.loop-number-preserved
 loop-number-preserved c =
-    stands_more (λ (n : ℕ). StandsIn c.args.others.now n) c.args.numbers.now c.loop-number.number-index (omega arith) c.loop-number.invariant
+    stands_more (λ (n : ℕ). StandsIn c.args.others.now n) c.args.numbers.now c.loop-number.number-index (omega arith)
+    c.loop-number.invariant
     (StandsIn-list_any c.args.others.now _ cc)
 
 pub returns : goal.returns
-returns c = λ number stands. c.loop-number.invariant number (stands_in_all c.args.numbers.now c.loop-number.number-index number (omega arith) stands)
+returns c =
+    λ number stands. c.loop-number.invariant number
+    (stands_in_all c.args.numbers.now c.loop-number.number-index number (omega arith) stands)

@@ -10,7 +10,8 @@ loop-place-init c = record_from-first c.args.format c.args.block.now c.args.id
 
 pub loop-place-preserved-then-not-has_id : goal.loop-place-preserved-then-not-has_id
 loop-place-preserved-then-not-has_id c =
-    let low : c.loop-place.place < entries_per_block c.args.format = omega (arith, c.entries_per_block-place-end.ensures) in
+    let low : c.loop-place.place < entries_per_block c.args.format =
+    omega (arith, c.entries_per_block-place-end.ensures) in
     let rest : Option Rec = record_from c.args.format c.args.block.now c.args.id (c.loop-place.place + 1) in
     c.loop-place.invariant
     ∙ record_from-next c.args.format c.args.block.now c.args.id c.loop-place.place low
@@ -18,7 +19,8 @@ loop-place-preserved-then-not-has_id c =
 
 pub loop-place-preserved : goal.loop-place-preserved
 loop-place-preserved c =
-    let low : c.loop-place.place < entries_per_block c.args.format = omega (arith, c.entries_per_block-place-end.ensures) in
+    let low : c.loop-place.place < entries_per_block c.args.format =
+    omega (arith, c.entries_per_block-place-end.ensures) in
     let rest : Option Rec = record_from c.args.format c.args.block.now c.args.id (c.loop-place.place + 1) in
     c.loop-place.invariant
     ∙ record_from-next c.args.format c.args.block.now c.args.id c.loop-place.place low
@@ -26,7 +28,8 @@ loop-place-preserved c =
 
 pub returns-in-Some-clause-value : goal.returns-in-Some-clause-value
 returns-in-Some-clause-value c =
-    let low : c.loop-place.place < entries_per_block c.args.format = omega (arith, c.entries_per_block-place-end.ensures) in
+    let low : c.loop-place.place < entries_per_block c.args.format =
+    omega (arith, c.entries_per_block-place-end.ensures) in
     let rest : Option Rec = record_from c.args.format c.args.block.now c.args.id (c.loop-place.place + 1) in
     sym (c.loop-place.invariant
     ∙ record_from-next c.args.format c.args.block.now c.args.id c.loop-place.place low

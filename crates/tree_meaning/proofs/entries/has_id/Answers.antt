@@ -12,6 +12,7 @@ returns c =
       | inl same ↦ record { other = subst P (sym same.0) tt }
       | inr apart ↦ record {
         other = subst P (sym apart.0)
-            (other_entry c.args.format c.args.block.now c.args.id c.args.place c.record_size.result c.le32.result c.requires.tree c.record_size.ensures c.le32.ensures apart.1);
+            (other_entry c.args.format c.args.block.now c.args.id c.args.place c.record_size.result c.le32.result
+            c.requires.tree c.record_size.ensures c.le32.ensures apart.1);
       }
     ]

@@ -6,6 +6,7 @@ use Rattle.tree_meaning.proofs.entries.is_full_of.Given as goal
 
 abbrev pub invariant-loop-place : goal.invariant-loop-place
 invariant-loop-place l = record {
-  ids : take l.place l.ids ≡ flat_map (λ place. id_in l.format (entry_bytes l.format l.block place)) (range_with_len 0 l.place);
+  ids : take l.place l.ids
+      ≡ flat_map (λ place. id_in l.format (entry_bytes l.format l.block place)) (range_with_len 0 l.place);
   none : false ≡ list_any (λ place. is_unused (entry_bytes l.format l.block place)) (range_with_len 0 l.place);
 }

@@ -23,13 +23,17 @@ loop-place-preserved c =
 pub returns-clause-ids : goal.returns-clause-ids
 unfolding used_ids
 returns-clause-ids c =
-    let all : c.loop-place.place ≡ entries_per_block c.args.format = omega (arith, c.entries_per_block-place-end.ensures) in
-    subst (λ (n : ℕ). c.loop-place.used.ids.items ≡ flat_map (λ place. id_in c.args.format (entry_bytes c.args.format c.args.block.now place)) (range_with_len 0 n))
+    let all : c.loop-place.place ≡ entries_per_block c.args.format =
+    omega (arith, c.entries_per_block-place-end.ensures) in
+    subst (λ (n : ℕ). c.loop-place.used.ids.items
+    ≡ flat_map (λ place. id_in c.args.format (entry_bytes c.args.format c.args.block.now place)) (range_with_len 0 n))
     all c.loop-place.invariant.ids
 
 pub returns-clause-unused : goal.returns-clause-unused
 unfolding has_unused
 returns-clause-unused c =
-    let all : c.loop-place.place ≡ entries_per_block c.args.format = omega (arith, c.entries_per_block-place-end.ensures) in
-    subst (λ (n : ℕ). c.loop-place.used.has_unused ≡ list_any (λ place. is_unused (entry_bytes c.args.format c.args.block.now place)) (range_with_len 0 n))
+    let all : c.loop-place.place ≡ entries_per_block c.args.format =
+    omega (arith, c.entries_per_block-place-end.ensures) in
+    subst (λ (n : ℕ). c.loop-place.used.has_unused
+    ≡ list_any (λ place. is_unused (entry_bytes c.args.format c.args.block.now place)) (range_with_len 0 n))
     all c.loop-place.invariant.unused

@@ -2,4 +2,11 @@ use Rattle.tree_meaning.proofs.EntryChangeLemmas.{put_entries, put_full, put_len
 use Rattle.tree_meaning.proofs.entry_laws.a_put_entry_is_one_more.Goals as goal
 
 pub returns : goal.returns
-returns c = record { entries = put_entries; ids = put_times; count = put_length; others = put_other; own = put_own; full = put_full }
+returns c = record {
+  entries = put_entries;
+  ids = put_times;
+  count = put_length;
+  others = put_other;
+  own = put_own;
+  full = put_full;
+}

@@ -8,7 +8,8 @@ pub returns-then-is_none-clause-room : goal.returns-then-is_none-clause-room
 unfolding has_unused
 returns-then-is_none-clause-room c =
     let unused : is_unused (entry_bytes c.args.format c.args.block.now c.loop-place.place) ≡ true = search rules in
-    sym (any_there (λ at. is_unused (entry_bytes c.args.format c.args.block.now at)) 0 (entries_per_block c.args.format) c.loop-place.place (omega arith) (omega (arith, c.entries_per_block-place-end.ensures)) unused)
+    sym (any_there (λ at. is_unused (entry_bytes c.args.format c.args.block.now at)) 0 (entries_per_block c.args.format)
+    c.loop-place.place (omega arith) (omega (arith, c.entries_per_block-place-end.ensures)) unused)
 
 pub returns-clause-room : goal.returns-clause-room
 unfolding has_unused

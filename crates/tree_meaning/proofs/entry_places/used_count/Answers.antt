@@ -13,13 +13,22 @@ loop-place-preserved c =
     let f : ℕ → List ℕ = λ p. id_in format (entry_bytes format block p) in
     let more = made_more f place (flat_map f (range_with_len 0 place)) refl in
     let kept = c.loop-place.invariant in record {
-      count = omega (arith, kept.count, c.uses_at-count.ensures.count, ap length more, length-append (flat_map f (range_with_len 0 place)) (f place));
+      count = omega (
+        arith,
+        kept.count,
+        c.uses_at-count.ensures.count,
+        ap length more,
+        length-append (flat_map f (range_with_len 0 place)) (f place),
+      );
       few = omega (arith, kept.few, c.uses_at-count.ensures.one);
     }
 
 pub returns-clause-count : goal.returns-clause-count
 unfolding used_ids
 returns-clause-count c =
-    let all : c.loop-place.place ≡ entries_per_block c.args.format = omega (arith, c.entries_per_block-place-end.ensures) in
-    subst (λ (n : ℕ). c.loop-place.count ≡ length (flat_map (λ place. id_in c.args.format (entry_bytes c.args.format c.args.block.now place)) (range_with_len 0 n)))
+    let all : c.loop-place.place ≡ entries_per_block c.args.format =
+    omega (arith, c.entries_per_block-place-end.ensures) in
+    subst (λ (n : ℕ). c.loop-place.count
+    ≡ length
+    (flat_map (λ place. id_in c.args.format (entry_bytes c.args.format c.args.block.now place)) (range_with_len 0 n)))
     all c.loop-place.invariant.count

@@ -10,17 +10,21 @@ use Rattle.tree_meaning.proofs.ValueLemmas.{sound_value}
 use Rattle.tree_meaning.proofs.laws.a_file_has_a_meaning_where_nothing_is_wrong.Goals as goal
 
 -- a header of a kind has its magic number, and at least two blocks
-header_of_kind : (kind : Kind) (numbers : HeaderNumbers) → header_fault kind numbers ≡ None → (numbers.magic ≡ magic_of kind) × (2 ≤ numbers.blocks)
+header_of_kind : (kind : Kind) (numbers : HeaderNumbers) → header_fault kind numbers ≡ None
+    → (numbers.magic ≡ magic_of kind) × (2 ≤ numbers.blocks)
 header_of_kind kind numbers none = grind (arith, nat_tests)
 
 pub returns : goal.returns
 returns c file kind format fault version =
-    let header : ((header_of file).magic ≡ magic_of kind) × (2 ≤ (header_of file).blocks) = header_of_kind kind (header_of file) fault in (
+    let header : ((header_of file).magic ≡ magic_of kind) × (2 ≤ (header_of file).blocks) =
+    header_of_kind kind (header_of file) fault in (
       λ meaning.
           let found : Some meaning.0.format ≡ Some format = sym meaning.2.version ∙ version in
           let same : meaning.0.format ≡ format = cc in
-          no_defect_of_sound format file (header_of file) (subst (λ (f : Format). IsSound f file (length file) (header_of file)) same meaning.2.sound),
+          no_defect_of_sound format file (header_of file)
+          (subst (λ (f : Format). IsSound f file (length file) (header_of file)) same meaning.2.sound),
       λ no_defect.
-          let value = sound_value file kind format header.0 version (sound_of_no_defect format file (header_of file) header.1 no_defect) in
+          let value = sound_value file kind format header.0 version
+          (sound_of_no_defect format file (header_of file) header.1 no_defect) in
           (value.0, value.2, value.1),
     )

@@ -9,4 +9,5 @@ pub returns-clause-image : goal.returns-clause-image
 returns-clause-image c =
     let first = first_of c.args.self.recorded in
     let calls = calls_of c.args.self.recorded in
-    subst (λ (files : World). LeftAfter first calls files) (sym (c.of.ensures.fresh.read ∙ c.in_ok-left.ensures)) (half-left first calls)
+    subst (λ (files : World). LeftAfter first calls files) (sym (c.of.ensures.fresh.read ∙ c.in_ok-left.ensures))
+    (half-left first calls)

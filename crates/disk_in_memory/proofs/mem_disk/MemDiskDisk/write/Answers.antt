@@ -7,12 +7,15 @@ pub returns-then-next_fails-clause-fault : goal.returns-then-next_fails-clause-f
 returns-then-next_fails-clause-fault c = told_nothing _ _ _ _ _ _ _ _ _ _ refl refl refl c.next_fails.ensures.later
 
 pub returns-then-next_fails-clause-leaves : goal.returns-then-next_fails-clause-leaves
-returns-then-next_fails-clause-leaves c = tears_nothing c.args.name.now c.args.at (length c.args.bytes.now) _ _ (told_nothing _ _ _ _ _ _ _ _ _ _ refl refl refl c.next_fails.ensures.later)
+returns-then-next_fails-clause-leaves c =
+    tears_nothing c.args.name.now c.args.at (length c.args.bytes.now) _ _
+    (told_nothing _ _ _ _ _ _ _ _ _ _ refl refl refl c.next_fails.ensures.later)
 
 pub returns-clause-fault : goal.returns-clause-fault
 returns-clause-fault c =
     on_err_same c.write-done.result c.outcome.result c.outcome.ensures.same
-    (λ nothing. nothing c.args.self.now.failures.faults c.outcome.new.failures.faults (omega arith)) c.write-done.ensures.fault
+    (λ nothing. nothing c.args.self.now.failures.faults c.outcome.new.failures.faults (omega arith))
+    c.write-done.ensures.fault
 
 pub returns-clause-any : goal.returns-clause-any
 returns-clause-any c =

@@ -8,7 +8,8 @@ pub returns-then-is_none-clause-absent : goal.returns-then-is_none-clause-absent
 returns-then-is_none-clause-absent c =
     let adds : AddsNone (names_of c.args.self.now) (names_of c.hand_none.new.self) =
     λ name is. subst (λ (names : UnsyncedNames). IsTrue (names name)) c.hand_none.ensures.unsynced is in
-    let fact : present_of c.args.self.now c.args.from.now ≡ None → AddsNone (names_of c.args.self.now) (names_of c.hand_none.new.self) = λ absent. adds in
+    let fact : present_of c.args.self.now c.args.from.now ≡ None
+    → AddsNone (names_of c.args.self.now) (names_of c.hand_none.new.self) = λ absent. adds in
     on_ok_any _ fact
 
 pub returns-then-is_none-clause-others : goal.returns-then-is_none-clause-others

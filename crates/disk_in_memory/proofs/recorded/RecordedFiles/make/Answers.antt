@@ -12,7 +12,8 @@ returns-clause-ok c =
     on_ok_weaker c.add.result
     (λ added. λ names now failed later less.
     told_step _ _ _ _ c.args.call _ _ names now failed later c.add.ensures.first added
-    (read_more _ _ _ _ c.args.call _ _ c.add.ensures.first added c.args.self.now.replayed c.add.new.self.replayed) c.args.self.now.replayed less)
+    (read_more _ _ _ _ c.args.call _ _ c.add.ensures.first added c.args.self.now.replayed c.add.new.self.replayed)
+    c.args.self.now.replayed less)
     c.add.ensures.ok
 
 pub returns-clause-err : goal.returns-clause-err
@@ -36,7 +37,8 @@ returns-clause-left c =
     (λ added.
     ap (λ (first : World). unsynced_after first (calls_of c.add.new.self)) c.add.ensures.first
     ∙ ap (λ (calls : List DiskCall). unsynced_after (first_of c.args.self.now) calls) added
-    ∙ ap (λ (read : World). unsynced_by c.args.call read (left_unsynced c.args.self.now)) (sym c.args.self.now.replayed))
+    ∙ ap (λ (read : World). unsynced_by c.args.call read (left_unsynced c.args.self.now))
+    (sym c.args.self.now.replayed))
     c.add.ensures.ok
 
 pub returns-clause-stays : goal.returns-clause-stays

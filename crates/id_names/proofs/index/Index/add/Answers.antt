@@ -20,7 +20,8 @@ new c = record { names = c.place_of.new.names; rows = c.push.new.self; first_row
 adds : (c : goal.In_ok-note_row) → Adds c.args.self.now (new c) (row c) (line c)
 unfolding line row new
 adds c =
-    let rows : c.len-row.result ≡ length c.args.self.now.rows.items = omega (arith, c.len-row.ensures, c.args.self.now.rows.ok) in
+    let rows : c.len-row.result ≡ length c.args.self.now.rows.items =
+    omega (arith, c.len-row.ensures, c.args.self.now.rows.ok) in
     record {
       kept = c.in_ok-name.ensures.others;
       name = c.in_ok-name.ensures.place;
@@ -28,7 +29,8 @@ adds c =
       rows = c.in_ok-push.ensures.items;
       ids = c.in_ok-name.ensures.ids;
       first_rows = λ other. c.in_ok-note_row.ensures other
-          ∙ ap (λ (n : ℕ). option_or (get nat_eq c.args.self.now.first_rows other) (if c.args.line.id == other then Some n else None)) rows;
+          ∙ ap (λ (n : ℕ). option_or (get nat_eq c.args.self.now.first_rows other)
+          (if c.args.line.id == other then Some n else None)) rows;
     }
 
 pub returns-clause-lines : goal.returns-clause-lines
@@ -37,4 +39,5 @@ returns-clause-lines c = kept_lines-added c.args.self.now (new c) (row c) (line 
 
 pub returns-clause-index : goal.returns-clause-index
 unfolding line row new
-returns-clause-index c = IsIndex-added c.args.self.now (new c) (row c) (line c) c.requires.index c.requires.name (adds c)
+returns-clause-index c =
+    IsIndex-added c.args.self.now (new c) (row c) (line c) c.requires.index c.requires.name (adds c)

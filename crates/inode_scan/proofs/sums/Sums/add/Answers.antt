@@ -11,18 +11,23 @@ use Rattle.inode_scan.proofs.sums.Sums.add.Goals as goal
 
 pub with_inode-requires : goal.with_inode-requires
 with_inode-requires c =
-    subst (λ (o : Option Used). IfSome o (λ used. (used.space + 512 * c.args.blocks < 2 ^ 128) × (used.inodes + 1 < 2 ^ 64)))
-    (ap (λ (m : UsageMap). get m c.args.id) (sym c.self.view_is) ∙ get_sum c.self.inside.used.entries c.args.id ∙ sym c.in-Some.ensures.value) c.requires
+    subst
+    (λ (o : Option Used). IfSome o (λ used. (used.space + 512 * c.args.blocks < 2 ^ 128) × (used.inodes + 1 < 2 ^ 64)))
+    (ap (λ (m : UsageMap). get m c.args.id) (sym c.self.view_is) ∙ get_sum c.self.inside.used.entries c.args.id
+    ∙ sym c.in-Some.ensures.value) c.requires
 
 pub returns-in-Some : goal.returns-in-Some
 returns-in-Some c =
     let used : Used = c.with_inode.result in
-    let some : lookup (nat_eq c.args.id) c.self.inside.used.entries ≡ Some c.in-Some.used.now = sym c.in-Some.ensures.value in
+    let some : lookup (nat_eq c.args.id) c.self.inside.used.entries ≡ Some c.in-Some.used.now =
+    sym c.in-Some.ensures.value in
     let put = ((c.get_mut.follows.holds used).3 (some_is _ c.in-Some.used.now some)).0 in
     sum_put c.self.inside.used.entries _ c.args.id used put
     ∙ ap (λ (m : UsageMap). insert m c.args.id used) c.self.view_is
     ∙ ap (insert c.args.self.now c.args.id) (c.with_inode.ensures
-    ∙ ap (λ o. with_inode o c.args.blocks) (sym (ap (λ (m : UsageMap). get m c.args.id) (sym c.self.view_is) ∙ get_sum c.self.inside.used.entries c.args.id ∙ some)))
+    ∙ ap (λ o. with_inode o c.args.blocks)
+    (sym (ap (λ (m : UsageMap). get m c.args.id) (sym c.self.view_is)
+    ∙ get_sum c.self.inside.used.entries c.args.id ∙ some)))
 
 pub returns : goal.returns
 returns c =
@@ -32,4 +37,6 @@ returns c =
     sum_put c.self.inside.used.entries c.insert.new.self.entries c.args.id used put
     ∙ ap (λ (m : UsageMap). insert m c.args.id used) c.self.view_is
     ∙ ap (insert c.args.self.now c.args.id) (c.with_inode-2.ensures
-    ∙ ap (λ o. with_inode o c.args.blocks) (sym (ap (λ (m : UsageMap). get m c.args.id) (sym c.self.view_is) ∙ get_sum c.self.inside.used.entries c.args.id ∙ none)))
+    ∙ ap (λ o. with_inode o c.args.blocks)
+    (sym (ap (λ (m : UsageMap). get m c.args.id) (sym c.self.view_is)
+    ∙ get_sum c.self.inside.used.entries c.args.id ∙ none)))

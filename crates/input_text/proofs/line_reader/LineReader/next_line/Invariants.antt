@@ -7,7 +7,8 @@ abbrev pub invariant-pieces : goal.invariant-pieces
 invariant-pieces g l =
     let I = g.I.Source in
     record {
-      told : IsTrue I.tells → l.line.items ++ (l.self.held ++ (I.seen l.source).left) ≡ l.fn.self.held ++ (I.seen l.fn.source).left;
+      told : IsTrue I.tells
+          → l.line.items ++ (l.self.held ++ (I.seen l.source).left) ≡ l.fn.self.held ++ (I.seen l.fn.source).left;
       open_line : list_any is_newline l.line.items ≡ false;
       within : length l.line.items ≤ l.most;
       fits : length l.line.items ≤ l.total - l.self.given;

@@ -13,9 +13,12 @@ returns-clause-leaves g c =
     let others = KeepsOthers-with_file old.files c.args.name.now (Some []) in
     changes_one-seen g.D.Disk.tells c.args.name.now old new _ _ _ _ _ _
     (λ told.
-    by_result c.create-done.result (KeepsOthers c.args.name.now old.files new.files) c.create-done.ensures.ok c.create-done.ensures.fault
-    (λ ok. keeps-either old.files new.files (with_file old.files c.args.name.now (Some [])) c.args.name.now others (inr (ok told)))
-    (λ fault. keeps-either old.files new.files (with_file old.files c.args.name.now (Some [])) c.args.name.now others (fault told)))
+    by_result c.create-done.result (KeepsOthers c.args.name.now old.files new.files) c.create-done.ensures.ok
+    c.create-done.ensures.fault
+    (λ ok. keeps-either old.files new.files (with_file old.files c.args.name.now (Some [])) c.args.name.now others
+    (inr (ok told)))
+    (λ fault. keeps-either old.files new.files (with_file old.files c.args.name.now (Some [])) c.args.name.now
+    others (fault told)))
     c.create-done.ensures.names c.count_fault.ensures.later refl
 
 pub returns-clause-commits : goal.returns-clause-commits

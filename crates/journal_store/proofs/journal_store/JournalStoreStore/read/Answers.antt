@@ -5,7 +5,8 @@ use Rattle.journal_store.proofs.journal_store.JournalStoreStore.read.Goals as go
 
 pub returns-clause-leaves : goal.returns-clause-leaves
 returns-clause-leaves g c =
-    only_reads-seen g.D.Disk.tells c.read-done.result c.args.name.now (told_of c.args.self.now.journal) (told_of c.read-done.new.self) _ _ _ _ _ _ c.read-done.ensures.leaves
+    only_reads-seen g.D.Disk.tells c.read-done.result c.args.name.now (told_of c.args.self.now.journal)
+    (told_of c.read-done.new.self) _ _ _ _ _ _ c.read-done.ensures.leaves
     c.count_fault.ensures.later refl (counted-rose c.read-done.result _ _ c.count_fault.ensures.err)
 
 pub returns-clause-commits : goal.returns-clause-commits

@@ -12,9 +12,12 @@ returns-clause-leaves g c =
     let others = KeepsOthers-with_file old.files c.args.name.now _ in
     changes_one-seen g.D.Disk.tells c.args.name.now old new _ _ _ _ _ _
     (λ told.
-    by_result c.write-done.result (KeepsOthers c.args.name.now old.files new.files) c.write-done.ensures.ok c.write-done.ensures.fault
-    (λ ok. keeps-either old.files new.files (with_bytes old.files c.args.name.now c.args.at c.args.bytes.now) c.args.name.now others (inr (ok told)))
-    (λ fault. keeps-either old.files new.files (with_bytes old.files c.args.name.now c.args.at c.args.bytes.now) c.args.name.now others (fault told)))
+    by_result c.write-done.result (KeepsOthers c.args.name.now old.files new.files) c.write-done.ensures.ok
+    c.write-done.ensures.fault
+    (λ ok. keeps-either old.files new.files (with_bytes old.files c.args.name.now c.args.at c.args.bytes.now)
+    c.args.name.now others (inr (ok told)))
+    (λ fault. keeps-either old.files new.files (with_bytes old.files c.args.name.now c.args.at c.args.bytes.now)
+    c.args.name.now others (fault told)))
     c.write-done.ensures.names c.count_fault.ensures.later refl
 
 pub returns-clause-commits : goal.returns-clause-commits

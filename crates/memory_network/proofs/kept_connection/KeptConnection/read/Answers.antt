@@ -4,5 +4,7 @@ use Rattle.memory_network.proofs.kept_connection.KeptConnection.read.Goals as go
 
 pub returns-clause-bytes : goal.returns-clause-bytes
 returns-clause-bytes c =
-    let long : length c.copy_from_slice.new.self ≡ c.min-count.result = omega (arith, c.copy_from_slice.ensures.len, length-take c.min-count.result c.args.buf.now) in
-    taken_front _ _ _ _ _ (c.copy_from_slice.ensures.after ∙ ap (λ (left : List ℕ). take c.min-count.result left) c.unread-left.ensures) long
+    let long : length c.copy_from_slice.new.self ≡ c.min-count.result =
+    omega (arith, c.copy_from_slice.ensures.len, length-take c.min-count.result c.args.buf.now) in
+    taken_front _ _ _ _ _
+    (c.copy_from_slice.ensures.after ∙ ap (λ (left : List ℕ). take c.min-count.result left) c.unread-left.ensures) long

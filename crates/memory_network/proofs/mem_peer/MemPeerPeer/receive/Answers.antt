@@ -12,6 +12,9 @@ returns-clause-taken c =
     let items : List (Option (Vec ℕ Global)) = c.args.self.now.events.items in
     let at : ℕ = c.args.self.now.taken in
     let there : slice_get items at ≡ Some c.index.result.now =
-    slice_get_read items (length items) at c.index.result.now refl (omega (arith, c.args.self.now.events.ok.0)) c.index.ensures in
-    subst (λ (left : List Event). TakesEvent c.give-got.result c.give-got.new.buf left (drop (at + 1) (events_of items)))
-    (sym (taken_first event_in items at c.index.result.now there)) (c.give-got.ensures.taken (drop (at + 1) (events_of items)))
+    slice_get_read items (length items) at c.index.result.now refl (omega (arith, c.args.self.now.events.ok.0))
+    c.index.ensures in
+    subst
+    (λ (left : List Event). TakesEvent c.give-got.result c.give-got.new.buf left (drop (at + 1) (events_of items)))
+    (sym (taken_first event_in items at c.index.result.now there))
+    (c.give-got.ensures.taken (drop (at + 1) (events_of items)))

@@ -14,7 +14,8 @@ returns-in_err-hand_over-clause-leaves c = record {
 
 pub returns-clause-leaves : goal.returns-clause-leaves
 returns-clause-leaves c = record {
-  files = keeps_other_two-result c.rename.result c.args.from.now c.args.to.now _ _ _ (with_new_name-others _ _ _) c.rename.ensures.ok c.rename.ensures.err;
+  files = keeps_other_two-result c.rename.result c.args.from.now c.args.to.now _ _ _ (with_new_name-others _ _ _)
+      c.rename.ensures.ok c.rename.ensures.err;
   unsynced = handed-others _ _ _ _ _ _ c.in_ok-hand_over.ensures.ok;
   later = omega arith;
   reads = refl;

@@ -14,7 +14,8 @@ returns-in_err-add-clause-leaves c = record {
 
 pub returns-clause-leaves : goal.returns-clause-leaves
 returns-clause-leaves c = record {
-  files = keeps_others-result c.write.result c.args.name.now _ _ _ (KeepsOthers-with_file _ _ _) c.write.ensures.ok c.write.ensures.err;
+  files = keeps_others-result c.write.result c.args.name.now _ _ _ (KeepsOthers-with_file _ _ _) c.write.ensures.ok
+      c.write.ensures.err;
   unsynced = with_name-others_is _ _ _ _ c.in_ok-add.ensures.ok;
   later = omega arith;
   reads = refl;

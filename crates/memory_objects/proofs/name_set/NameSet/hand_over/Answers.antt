@@ -8,7 +8,9 @@ pub returns-clause-ok : goal.returns-clause-ok
 returns-clause-ok c =
     elim c.if-contains.branch [
       | then-contains+in_ok-add w ↦ handed (names_in c.args.self.now.names.items) _ _ c.args.from.now c.args.to.now true
-          (sym c.contains.ensures ∙ w.if-contains.true) (ap (λ n. names_in n.names.items) w.self-is ∙ w.in_ok-add.ensures.ok) c.remove-2.ensures c.requires
+          (sym c.contains.ensures ∙ w.if-contains.true)
+          (ap (λ n. names_in n.names.items) w.self-is ∙ w.in_ok-add.ensures.ok) c.remove-2.ensures c.requires
       | else-contains w ↦ handed (names_in c.args.self.now.names.items) _ _ c.args.from.now c.args.to.now false
-          (sym c.contains.ensures ∙ w.if-contains.false) (ap (λ n. names_in n.names.items) w.self-is ∙ w.remove.ensures) c.remove-2.ensures c.requires
+          (sym c.contains.ensures ∙ w.if-contains.false) (ap (λ n. names_in n.names.items) w.self-is ∙ w.remove.ensures)
+          c.remove-2.ensures c.requires
     ]

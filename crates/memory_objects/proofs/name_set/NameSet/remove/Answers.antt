@@ -9,4 +9,5 @@ use Rattle.memory_objects.proofs.name_set.NameSet.remove.Goals as goal
 pub returns : goal.returns
 returns c =
     names_in-removed c.args.name.now _ _
-    (filter_same _ (λ (text : String Global). not (bytes_eq (string_bytes text) c.args.name.now)) _ (λ x b f' k. search rules) _ _ c.retain.ensures.filtered)
+    (filter_same _ (λ (text : String Global). not (bytes_eq (string_bytes text) c.args.name.now)) _
+    (λ x b f' k. search rules) _ _ c.retain.ensures.filtered)

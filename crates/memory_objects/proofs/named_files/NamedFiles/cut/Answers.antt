@@ -13,7 +13,8 @@ returns-in-Some c =
     let cut : Option (List ℕ) → Option (List ℕ) = λ file. option_map (take c.args.len) file in
     file_named-changed c.args.name.now entries _ c.index_mut.result.now _ found c.index_mut.ensures.value refl
     ∙ ap (λ (bytes : List ℕ). with_file (file_named entries) c.args.name.now (Some bytes)) c.truncate.ensures.items
-    ∙ ap (λ (file : Option (List ℕ)). with_file (file_named entries) c.args.name.now (cut file)) (sym (file_named-found c.args.name.now entries _ c.index_mut.result.now found c.index_mut.ensures.value))
+    ∙ ap (λ (file : Option (List ℕ)). with_file (file_named entries) c.args.name.now (cut file))
+    (sym (file_named-found c.args.name.now entries _ c.index_mut.result.now found c.index_mut.ensures.value))
 
 pub returns-in_default : goal.returns-in_default
 returns-in_default c =

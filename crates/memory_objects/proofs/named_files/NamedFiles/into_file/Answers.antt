@@ -9,4 +9,6 @@ returns-in_err-place c =
     ∙ sym (absent_from_position c.args.name.now _ (sym c.position.ensures ∙ c.in_err-place.was))
 
 pub returns : goal.returns
-returns c = sym (file_named-found c.args.name.now _ c.in_ok-place.place c.swap_remove.result (sym c.position.ensures ∙ c.in_ok-place.was) c.swap_remove.ensures.value)
+returns c =
+    sym (file_named-found c.args.name.now _ c.in_ok-place.place c.swap_remove.result
+    (sym c.position.ensures ∙ c.in_ok-place.was) c.swap_remove.ensures.value)

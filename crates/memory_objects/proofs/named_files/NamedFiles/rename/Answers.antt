@@ -19,6 +19,7 @@ returns-clause-ok c =
     let removed : file_named c.remove.new.self.entries.items ≡ with_file files c.args.to.now None = c.remove.ensures in
     let found = found_from_some c.find.result _ (search rules) c.find.ensures in
     c.set_name.ensures
-    ∙ ap (λ (name : List ℕ). with_new_name (file_named c.remove.new.self.entries.items) c.args.from.now name) c.in_ok-name.ensures.ok
+    ∙ ap (λ (name : List ℕ). with_new_name (file_named c.remove.new.self.entries.items) c.args.from.now name)
+    c.in_ok-name.ensures.ok
     ∙ ap (λ (f : World). with_new_name f c.args.from.now c.args.to.now) removed
     ∙ with_new_name-removed files c.args.from.now c.args.to.now found.0 c.requires found.1

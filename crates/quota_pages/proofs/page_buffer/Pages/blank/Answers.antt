@@ -9,7 +9,9 @@ returns-clause-blank g c = λ known.
     (shown_over-lent _ _ (c.page.follows.holds c.fill.new.self (ap is_ok c.in_ok-page.was)) c.page.ensures.leaves)
 
 pub returns-clause-lends : goal.returns-clause-lends
-returns-clause-lends g c = lends_of_page _ _ (c.page.follows.holds c.fill.new.self (ap is_ok c.in_ok-page.was)) c.in_ok-page.ensures.leaves c.page.ensures.reads
+returns-clause-lends g c =
+    lends_of_page _ _ (c.page.follows.holds c.fill.new.self (ap is_ok c.in_ok-page.was)) c.in_ok-page.ensures.leaves
+    c.page.ensures.reads
 
 pub returns-clause-marked : goal.returns-clause-marked
 returns-clause-marked g c = marked (c.page.follows.holds c.fill.new.self (ap is_ok c.in_ok-page.was))

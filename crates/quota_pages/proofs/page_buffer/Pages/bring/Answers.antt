@@ -14,11 +14,15 @@ read_in-requires-clause-absent g c = c.in-None.ensures
 
 pub returns-in-Some-clause-looked : goal.returns-in-Some-clause-looked
 returns-in-Some-clause-looked g c =
-    looks_at-none _ _ _ _ (has_buffered _ c.in-Some.place c.args.number (has_at c.args.self.now c.in-Some.place c.args.number _ c.in-Some.ensures.0 c.in-Some.ensures.1))
+    looks_at-none _ _ _ _
+    (has_buffered _ c.in-Some.place c.args.number
+    (has_at c.args.self.now c.in-Some.place c.args.number _ c.in-Some.ensures.0 c.in-Some.ensures.1))
 
 pub returns-in-Some-clause-reads : goal.returns-in-Some-clause-reads
 returns-in-Some-clause-reads g c =
-    sym (cond-true _ _ _ (has_buffered c.args.self.now c.in-Some.place c.args.number (has_at c.args.self.now c.in-Some.place c.args.number _ c.in-Some.ensures.0 c.in-Some.ensures.1)))
+    sym (cond-true _ _ _
+    (has_buffered c.args.self.now c.in-Some.place c.args.number
+    (has_at c.args.self.now c.in-Some.place c.args.number _ c.in-Some.ensures.0 c.in-Some.ensures.1)))
 
 pub returns-in-None-clause-reads : goal.returns-in-None-clause-reads
 unfolding pages_of

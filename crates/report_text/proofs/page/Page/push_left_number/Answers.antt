@@ -7,13 +7,18 @@ invariant_of-self c =
     let long = text_length _ _ _ _ c.self.told c.self.invariant.0 c.self.view_is c.self.invariant.1 in
     let put = rw c.count_digits-count.ensures.digits at (rw c.from.ensures at c.write_digits.ensures) in (
       omega (arith, c.requires, long, c.max.ensures, c.count_digits-count.ensures.few),
-      left_spaces _ _ _ _ c.self.told c.self.invariant.0 c.self.view_is c.self.invariant.1 c.args.width _ _ _ (omega (arith, c.requires, long, c.count_digits-count.ensures))
-          c.max.result (rw c.count_digits-count.ensures.digits at c.max.ensures) (omega (arith, c.requires, long, c.max.ensures, c.count_digits-count.ensures.few)) put.start put.before put.written,
+      left_spaces _ _ _ _ c.self.told c.self.invariant.0 c.self.view_is c.self.invariant.1 c.args.width _ _ _
+          (omega (arith, c.requires, long, c.count_digits-count.ensures))
+          c.max.result (rw c.count_digits-count.ensures.digits at c.max.ensures)
+          (omega (arith, c.requires, long, c.max.ensures, c.count_digits-count.ensures.few)) put.start
+          put.before put.written,
     )
 
 pub returns-clause-text : goal.returns-clause-text
 returns-clause-text c =
     let long = text_length _ _ _ _ c.self.told c.self.invariant.0 c.self.view_is c.self.invariant.1 in
     let put = rw c.count_digits-count.ensures.digits at (rw c.from.ensures at c.write_digits.ensures) in
-    left_text _ _ _ _ c.self.told c.self.invariant.0 c.self.view_is c.self.invariant.1 c.args.width _ _ _ (omega (arith, c.requires, long, c.count_digits-count.ensures))
-    c.max.result (rw c.count_digits-count.ensures.digits at c.max.ensures) (omega (arith, c.requires, long, c.max.ensures, c.count_digits-count.ensures.few)) put.start put.before put.written
+    left_text _ _ _ _ c.self.told c.self.invariant.0 c.self.view_is c.self.invariant.1 c.args.width _ _ _
+    (omega (arith, c.requires, long, c.count_digits-count.ensures))
+    c.max.result (rw c.count_digits-count.ensures.digits at c.max.ensures)
+    (omega (arith, c.requires, long, c.max.ensures, c.count_digits-count.ensures.few)) put.start put.before put.written

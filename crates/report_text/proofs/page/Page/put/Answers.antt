@@ -7,7 +7,8 @@ use Rattle.report_text.proofs.page.Page.put.Goals as goal
 pub returns-then-text-gt-CAPACITY-clause-fault : goal.returns-then-text-gt-CAPACITY-clause-fault
 returns-then-text-gt-CAPACITY-clause-fault g c =
     on_err_weaker c.write.result
-    (λ fault told start before gathered. appends_at_write start before _ _ _ _ _ gathered (c.in_ok-flush.ensures.ok told)
+    (λ fault told start before gathered.
+    appends_at_write start before _ _ _ _ _ gathered (c.in_ok-flush.ensures.ok told)
     (fault told))
     c.write.ensures.fault
 

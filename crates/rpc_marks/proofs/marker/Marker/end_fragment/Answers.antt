@@ -12,14 +12,17 @@ returns-then-self-gt0-clause-leads c = λ behind.
 pub returns-then-is_last-clause-leads : goal.returns-then-is_last-clause-leads
 returns-then-is_last-clause-leads c = λ behind.
     let marker = c.args.self.now in
-    ends-record marker.body.items (is_last marker.head.items) marker.left behind (omega arith) (ap is_last (sym c.as_slice.ensures.value) ∙ sym c.is_last.ensures ∙ c.if-is_last.true)
+    ends-record marker.body.items (is_last marker.head.items) marker.left behind (omega arith)
+    (ap is_last (sym c.as_slice.ensures.value) ∙ sym c.is_last.ensures ∙ c.if-is_last.true)
 
 pub returns-then-is_last-clause-anew : goal.returns-then-is_last-clause-anew
 returns-then-is_last-clause-anew c = λ is bytes.
     let marker = c.args.self.now in
-    ap (λ (n : ℕ). front_by marker.head.items marker.body.items n bytes) (omega arith) ∙ at_end marker.head.items marker.body.items bytes c.requires
+    ap (λ (n : ℕ). front_by marker.head.items marker.body.items n bytes) (omega arith)
+    ∙ at_end marker.head.items marker.body.items bytes c.requires
 
 pub returns-clause-leads : goal.returns-clause-leads
 returns-clause-leads c = λ behind.
     let marker = c.args.self.now in
-    ends-fragment marker.body.items c.clear.new.self.items (is_last marker.head.items) marker.left behind (omega arith) (ap is_last (sym c.as_slice.ensures.value) ∙ sym c.is_last.ensures ∙ c.if-is_last.false) c.clear.ensures
+    ends-fragment marker.body.items c.clear.new.self.items (is_last marker.head.items) marker.left behind (omega arith)
+    (ap is_last (sym c.as_slice.ensures.value) ∙ sym c.is_last.ensures ∙ c.if-is_last.false) c.clear.ensures

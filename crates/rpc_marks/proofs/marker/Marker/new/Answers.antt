@@ -5,4 +5,5 @@ use Rattle.rpc_marks.proofs.marker.Marker.new.Goals as goal
 
 pub returns : goal.returns
 returns c = λ bytes.
-    ap (λ (l : List ℕ). front_by l c.new.result.items 0 bytes) c.new-2.ensures ∙ ap (λ (l : List ℕ). front_by [] l 0 bytes) c.new.ensures ∙ at_head [] [] 0 bytes (omega arith)
+    ap (λ (l : List ℕ). front_by l c.new.result.items 0 bytes) c.new-2.ensures
+    ∙ ap (λ (l : List ℕ). front_by [] l 0 bytes) c.new.ensures ∙ at_head [] [] 0 bytes (omega arith)

@@ -16,6 +16,7 @@ returns-clause-serves g c = λ told exported value serves view.
     let ok : is_ok c.push.result ≡ true = c.if-is_err.ensures.negation in
     let pushed : c.push.new.self.items ≡ old ++ export ∷ [] =
     ◌∙◌ {A = List Export} c.push.ensures.items (ap (λ b. if b then (old ++ export ∷ []) else old) ok) in
-    serves-push S.tells (S.seen c.args.store.now).files (S.seen c.open.new.store).files c.args.self.now (record { list = c.push.new.self }) exported c.args.path.now c.args.kind value export
+    serves-push S.tells (S.seen c.args.store.now).files (S.seen c.open.new.store).files c.args.self.now
+    (record { list = c.push.new.self }) exported c.args.path.now c.args.kind value export
     pushed opened.leaves.files (ap (λ (e : ExportSeen). e.path) fresh) (ap (λ (e : ExportSeen). e.kind) fresh)
     (free-of (exports_seen c.args.self.now) c.args.path.now c.args.kind c.requires) (opened.held told value view) serves

@@ -12,10 +12,14 @@ returns-in-Ok g c =
     let done = c.in-Ok.ensures in
     record {
       in_place = record { few = done.few; others = done.others; no_memory = tt };
-      changes = changes_graced S.tells c.args.grace (name_of opened.pages) (name_of c.set_grace_in.new.pages) opened.opened opened.header opened.coming c.none-self.result opened.limit (S.seen c.args.store.now) (S.seen c.set_grace_in.new.store) tt
+      changes =
+          changes_graced S.tells c.args.grace (name_of opened.pages) (name_of c.set_grace_in.new.pages) opened.opened
+          opened.header opened.coming c.none-self.result opened.limit (S.seen c.args.store.now)
+          (S.seen c.set_grace_in.new.store) tt
           done.name done.graced done.synced done.leaves done.reads done.writes c.none-self.ensures.holds;
       commits = once_then S.commits _ _ _ _ _ done.commits
-          (λ graces value holds. stands_graced c.args.grace (name_of opened.pages) (S.seen c.args.store.now).files (S.seen c.set_grace_in.new.store).files holds.file holds.there (graces holds.told) value holds.stands);
+          (λ graces value holds. stands_graced c.args.grace (name_of opened.pages) (S.seen c.args.store.now).files
+          (S.seen c.set_grace_in.new.store).files holds.file holds.there (graces holds.told) value holds.stands);
     }
 
 pub returns-in-Err : goal.returns-in-Err
@@ -24,9 +28,18 @@ returns-in-Err g c =
     let opened = c.args.self.now in
     let failed = c.in-Err.ensures in
     record {
-      in_place = record { few = failed.few; others = failed.others; no_memory = subst WantsNoMemory (sym c.refused.ensures.same) tt };
-      changes = changes_not_graced S.tells c.args.grace (name_of opened.pages) (name_of c.set_grace_in.new.pages) opened.opened c.refused.new.self opened.header opened.coming opened.limit (S.seen c.args.store.now) (S.seen c.set_grace_in.new.store)
-          c.refused.result c.refused.ensures.same failed.name failed.torn failed.cause failed.leaves failed.reads failed.writes (λ name. c.refused.ensures.counted name opened.header.format opened.limit);
+      in_place = record {
+        few = failed.few;
+        others = failed.others;
+        no_memory = subst WantsNoMemory (sym c.refused.ensures.same) tt;
+      };
+      changes =
+          changes_not_graced S.tells c.args.grace (name_of opened.pages) (name_of c.set_grace_in.new.pages)
+          opened.opened c.refused.new.self opened.header opened.coming opened.limit (S.seen c.args.store.now)
+          (S.seen c.set_grace_in.new.store)
+          c.refused.result c.refused.ensures.same failed.name failed.torn failed.cause failed.leaves failed.reads
+          failed.writes (λ name. c.refused.ensures.counted name opened.header.format opened.limit);
       commits = once_then S.commits _ _ _ _ _ failed.commits
-          (λ graces value holds. stands_graced c.args.grace (name_of opened.pages) (S.seen c.args.store.now).files (S.seen c.set_grace_in.new.store).files holds.file holds.there (graces holds.told) value holds.stands);
+          (λ graces value holds. stands_graced c.args.grace (name_of opened.pages) (S.seen c.args.store.now).files
+          (S.seen c.set_grace_in.new.store).files holds.file holds.there (graces holds.told) value holds.stands);
     }
