@@ -2,7 +2,7 @@
 
 use crate::text::Text;
 use crate::usages::setting_of;
-use input_text::number_in;
+use input_text::{next_word, number_in};
 use option_words::{Setting, Tool, scan_words};
 use std::alloc::AllocError;
 
@@ -15,6 +15,8 @@ enum Wanted {
     Blocks,
     /// A limit of inodes.
     Inodes,
+    /// A limit, of blocks or of inodes.
+    Limit,
     /// A grace period.
     Grace,
     /// What is left of a grace period.
@@ -30,6 +32,9 @@ impl Wanted {
                 "a limit of blocks is a number of KiB, or one with K, M, G or T behind it"
             }
             Wanted::Inodes => "a limit of inodes is a number, or one with k, m, g or t behind it",
+            Wanted::Limit => {
+                "a limit is a number, or one with K, M, G or T (of blocks) or k, m, g or t (of inodes) behind it"
+            }
             Wanted::Grace => "a grace period is a number of seconds",
             Wanted::Time => "a time is a number of seconds, or unset",
         }
@@ -109,19 +114,35 @@ pub(crate) fn put_name_reason(
     }
 }
 
-/// Puts what is wrong with a word that is to be a number, which stands in the words of a command, or in a line of an
-/// input.
+/// Where a word stands that is to be a number.
+#[derive(Clone, Copy)]
+pub(crate) enum NumberPlace<'a> {
+    /// Among the words of a command.
+    Words(&'a [String]),
+    /// In a line of limits, which may be at hand.
+    Line(Option<&'a [u8]>),
+}
+
+impl NumberPlace<'_> {
+    /// What the word is wanted for that was refused there.
+    fn wanted(self, number: &[u8]) -> Wanted {
+        match self {
+            NumberPlace::Words(words) => wanted_of(words, number),
+            NumberPlace::Line(Some(line)) => {
+                wanted_in_line(line, number).unwrap_or(wanted_by_form(number))
+            }
+            NumberPlace::Line(None) => wanted_by_form(number),
+        }
+    }
+}
+
+/// Puts what is wrong with a word that is to be a number, and stands there.
 pub(crate) fn put_number_reason(
     text: &mut Text,
-    words: &[String],
-    in_input: bool,
+    place: NumberPlace<'_>,
     number: &[u8],
 ) -> Result<(), AllocError> {
-    let wanted = if in_input {
-        wanted_in_line(number)
-    } else {
-        wanted_of(words, number)
-    };
+    let wanted = place.wanted(number);
     text.put_shown(number)?;
     if wanted.has_form(number) {
         text.put(": too large; ")?;
@@ -131,12 +152,34 @@ pub(crate) fn put_number_reason(
     text.put(wanted.text())
 }
 
-/// What a word of digits at the front, or another one, is wanted for in a line of limits.
-fn wanted_in_line(number: &[u8]) -> Wanted {
-    match number.last() {
-        Some(last) if Wanted::Blocks.suffixes().contains(last) => Wanted::Inodes,
-        Some(last) if Wanted::Inodes.suffixes().contains(last) => Wanted::Blocks,
-        _ => Wanted::Blocks,
+/// How many words a line of limits has.
+const WORDS_OF_LINE: usize = 5;
+
+/// What a word is wanted for that was refused in a line of limits: by the first place where it stands and may be
+/// refused.
+fn wanted_in_line(line: &[u8], number: &[u8]) -> Option<Wanted> {
+    let mut rest = line;
+    for place in 0..WORDS_OF_LINE {
+        let (word, behind) = next_word(rest)?;
+        let wanted = wanted_at(place, false);
+        if word == number && wanted.may_refuse(number) {
+            return Some(wanted);
+        }
+        rest = behind;
+    }
+    None
+}
+
+/// What a word is wanted for that was refused in a line of limits which is not at hand.
+fn wanted_by_form(number: &[u8]) -> Wanted {
+    match (
+        Wanted::Blocks.may_refuse(number),
+        Wanted::Inodes.may_refuse(number),
+    ) {
+        (true, true) => Wanted::Limit,
+        (true, false) => Wanted::Blocks,
+        (false, true) => Wanted::Inodes,
+        (false, false) => Wanted::Identifier,
     }
 }
 

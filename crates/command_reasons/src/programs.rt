@@ -4,12 +4,14 @@ ghost use Rattle.std.specs.Prelude.{IfOk, IfSome, IsTrue, string_bytes};
 ghost use Rattle.std.specs.List.{list_all};
 ghost use Rattle.error_lines.specs.Shown.{is_printed};
 
-use crate::files::put_file_reason;
-use crate::tables::FILE_NAME;
+use crate::files::{FileWords, put_file_reason};
+use crate::tables::{FILE_NAME, NO_REPLY};
 use crate::text::Text;
 use crate::word_places::word_at;
 use error_lines::{Said, read_error_line, shown};
 use input_text::number_in;
+use option_words::read_format;
+use quota_types::Format;
 use refusals::UsageKind;
 use std::alloc::{AllocError, Global};
 
@@ -95,7 +97,10 @@ pub fn program_reason(
             )?;
             true
         }
-        Said::OfFile { file, what } => put_file_reason(&mut text, file, what)?,
+        Said::OfFile { file, what } => {
+            let words = FileWords::of_streams(format_in(words));
+            put_file_reason(&mut text, words, file, what)?
+        }
         _ => false,
     };
     if is_known {
@@ -103,6 +108,33 @@ pub fn program_reason(
     } else {
         Ok(None)
     }
+}
+
+/// Why a run of `quota_client` with these words ended with status 1, by the last line that it printed, without the
+/// newline; none where no more is known than that has.
+///
+/// # Errors
+///
+/// There is not enough memory.
+pub fn reply_reason(
+    alloc: Global,
+    printed: &[u8],
+    words: &[String],
+) -> Result<Option<String>, AllocError>
+    ensures printed { IfOk result (λ reason. IfSome reason (λ text. IsTrue (list_all is_printed (string_bytes text)))) }
+{
+    if !printed.ends_with(b": no reply") {
+        return Ok(None);
+    }
+    let mut text = Text::new(alloc);
+    text.put("UDP port ")?;
+    text.put_of(word_at(words, 1).unwrap_or(""), NO_REPLY)?;
+    Ok(Some(shown(alloc, text.as_bytes(), usize::MAX)?))
+}
+
+/// The format that the words of `rquotad_tcp` ask for; none where it is any.
+fn format_in(words: &[String]) -> Option<Format> {
+    read_format(word_at(words, 2)?, 2).ok()
 }
 
 /// Puts what is wrong with the words of a program.

@@ -2,14 +2,15 @@ ghost use Rattle.std.specs.Prelude.{IfOk, IfSome, IsTrue, string_bytes};
 ghost use Rattle.std.specs.List.{list_all};
 ghost use Rattle.error_lines.specs.Shown.{is_printed};
 
-use crate::files::put_file_reason;
+use crate::files::{FileWords, put_file_reason, put_irregular};
 use crate::lines::{LineFault, Lines, line_at, put_conflict, put_line_reason};
-use crate::numbers::{put_name_reason, put_number_reason};
+use crate::numbers::{NumberPlace, put_name_reason, put_number_reason};
+use crate::tables::NO_LINE;
 use crate::text::Text;
 use crate::usages::{Words, put_usage_reason, setting_of};
 use error_lines::{ErrorLine, Said, read_error_line, shown};
 use input_text::{next_word, number_in};
-use option_words::Setting;
+use option_words::{Setting, Tool};
 use std::alloc::{AllocError, Global};
 
 /// Why a run was refused, by its error line without the newline: what is wrong with the words or the line that it
@@ -30,28 +31,93 @@ pub fn reason_of<L: Lines>(
         return Ok(None);
     };
     let mut text = Text::new(alloc);
-    if put_reason(alloc, &mut text, &read, words, lines)? {
+    if put_reason(alloc, &mut text, &read, words, lines, None)? {
         Ok(Some(shown(alloc, text.as_bytes(), usize::MAX)?))
     } else {
         Ok(None)
     }
 }
 
-/// Puts the reason of an error line, and answers whether there is one. Of a command in a script its words are those of
-/// the script's line.
+/// Why the system refused a file that the words name, in these words of the system, by the error line without the
+/// newline: what to do, where more is known than that.
+///
+/// # Errors
+///
+/// There is not enough memory.
+pub fn refused_file_reason<L: Lines>(
+    alloc: Global,
+    error_line: &[u8],
+    words: &[String],
+    lines: &L,
+    file: &str,
+    why: &str,
+) -> Result<Option<String>, AllocError>
+    ensures printed { IfOk result (λ reason. IfSome reason (λ text. IsTrue (list_all is_printed (string_bytes text)))) }
+{
+    let Some(read) = read_error_line(error_line) else {
+        return Ok(None);
+    };
+    let mut text = Text::new(alloc);
+    let refused = RefusedFile { file, why };
+    if put_reason(alloc, &mut text, &read, words, lines, Some(refused))? {
+        Ok(Some(shown(alloc, text.as_bytes(), usize::MAX)?))
+    } else {
+        Ok(None)
+    }
+}
+
+/// What there is to note of a command that was carried out with status 0: that the listing of `quotacheck` had no line.
+///
+/// # Errors
+///
+/// There is not enough memory.
+pub fn note_of<L: Lines>(
+    alloc: Global,
+    words: &[String],
+    lines: &L,
+) -> Result<Option<String>, AllocError>
+    ensures printed { IfOk result (λ note. IfSome note (λ text. IsTrue (list_all is_printed (string_bytes text)))) }
+{
+    let Some(name) = words.first() else {
+        return Ok(None);
+    };
+    if Tool::named(name.as_str()) != Some(Tool::Quotacheck) {
+        return Ok(None);
+    }
+    let input = setting_of(words, Setting::Input);
+    if !lines.are_none_of(input) {
+        return Ok(None);
+    }
+    let mut text = Text::new(alloc);
+    text.put_of(input.unwrap_or("input"), NO_LINE)?;
+    Ok(Some(shown(alloc, text.as_bytes(), usize::MAX)?))
+}
+
+/// A file that the system refused.
+#[derive(Clone, Copy)]
+struct RefusedFile<'a> {
+    /// The file.
+    file: &'a str,
+    /// Why, in words of the system.
+    why: &'a str,
+}
+
+/// Puts the reason of an error line, of a file that the system refused where there is one, and answers whether more is
+/// known. Of a command in a script its words are those of the script's line.
 fn put_reason<L: Lines>(
     alloc: Global,
     text: &mut Text,
     read: &ErrorLine<'_>,
     words: &[String],
     lines: &L,
+    refused: Option<RefusedFile<'_>>,
 ) -> Result<bool, AllocError> {
     let Some(number) = read.line else {
         let words = Words {
             all: words,
             in_script: false,
         };
-        return put_said(text, read, words, lines);
+        return put_told(text, read, words, lines, refused);
     };
     let Some(line) = line_at(lines, None, number) else {
         return Ok(false);
@@ -61,7 +127,24 @@ fn put_reason<L: Lines>(
         all: words.as_slice(),
         in_script: true,
     };
-    put_said(text, read, words, lines)
+    put_told(text, read, words, lines, refused)
+}
+
+/// Puts the reason of what is said, or of a file that the system refused, and answers whether there is one.
+fn put_told<L: Lines>(
+    text: &mut Text,
+    read: &ErrorLine<'_>,
+    words: Words<'_>,
+    lines: &L,
+    refused: Option<RefusedFile<'_>>,
+) -> Result<bool, AllocError> {
+    match refused {
+        Some(RefusedFile { file, why }) => {
+            let file = file.as_bytes();
+            put_irregular(text, FileWords::of(words, file), file, why)
+        }
+        None => put_said(text, read, words, lines),
+    }
 }
 
 /// Puts the reason of what is said, and answers whether there is one.
@@ -81,7 +164,7 @@ fn put_said<L: Lines>(
         }
         Said::BadNumber(number) => {
             put_input_line(text, read, words.all, lines)?;
-            put_number_reason(text, words.all, read.input_line.is_some(), number)?
+            put_number_reason(text, number_place(read, words.all, lines), number)?
         }
         Said::BadForm(line) => {
             put_form_line(text, words.all, lines, line)?;
@@ -96,7 +179,9 @@ fn put_said<L: Lines>(
             put_line_reason(text, words.all, lines, input, line, LineFault::Long)?
         }
         Said::Conflict { input, line, .. } => put_conflict(text, lines, input, line)?,
-        Said::OfFile { file, what } => return put_file_reason(text, file, what),
+        Said::OfFile { file, what } => {
+            return put_file_reason(text, FileWords::of(words, file), file, what);
+        }
         Said::Other(b"want of memory") => {
             text.put("free memory, or raise the limit of the process (ulimit -v)")?
         }
@@ -118,6 +203,23 @@ fn put_input_line<L: Lines>(
     }
 }
 
+/// Where the number stands that was refused.
+fn number_place<'a, L: Lines>(
+    read: &ErrorLine<'_>,
+    words: &'a [String],
+    lines: &'a L,
+) -> NumberPlace<'a> {
+    match read.input_line {
+        Some(number) => NumberPlace::Line(form_line(words, lines, number)),
+        None => NumberPlace::Words(words),
+    }
+}
+
+/// The line of this number of the input that words name, where it is at hand.
+fn form_line<'a, L: Lines>(words: &[String], lines: &'a L, number: &[u8]) -> Option<&'a [u8]> {
+    line_at(lines, setting_of(words, Setting::Input), number)
+}
+
 /// Puts the line of this number of the input that words name, where it is at hand.
 fn put_form_line<L: Lines>(
     text: &mut Text,
@@ -125,7 +227,7 @@ fn put_form_line<L: Lines>(
     lines: &L,
     number: &[u8],
 ) -> Result<(), AllocError> {
-    if let Some(line) = line_at(lines, setting_of(words, Setting::Input), number) {
+    if let Some(line) = form_line(words, lines, number) {
         text.put_shown(line)?;
         text.put(": ")?;
     }

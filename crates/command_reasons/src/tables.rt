@@ -1,6 +1,7 @@
 //! What is wanted of each option, operand, line and file.
 
 use option_words::{Flags, Setting, Tool};
+use quota_types::Format;
 
 /// The commands.
 pub(crate) const COMMANDS: &str =
@@ -13,6 +14,42 @@ pub(crate) const FORMATS: &str = "vfsold, vfsold32, vfsv0 or vfsv1";
 pub(crate) const FILE_NAME: &str =
     "the name of a file has 1 to 250 bytes from ! to ~, no blank and no letter outside of ASCII, \
      and does not end in .new, .undo or .und; go into the folder first";
+
+/// How the system says that a file is a device, a pipe or the like.
+pub(crate) const IRREGULAR: &str = "Not a regular file";
+
+/// Why a port gives no reply.
+pub(crate) const NO_REPLY: &str =
+    "look whether rquotad serves at that --port, or has answered its --calls, and whether a firewall keeps datagrams out";
+
+/// What is said of a listing without a line.
+pub(crate) const NO_LINE: &str = "the input had no line, so all use was set to 0";
+
+/// What is read of a file.
+#[derive(Clone, Copy, PartialEq, Eq)]
+pub(crate) enum FileUse {
+    /// Quotas.
+    Quotas,
+    /// Names.
+    Names,
+    /// The lines of an input.
+    Input,
+    /// The lines of an input of a command in a script.
+    ScriptInput,
+}
+
+/// How the format of a quota file is given.
+#[derive(Clone, Copy, PartialEq, Eq)]
+pub(crate) enum FormatWord {
+    /// By `-F FORMAT`.
+    Letter,
+    /// By `-f OLD,NEW`.
+    Conversion,
+    /// By `--format FORMAT`.
+    Served,
+    /// By the word FORMAT.
+    Streamed,
+}
 
 /// What the operands of a form are.
 #[derive(Clone, Copy)]
@@ -145,11 +182,13 @@ pub(crate) fn longest_line(tool: Tool) -> &'static str {
 }
 
 /// What to do about what is said of a file.
-pub(crate) fn file_advice(what: &str) -> Option<&'static str> {
+pub(crate) fn file_advice(
+    what: &str,
+    used_for: FileUse,
+    given_by: FormatWord,
+) -> Option<&'static str> {
     match what {
-        "no such file" => {
-            Some("look at the name; quota_cli quotacheck -c makes a new quota file of a listing")
-        }
+        "no such file" => Some(absent_advice(used_for)),
         "too large" => Some(
             "it has more bytes than are read; look at the name, or split the input",
         ),
@@ -157,17 +196,85 @@ pub(crate) fn file_advice(what: &str) -> Option<&'static str> {
             Some("convertquota replaces no file; choose another name, or move that file away")
         }
         "same name" => Some("TARGET has to be another file than SOURCE"),
-        "not a quota file" => {
-            Some(
-                "it does not begin as a tree file does; a flat file needs -F vfsold or -F vfsold32",
-            )
-        }
-        "wrong kind" => {
-            Some("its header has another kind; -u is for users, -g for groups and -P for projects")
-        }
+        "not a quota file" => Some(flat_advice(given_by)),
+        "wrong kind" => Some(kind_advice(given_by)),
         "unknown version" => Some("its version is neither 0 nor 1; treat it as damaged"),
         "bad block count" => Some("its header has fewer than two blocks; treat it as damaged"),
-        "other format" => Some("leave the format away, or give the one that it has"),
         _ => None,
+    }
+}
+
+/// What to do about a file that is not there.
+fn absent_advice(used_for: FileUse) -> &'static str {
+    match used_for {
+        FileUse::Quotas => {
+            "look at the name, and whether its file system is mounted; \
+             quota_cli quotacheck -c makes a new quota file of a listing"
+        }
+        FileUse::Names => {
+            "look at the name; --names is a file of names, as /etc/passwd, /etc/group or /etc/projid"
+        }
+        FileUse::Input => "look at the name; where --input is left away the standard input is read",
+        FileUse::ScriptInput => "look at the name; --input is a file of lines for that command",
+    }
+}
+
+/// What to do about a file that is no regular one; none where no more is known than that.
+pub(crate) fn irregular_advice(used_for: FileUse) -> Option<&'static str> {
+    match used_for {
+        FileUse::Quotas => None,
+        FileUse::Names => Some("write the names into a regular file"),
+        FileUse::Input => Some("leave --input away, and the standard input is read"),
+        FileUse::ScriptInput => Some("write the lines into a regular file"),
+    }
+}
+
+/// What to do about a file that does not begin as a tree file does.
+fn flat_advice(given_by: FormatWord) -> &'static str {
+    match given_by {
+        FormatWord::Letter => {
+            "it does not begin as a tree file does; a flat file needs -F vfsold or -F vfsold32"
+        }
+        FormatWord::Conversion => {
+            "it does not begin as a tree file does; a flat file needs -f vfsold,NEW or -f vfsold32,NEW"
+        }
+        FormatWord::Served => {
+            "it does not begin as a tree file does; a flat file needs --format vfsold or --format vfsold32"
+        }
+        FormatWord::Streamed => {
+            "it does not begin as a tree file does; of flat files FORMAT is vfsold or vfsold32"
+        }
+    }
+}
+
+/// What to do about a file of another kind.
+fn kind_advice(given_by: FormatWord) -> &'static str {
+    match given_by {
+        FormatWord::Letter | FormatWord::Conversion => {
+            "its header has another kind; -u is for users, -g for groups and -P for projects"
+        }
+        FormatWord::Served | FormatWord::Streamed => {
+            "its header has another kind; KIND is user, group or project"
+        }
+    }
+}
+
+/// What to do about a file of another format.
+pub(crate) fn other_advice(given_by: FormatWord) -> &'static str {
+    match given_by {
+        FormatWord::Letter => "leave -F away, or give that one",
+        FormatWord::Conversion => "give that one as OLD in -f OLD,NEW",
+        FormatWord::Served => "leave --format away, or give that one",
+        FormatWord::Streamed => "give that one as FORMAT, or any",
+    }
+}
+
+/// The name of a format.
+pub(crate) fn format_name(format: Format) -> &'static str {
+    match format {
+        Format::V1 => "vfsold",
+        Format::V1R32 => "vfsold32",
+        Format::V2R0 => "vfsv0",
+        Format::V2R1 => "vfsv1",
     }
 }

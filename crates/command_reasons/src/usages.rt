@@ -4,7 +4,7 @@ use crate::tables::{
     COMMANDS, FILE_NAME, Form, form_of, options_of, tool_name, value_name, value_wanted,
 };
 use crate::text::Text;
-use crate::word_places::{is_of_file, next_kind_word, value_from, word_at};
+use crate::word_places::{is_of_file, next_kind_word, unknown_letter, value_from, word_at};
 use option_words::{Given, Setting, Switch, Tool, is_export_path, scan_words};
 use quota_types::Kind;
 use refusals::UsageKind;
@@ -65,6 +65,7 @@ fn put_fault(
         UsageKind::NoCommand | UsageKind::UnknownCommand => Ok(()),
         UsageKind::UnknownOption => {
             put_word(text, words.all, at)?;
+            put_unknown_letter(text, words.all, tool, at)?;
             text.put_all(&[
                 "the options of ",
                 tool_name(tool),
@@ -94,6 +95,21 @@ fn put_word(text: &mut Text, words: &[String], at: u64) -> Result<(), AllocError
         Some(word) => text.put_of(word, ""),
         None => Ok(()),
     }
+}
+
+/// Puts which letter of a word with several is no option.
+fn put_unknown_letter(
+    text: &mut Text,
+    words: &[String],
+    tool: Tool,
+    at: u64,
+) -> Result<(), AllocError> {
+    let Some(letter) = unknown_letter(tool, word_at(words, at).unwrap_or("")) else {
+        return Ok(());
+    };
+    text.put("no option -")?;
+    text.put_shown(&[letter])?;
+    text.put("; ")
 }
 
 /// Puts which value is missing behind an option.

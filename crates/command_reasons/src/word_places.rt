@@ -76,6 +76,22 @@ fn letters_value<'a>(tool: Tool, word: &'a str, next: Option<&'a str>) -> Option
     None
 }
 
+/// The first letter of a word that is no option, where the word has several letters and that one is ASCII.
+pub(crate) fn unknown_letter(tool: Tool, word: &str) -> Option<u8> {
+    if word.len() < 3 || !holds_options(word) || word.starts_with("--") {
+        return None;
+    }
+    for letter in &word.as_bytes()[1..] {
+        match tool.letter_switch(*letter) {
+            Some(Switch::Setting(_)) => return None,
+            Some(_) => {}
+            None if letter.is_ascii() => return Some(*letter),
+            None => return None,
+        }
+    }
+    None
+}
+
 /// Whether a setting is one of files.
 pub(crate) fn is_of_file(setting: Setting) -> bool {
     matches!(setting, Setting::Names | Setting::Input)

@@ -21,6 +21,10 @@ impl Lines for ReadText {
     fn of_file(&self, _name: &str, number: u64) -> Option<&[u8]> {
         self.text.line(number)
     }
+
+    fn are_none_of(&self, _name: Option<&str>) -> bool {
+        self.text.taken() == 0
+    }
 }
 
 /// Words that are separated by single spaces; none of an empty text.
