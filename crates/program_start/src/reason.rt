@@ -174,6 +174,40 @@ pub fn add_reason<E: Sink>(
     let Some(reason) = reason else {
         return;
     };
+    write_reason(err, called, reason, alloc);
+}
+
+/// Writes behind what a run with status 0 wrote what there is to note of it, where that is asked for and known, and
+/// there is memory for the line.
+pub fn add_note<E: Sink>(
+    err: &mut E,
+    is_asked: bool,
+    called: &str,
+    note: Option<&str>,
+    alloc: Global,
+)
+    ensures quiet { is_asked ≡ false → err.new ≡ err.old }
+    ensures unknown { note.entry ≡ None → err.new ≡ err.old }
+    ensures line { IfSome note.entry (λ note. IsTrue E.tells → (err.new ≡ err.old)
+        ⊎ ((line : List ℕ) × IsReasonLine called.now (TextOf note) line
+        × AppendsPrefix (E.seen err.old).written (E.seen err.new).written line)) }
+    ensures later { (E.seen err.old).faults ≤ (E.seen err.new).faults }
+{
+    if !is_asked {
+        return;
+    }
+    if let Some(note) = note {
+        write_reason(err, called, Reason::Text(note), alloc);
+    }
+}
+
+/// Writes the line of a reason, where there is memory for it.
+fn write_reason<E: Sink>(err: &mut E, called: &str, reason: Reason<'_>, alloc: Global)
+    ensures line { IsTrue E.tells → (err.new ≡ err.old)
+        ⊎ ((line : List ℕ) × IsReasonLine called.now reason.entry line
+        × AppendsPrefix (E.seen err.old).written (E.seen err.new).written line) }
+    ensures later { (E.seen err.old).faults ≤ (E.seen err.new).faults }
+{
     if let Ok(line) = line_of(alloc, called, reason) {
         let _ = err.write(line.as_bytes());
     }

@@ -3,7 +3,7 @@
 
 ghost use Rattle.std.specs.Prelude.{◌≡◌, ◌%◌, ◌^◌};
 
-use command_reasons::{Program, program_reason};
+use command_reasons::{Program, program_reason, reply_reason};
 use help::text_asked;
 use program_help::tell_asked;
 use program_start::{
@@ -46,18 +46,22 @@ fn system_reason<'a>(output: Option<io::Error>, peer: Option<LinkFailure>) -> Op
     })
 }
 
-/// The text of the reason of a status behind this error line; none where it is not asked for, where the system refused
-/// something, where no more is known than the error line has, or where there is no memory for it. With status 1 the
-/// output says which path it is of.
+/// The text of the reason of a status behind this error line, or with status 1, where there is none, behind the last
+/// line that was printed; none where it is not asked for, where the system refused something, where no more is known
+/// than these lines have, or where there is no memory for it.
 fn text_of(
     alloc: Global,
     is_asked: bool,
     status: u8,
     error_line: Option<&[u8]>,
+    printed: Option<&[u8]>,
     words: &[String],
 ) -> Option<String> {
     if !is_asked || status == 0 || status == 4 {
         return None;
+    }
+    if status == 1 {
+        return reply_reason(alloc, printed?, words).unwrap_or(None);
     }
     program_reason(alloc, Program::Client, error_line?, words).unwrap_or(None)
 }
@@ -75,12 +79,14 @@ fn main(rt: HostRuntime) -> ExitCode {
             let mut peer = UdpPeer::new(&rt);
             if is_asked {
                 err.keep();
+                out.keep();
             }
             let status = match text_asked(&words) {
                 Some(text) => tell_asked(&rt, &words, text, &mut out, &mut err),
                 None => run_client(&words, &mut peer, &mut out, &mut err, first_xid(now)),
             };
-            let text = text_of(rt.alloc(), is_asked, status, err.last_line(), &words);
+            let (line, printed) = (err.last_line(), out.last_line());
+            let text = text_of(rt.alloc(), is_asked, status, line, printed, &words);
             let refused = system_reason(out.failure(), peer.failure());
             let reason = run_reason(status, text.as_ref().map(|text| text.as_str()), refused);
             let called = called.as_str();

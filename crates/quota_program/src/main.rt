@@ -8,8 +8,8 @@ use journal_store::JournalStore;
 use program_help::tell_asked;
 use program_recoveries::tell_undo_files;
 use program_start::{
-    Reason, add_reason, are_reasons_asked, given_words, hold_closed_streams, name_in, run_reason,
-    starting_cause, stop, words_cause,
+    Reason, add_note, add_reason, are_reasons_asked, given_words, hold_closed_streams, name_in,
+    run_reason, starting_cause, stop, words_cause,
 };
 use quota_cli::run::run;
 use quota_files::{QuotaFiles, quota_files_of};
@@ -22,7 +22,7 @@ use std::io::{BufReader, Eprint, IsTerminal, Write};
 use std::process::ExitCode;
 use system_objects::FileDisk;
 use system_streams::{StreamSink, StreamSource, UdpLink, moment};
-use telling::{Failures, left_of, text_of};
+use telling::{Failures, left_of, noted, text_of};
 
 mod help;
 mod inputs;
@@ -136,6 +136,9 @@ fn carry_out<'a, O: Write, E: Write>(
     let text = text.as_ref().map(|text| text.as_str());
     let reason = run_reason(status, text, failures.first());
     add_reason(err, is_asked, status, called, reason, rt.alloc());
+    let note = noted(rt.alloc(), is_asked, status, words, &input, &disk);
+    let note = note.as_ref().map(|note| note.as_str());
+    add_note(err, is_asked, called, note, rt.alloc());
     tell_undo_files(
         err,
         is_asked,

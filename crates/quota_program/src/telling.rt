@@ -1,4 +1,4 @@
-use command_reasons::{Lines, reason_of};
+use command_reasons::{Lines, note_of, reason_of, refused_file_reason};
 use program_start::{Failed, Reason};
 use std::alloc::Global;
 use std::fs::{File, Files};
@@ -81,10 +81,17 @@ impl<'a, 'b, 'c, 'd, I, R: Files<File = File> + Eprint> Lines for ReadLines<'a, 
     fn of_file(&self, name: &str, number: u64) -> Option<&[u8]> {
         self.disk.line(name, number)
     }
+
+    fn are_none_of(&self, name: Option<&str>) -> bool {
+        match name {
+            Some(name) => self.disk.is_empty(name),
+            None => self.input.is_empty(),
+        }
+    }
 }
 
-/// The text of the reason of a status behind this error line; none where it is not asked for, where the system refused
-/// something, where no more is known than the error line has, or where there is no memory for it.
+/// The text of the reason of a status behind this error line; none where it is not asked for, where no more is known
+/// than the error line and the system's words for what it refused have, or where there is no memory for it.
 pub fn text_of<I, R: Files<File = File> + Eprint>(
     alloc: Global,
     is_asked: bool,
@@ -94,11 +101,48 @@ pub fn text_of<I, R: Files<File = File> + Eprint>(
     input: &StreamSource<'_, I, R>,
     disk: &FileDisk<'_, R>,
 ) -> Option<String> {
-    if !is_asked || status == 0 || status == 4 {
+    if !is_asked || status == 0 {
         return None;
     }
     let lines = ReadLines { input, disk };
+    if status == 4 {
+        return refused_file_text(alloc, error_line?, words, &lines, disk.failure()?);
+    }
     reason_of(alloc, error_line?, words, &lines).unwrap_or(None)
+}
+
+/// What to do about a file that the system refused, where more is known than why.
+fn refused_file_text<L: Lines>(
+    alloc: Global,
+    error_line: &[u8],
+    words: &[String],
+    lines: &L,
+    failure: &DiskFailure,
+) -> Option<String> {
+    if failure.distrust.is_some() {
+        return None;
+    }
+    let error = failure.error;
+    let why = format!(in alloc; "{error}").ok()?;
+    let file = failure.name.as_str();
+    refused_file_reason(alloc, error_line, words, lines, file, why.as_str()).unwrap_or(None)
+}
+
+/// What there is to note of words that were carried out with status 0, where that is asked for and there is memory for
+/// it.
+pub fn noted<I, R: Files<File = File> + Eprint>(
+    alloc: Global,
+    is_asked: bool,
+    status: u8,
+    words: &[String],
+    input: &StreamSource<'_, I, R>,
+    disk: &FileDisk<'_, R>,
+) -> Option<String> {
+    if !is_asked || status != 0 {
+        return None;
+    }
+    let lines = ReadLines { input, disk };
+    note_of(alloc, words, &lines).unwrap_or(None)
 }
 
 /// What an earlier run left beside the file at which the disk failed, where that is asked for and it did. None is told

@@ -131,6 +131,14 @@ impl<'a, R: Files<File = File> + Eprint> FileDisk<'a, R> {
         self.last.as_ref()?.line(name, number)
     }
 
+    /// Whether it is known that a file was read last and had no byte.
+    pub fn is_empty(&self, name: &str) -> bool {
+        match &self.last {
+            Some(last) => last.is_empty(name),
+            None => false,
+        }
+    }
+
     /// Keeps what was read of a file at a place, where that is asked for.
     fn note_read(&mut self, name: &str, at: u64, bytes: &[u8])
         ensures faults { self.new.faults ≡ self.old.faults }

@@ -68,15 +68,28 @@ impl LastRead {
         };
     }
 
-    /// The line of this number, counted from 1, of the file of this name, where it is kept.
-    pub fn line(&self, name: &str, number: u64) -> Option<&[u8]> {
+    /// What was read last of the file of this name, where that is kept.
+    fn text(&self, name: &str) -> Option<&LastText> {
         for file in [&self.last, &self.other] {
             if let Some(file) = file {
                 if file.name.as_str() == name {
-                    return file.text.line(number);
+                    return Some(&file.text);
                 }
             }
         }
         None
+    }
+
+    /// The line of this number, counted from 1, of the file of this name, where it is kept.
+    pub fn line(&self, name: &str, number: u64) -> Option<&[u8]> {
+        self.text(name)?.line(number)
+    }
+
+    /// Whether the file of this name was read last, and had no byte.
+    pub fn is_empty(&self, name: &str) -> bool {
+        match self.text(name) {
+            Some(text) => text.taken() == 0,
+            None => false,
+        }
     }
 }

@@ -15,6 +15,8 @@ pub struct StreamSource<'a, R, E> {
     failure: Option<io::Error>,
     /// What was read last, where that is kept.
     last: Option<LastText>,
+    /// Whether a read met the end.
+    has_ended: bool,
     /// Who is told that the stream is waited for, and what of it, until that was told.
     waiting: Option<(Teller<'a>, &'static str)>,
     /// Who is told how much was read.
@@ -33,6 +35,7 @@ impl<'a, R, E: Eprint> StreamSource<'a, R, E> {
             faults: 0,
             failure: None,
             last: None,
+            has_ended: false,
             waiting: None,
             progress: None,
             reads: ReadCount::new(),
@@ -54,6 +57,14 @@ impl<'a, R, E: Eprint> StreamSource<'a, R, E> {
     /// The line of this number, counted from 1, where it was read and is kept.
     pub fn line(&self, number: u64) -> Option<&[u8]> {
         self.last.as_ref()?.line(number)
+    }
+
+    /// Whether it is known that the stream ended before it gave a byte.
+    pub fn is_empty(&self) -> bool {
+        match &self.last {
+            Some(last) => self.has_ended && last.taken() == 0,
+            None => false,
+        }
     }
 
     /// Says with the first read what is waited for.
@@ -79,10 +90,11 @@ impl<'a, R, E: Eprint> StreamSource<'a, R, E> {
         }
     }
 
-    /// Keeps what was read, where that is asked for.
-    fn note(&mut self, bytes: &[u8])
+    /// Keeps what was read into a buffer with this much room, where that is asked for.
+    fn note(&mut self, bytes: &[u8], room: usize)
         ensures { self.new.faults ≡ self.old.faults }
     {
+        self.has_ended |= bytes.is_empty() && room > 0;
         if let Some(last) = &mut self.last {
             last.push(bytes);
         }
@@ -130,7 +142,7 @@ impl<'a, R: Read, E: Eprint + Clock> Source for StreamSource<'a, R, E> {
         for _ in 0..u64::MAX {
             match self.stream.read(buf) {
                 Ok(count) => {
-                    self.note(&buf[..count]);
+                    self.note(&buf[..count], buf.len());
                     self.tell_read(count, count < buf.len());
                     return Ok(count);
                 }
