@@ -58,7 +58,7 @@ if command -v python3 >/dev/null; then
     {
         begin=$SECONDS
         got=0
-        timeout 20 "$client" quota "$nobody" 1000 1000 /home >nobody.txt 2>&1 || got=$?
+        QUOTA_CLI_REASONS=always timeout 20 "$client" quota "$nobody" 1000 1000 /home >nobody.txt 2>&1 || got=$?
         echo $((SECONDS - begin)) >waited.txt
         exit "$got"
     } &
@@ -142,7 +142,8 @@ if command -v python3 >/dev/null; then
     wait "$server" || true
     got=0
     wait "$alone" || got=$?
-    same 'no server' "$got $(cat nobody.txt)" '1 /home: no reply'
+    same 'no server' "$got $(cat nobody.txt)" "1 /home: no reply
+quota_client: UDP port $nobody: look whether rquotad serves at that --port, or has answered its --calls, and whether a firewall keeps datagrams out"
     same 'no server takes six seconds to see' "$([ "$(cat waited.txt)" -ge 6 ] && echo so)" so
 else
     echo 'real_files: python3 is not there: no client over UDP is shown' >&2

@@ -77,7 +77,7 @@ quota_cli: $reason" "$@" <stdin
     }
     : >stdin
     told 'an absent file' 1 'absent: no such file' \
-        'absent: look at the name; quota_cli quotacheck -c makes a new quota file of a listing' repquota -F vfsold absent
+        'absent: look at the name, and whether its file system is mounted; quota_cli quotacheck -c makes a new quota file of a listing' repquota -F vfsold absent
     told 'no words' 2 'usage: NoCommand at word 0' \
         'no command; one of repquota, setquota, edquota, quotacheck, convertquota, rquotad, script or generate is wanted; quota_cli --help'
     told 'two kinds' 2 'usage: Excludes at word 3' '-ug: one of -u, -g and -P is wanted; quota_cli repquota --help' repquota -ug q
@@ -98,13 +98,64 @@ quota_cli: $reason" "$@" <stdin
         setquota -F vfsold --names names 1 0 0 0 0 q
     printf '1 2 3 4 5\n1 2 3 4 5\r\n' >stdin
     told 'a number with a carriage return' 1 $'input line 2: bad number 5\r' \
-        '1 2 3 4 5\r: 5\r: a limit of blocks is a number of KiB, or one with K, M, G or T behind it' setquota -F vfsold -b q
+        '1 2 3 4 5\r: 5\r: a limit of inodes is a number, or one with k, m, g or t behind it' setquota -F vfsold -b q
+    printf '1000 5 6 7 8x\n' >stdin
+    told 'a bad limit of inodes in a line' 1 'input line 1: bad number 8x' \
+        '1000 5 6 7 8x: 8x: a limit of inodes is a number, or one with k, m, g or t behind it' setquota -F vfsold -b q
+    { printf '1 2 3 4 5\n%.0s' {1..2000}; echo '1 2 8x 4 5'; } >stdin
+    told 'a bad limit of blocks behind many lines' 1 'input line 2001: bad number 8x' \
+        '1 2 8x 4 5: 8x: a limit of blocks is a number of KiB, or one with K, M, G or T behind it' setquota -F vfsold -b q
     printf '1 2 3 4 5\n1 2 3\n' >stdin
     told 'a line of four words' 1 'input: bad line 2' '1 2 3: the five words NAME BSOFT BHARD ISOFT IHARD are wanted, in UTF-8' \
         setquota -F vfsold -b q
     cp stdin lines
     told 'a line of a file' 1 'lines: bad line 2' '1 2 3: the five words NAME BSOFT BHARD ISOFT IHARD are wanted, in UTF-8' \
         setquota -F vfsold -b --input lines q
+    told 'an absent file of names' 1 'absent: no such file' \
+        'absent: look at the name; --names is a file of names, as /etc/passwd, /etc/group or /etc/projid' \
+        repquota -F vfsold --names absent q
+    told 'an absent input' 1 'absent: no such file' \
+        'absent: look at the name; where --input is left away the standard input is read' quotacheck -F vfsold --input absent q
+    told 'a device in place of an input' 4 'store fault' \
+        '/dev/null: Not a regular file; leave --input away, and the standard input is read' \
+        quotacheck -F vfsold --input /dev/null q
+    told 'a device in place of names' 4 'store fault' \
+        '/dev/null: Not a regular file; write the names into a regular file' repquota -F vfsold --names /dev/null q
+    told 'a letter that is no option' 2 'usage: UnknownOption at word 1' \
+        '-avug: no option -a; the options of quotacheck are -u, -g, -P, -c, -F FORMAT, --device NUMBER and --input FILE; quota_cli quotacheck --help' \
+        quotacheck -avug q
+    "$run" quotacheck -c tree </dev/null
+    told 'another format than OLD' 3 'tree: other format' \
+        'tree: its format is vfsv1; give that one as OLD in -f OLD,NEW' convertquota -f vfsv0,vfsv1 tree new
+    told 'a flat file in place of a tree file' 3 'q: not a quota file' \
+        'q: it does not begin as a tree file does; a flat file needs -f vfsold,NEW or -f vfsold32,NEW' \
+        convertquota -f vfsv0,vfsv1 q new
+    echo 'quotacheck -F vfsold --input /dev/null q' >stdin
+    told 'a device in place of an input in a script' 4 'line 1: store fault' \
+        '/dev/null: Not a regular file; write the lines into a regular file' script
+
+    # A listing without a line is noted where a reason would be told, and the status stays 0.
+    # noted WHAT NOTE WORD..
+    noted() {
+        local what=$1 note=$2
+        shift 2
+        runner=("$top/tests/real_files/terminal.py" "$run")
+        expect "$what, at a terminal" 0 '' "$note" "$@" <stdin
+        runner=(env QUOTA_CLI_REASONS=always "$run")
+        expect "$what, always" 0 '' "$note" "$@" <stdin
+        runner=(env QUOTA_CLI_REASONS=never "$top/tests/real_files/terminal.py" "$run")
+        expect "$what, never" 0 '' '' "$@" <stdin
+        runner=("$run")
+        expect "$what, without a terminal" 0 '' '' "$@" <stdin
+    }
+    : >stdin
+    noted 'a listing without a line' 'quota_cli: input: the input had no line, so all use was set to 0' \
+        quotacheck -F vfsold q
+    noted 'a file that has no line' 'quota_cli: f: the input had no line, so all use was set to 0' \
+        quotacheck -F vfsold --input f q
+    noted 'lines of limits, and none of them' '' setquota -F vfsold -b q
+    echo '1 1 1 1 1' >stdin
+    noted 'a listing with a line' '' quotacheck -F vfsold q
     printf '# first\nrepquota -ug q\n' >stdin
     told 'a line of a script' 2 'line 2: usage: Excludes at word 3' \
         '-ug: one of -u, -g and -P is wanted; quota_cli repquota --help' script

@@ -26,7 +26,7 @@ expect 'the reason of port 65,536' 2 '' 'quota: usage: BadValue at word 0
 rquotad_tcp: 65536: PORT is a number from 0 to 65535; PORT CONNECTIONS FORMAT, and 1 to 16 times PATH KIND FILE, are wanted; rquotad_tcp --help' \
     65536 1 any /home user q
 expect 'the reason of no such file' 1 '' 'quota: none: no such file
-rquotad_tcp: none: look at the name; quota_cli quotacheck -c makes a new quota file of a listing' 0 1 any /home user none
+rquotad_tcp: none: look at the name, and whether its file system is mounted; quota_cli quotacheck -c makes a new quota file of a listing' 0 1 any /home user none
 runner=("$server")
 
 # Streams.

@@ -272,7 +272,7 @@ expect 'two recoveries of a script' 0 "$("$program" script <<<$'repquota old\nre
 program: r: an edit that was stopped has been undone' script <<<$'repquota q\nrepquota r'
 stopped q
 expect 'a recovery before a command that is refused' 3 '' 'quota: q: other format
-program: q: leave the format away, or give the one that it has
+program: q: its format is vfsv1; leave -F away, or give that one
 program: q: an edit that was stopped has been undone' repquota -F vfsv0 q
 cp old q
 printf '\1\0\0\0\0\0\0\0\0\0\0\0\0\0\0\1\1\0\0\0' >q.undo

@@ -11,4 +11,6 @@ mod rows;
 #[cfg(test)]
 mod text_rows;
 #[cfg(test)]
+mod told_rows;
+#[cfg(test)]
 mod usage_rows;

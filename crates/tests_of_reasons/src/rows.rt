@@ -9,8 +9,17 @@ pub type Row = (&'static str, &'static str, &'static str, &'static str);
 
 /// The text that was read, of the standard input or of any file.
 #[derive(Drop)]
-struct ReadText {
+pub struct ReadText {
     text: LastText,
+}
+
+impl ReadText {
+    /// This text.
+    pub fn of(read: &str) -> Self {
+        let mut text = LastText::new();
+        text.push(read.as_bytes());
+        ReadText { text }
+    }
 }
 
 impl Lines for ReadText {
@@ -28,7 +37,7 @@ impl Lines for ReadText {
 }
 
 /// Words that are separated by single spaces; none of an empty text.
-fn words_in(alloc: Global, text: &str) -> Result<Vec<String>, AllocError> {
+pub fn words_in(alloc: Global, text: &str) -> Result<Vec<String>, AllocError> {
     let mut words = Vec::new(alloc);
     if text.is_empty() {
         return Ok(words);
@@ -46,9 +55,7 @@ fn told(alloc: Global, row: &Row, program: Option<Program>) -> Result<String, Al
     let words = words_in(alloc, words)?;
     let reason = match program {
         None => {
-            let mut text = LastText::new();
-            text.push(read.as_bytes());
-            let lines = ReadText { text };
+            let lines = ReadText::of(read);
             reason_of(alloc, line.as_bytes(), words.as_slice(), &lines)?
         }
         Some(program) => program_reason(alloc, program, line.as_bytes(), words.as_slice())?,
