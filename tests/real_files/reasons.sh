@@ -149,10 +149,15 @@ quota_cli: $reason" "$@" <stdin
         expect "$what, without a terminal" 0 '' '' "$@" <stdin
     }
     : >stdin
-    noted 'a listing without a line' 'quota_cli: input: the input had no line, so all use was set to 0' \
+    noted 'a listing without a line' 'quota_cli: input: no line of an inode was read, so all use was set to 0' \
         quotacheck -F vfsold q
-    noted 'a file that has no line' 'quota_cli: f: the input had no line, so all use was set to 0' \
+    noted 'a file that has no line' 'quota_cli: f: no line of an inode was read, so all use was set to 0' \
         quotacheck -F vfsold --input f q
+    printf ' \t\n\n' >stdin
+    noted 'a listing of blank lines' 'quota_cli: input: no line of an inode was read, so all use was set to 0' \
+        quotacheck -F vfsold q
+    noted 'a file of blank lines' 'quota_cli: stdin: no line of an inode was read, so all use was set to 0' \
+        quotacheck -F vfsold --input stdin q
     noted 'lines of limits, and none of them' '' setquota -F vfsold -b q
     echo '1 1 1 1 1' >stdin
     noted 'a listing with a line' '' quotacheck -F vfsold q

@@ -15,8 +15,8 @@ pub trait Lines {
     /// The line of this number of the file of this name, where it is at hand.
     fn of_file(&self, name: &str, number: u64) -> Option<&[u8]>;
 
-    /// Whether the standard input, or the file of this name, was read and had no byte.
-    fn are_none_of(&self, name: Option<&str>) -> bool;
+    /// Whether it is known that the standard input, or the file of this name, was read to its end and had no word.
+    fn are_blank_of(&self, name: Option<&str>) -> bool;
 }
 
 /// What is wrong with a line.

@@ -66,7 +66,8 @@ pub fn refused_file_reason<L: Lines>(
     }
 }
 
-/// What there is to note of a command that was carried out with status 0: that the listing of `quotacheck` had no line.
+/// What there is to note of a command that was carried out with status 0: that the listing of `quotacheck` had no line
+/// of an inode.
 ///
 /// # Errors
 ///
@@ -85,7 +86,7 @@ pub fn note_of<L: Lines>(
         return Ok(None);
     }
     let input = setting_of(words, Setting::Input);
-    if !lines.are_none_of(input) {
+    if !lines.are_blank_of(input) {
         return Ok(None);
     }
     let mut text = Text::new(alloc);

@@ -20,10 +20,11 @@ pub(crate) const IRREGULAR: &str = "Not a regular file";
 
 /// Why a port gives no reply.
 pub(crate) const NO_REPLY: &str =
-    "look whether rquotad serves at that --port, or has answered its --calls, and whether a firewall keeps datagrams out";
+    "look whether rquotad serves at that --port, or has answered its --calls, and whether a firewall keeps datagrams \
+         out";
 
-/// What is said of a listing without a line.
-pub(crate) const NO_LINE: &str = "the input had no line, so all use was set to 0";
+/// What is said of a listing that is empty or has blank lines alone.
+pub(crate) const NO_LINE: &str = "no line of an inode was read, so all use was set to 0";
 
 /// What is read of a file.
 #[derive(Clone, Copy, PartialEq, Eq)]

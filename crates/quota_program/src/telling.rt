@@ -82,10 +82,10 @@ impl<'a, 'b, 'c, 'd, I, R: Files<File = File> + Eprint> Lines for ReadLines<'a, 
         self.disk.line(name, number)
     }
 
-    fn are_none_of(&self, name: Option<&str>) -> bool {
+    fn are_blank_of(&self, name: Option<&str>) -> bool {
         match name {
-            Some(name) => self.disk.is_empty(name),
-            None => self.input.is_empty(),
+            Some(name) => self.disk.is_blank(name),
+            None => self.input.is_blank(),
         }
     }
 }

@@ -131,10 +131,10 @@ impl<'a, R: Files<File = File> + Eprint> FileDisk<'a, R> {
         self.last.as_ref()?.line(name, number)
     }
 
-    /// Whether it is known that a file was read last and had no byte.
-    pub fn is_empty(&self, name: &str) -> bool {
+    /// Whether it is known that a file was read last, and that no word was read of it.
+    pub fn is_blank(&self, name: &str) -> bool {
         match &self.last {
-            Some(last) => last.is_empty(name),
+            Some(last) => last.is_blank(name),
             None => false,
         }
     }

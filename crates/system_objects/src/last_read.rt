@@ -7,6 +7,15 @@ use std::mem;
 struct ReadFile {
     name: String,
     text: LastText,
+    /// Whether a word was read of it.
+    has_word: bool,
+}
+
+/// Whether there is anything but blanks and ends of lines.
+fn has_word(bytes: &[u8]) -> bool {
+    bytes
+        .iter()
+        .any(|byte| !matches!(*byte, b' ' | b'\t' | b'\n'))
 }
 
 /// Whether a file is the one of this name.
@@ -49,7 +58,10 @@ impl LastRead {
             return;
         }
         match &mut self.last {
-            Some(file) if file.text.taken() == at => file.text.push(bytes),
+            Some(file) if file.text.taken() == at => {
+                file.text.push(bytes);
+                file.has_word = file.has_word || has_word(bytes);
+            }
             _ => self.last = None,
         }
     }
@@ -63,17 +75,18 @@ impl LastRead {
             Ok(name) => Some(ReadFile {
                 name,
                 text: LastText::new(),
+                has_word: false,
             }),
             Err(_) => None,
         };
     }
 
-    /// What was read last of the file of this name, where that is kept.
-    fn text(&self, name: &str) -> Option<&LastText> {
+    /// The file of this name, where what was read last of it is kept.
+    fn file(&self, name: &str) -> Option<&ReadFile> {
         for file in [&self.last, &self.other] {
             if let Some(file) = file {
                 if file.name.as_str() == name {
-                    return Some(&file.text);
+                    return Some(file);
                 }
             }
         }
@@ -82,13 +95,13 @@ impl LastRead {
 
     /// The line of this number, counted from 1, of the file of this name, where it is kept.
     pub fn line(&self, name: &str, number: u64) -> Option<&[u8]> {
-        self.text(name)?.line(number)
+        self.file(name)?.text.line(number)
     }
 
-    /// Whether the file of this name was read last, and had no byte.
-    pub fn is_empty(&self, name: &str) -> bool {
-        match self.text(name) {
-            Some(text) => text.taken() == 0,
+    /// Whether the file of this name was read last, and no word was read of it.
+    pub fn is_blank(&self, name: &str) -> bool {
+        match self.file(name) {
+            Some(file) => !file.has_word,
             None => false,
         }
     }

@@ -15,8 +15,10 @@ pub struct StreamSource<'a, R, E> {
     failure: Option<io::Error>,
     /// What was read last, where that is kept.
     last: Option<LastText>,
-    /// Whether a read met the end.
+    /// Whether a read met the end, where what was read last is kept.
     has_ended: bool,
+    /// Whether a word was read since then.
+    has_word: bool,
     /// Who is told that the stream is waited for, and what of it, until that was told.
     waiting: Option<(Teller<'a>, &'static str)>,
     /// Who is told how much was read.
@@ -36,6 +38,7 @@ impl<'a, R, E: Eprint> StreamSource<'a, R, E> {
             failure: None,
             last: None,
             has_ended: false,
+            has_word: false,
             waiting: None,
             progress: None,
             reads: ReadCount::new(),
@@ -59,12 +62,9 @@ impl<'a, R, E: Eprint> StreamSource<'a, R, E> {
         self.last.as_ref()?.line(number)
     }
 
-    /// Whether it is known that the stream ended before it gave a byte.
-    pub fn is_empty(&self) -> bool {
-        match &self.last {
-            Some(last) => self.has_ended && last.taken() == 0,
-            None => false,
-        }
+    /// Whether it is known that the stream ended, and gave no word before.
+    pub fn is_blank(&self) -> bool {
+        self.last.is_some() && self.has_ended && !self.has_word
     }
 
     /// Says with the first read what is waited for.
@@ -94,11 +94,19 @@ impl<'a, R, E: Eprint> StreamSource<'a, R, E> {
     fn note(&mut self, bytes: &[u8], room: usize)
         ensures { self.new.faults ≡ self.old.faults }
     {
-        self.has_ended |= bytes.is_empty() && room > 0;
         if let Some(last) = &mut self.last {
             last.push(bytes);
+            self.has_ended |= bytes.is_empty() && room > 0;
+            self.has_word = self.has_word || has_word(bytes);
         }
     }
+}
+
+/// Whether there is anything but blanks and ends of lines.
+fn has_word(bytes: &[u8]) -> bool {
+    bytes
+        .iter()
+        .any(|byte| !matches!(*byte, b' ' | b'\t' | b'\n'))
 }
 
 impl<'a, R, E: Eprint + Clock> StreamSource<'a, R, E> {

@@ -31,8 +31,8 @@ impl Lines for ReadText {
         self.text.line(number)
     }
 
-    fn are_none_of(&self, _name: Option<&str>) -> bool {
-        self.text.taken() == 0
+    fn are_blank_of(&self, _name: Option<&str>) -> bool {
+        self.text.last_line().is_empty()
     }
 }
 

@@ -16,21 +16,28 @@ type Refused = (
 /// Files that the system refused.
 #[rattlefmt::skip]
 const REFUSED: &[Refused] = &[
-    ("store fault", "quotacheck --input /dev/null q", "", "/dev/null", "Not a regular file", "/dev/null: Not a regular file; leave --input away, and the standard input is read"),
+    ("store fault",
+        "quotacheck --input /dev/null q", "", "/dev/null", "Not a regular file",
+        "/dev/null: Not a regular file; leave --input away, and the standard input is read"),
     ("store fault", "setquota -b --input /dev/null q", "", "q", "Not a regular file", ""),
     ("store fault", "setquota -b --input p q", "", "p", "Permission denied", ""),
-    ("store fault", "repquota --names /dev/fd/63 q", "", "/dev/fd/63", "Not a regular file", "/dev/fd/63: Not a regular file; write the names into a regular file"),
-    ("line 2: store fault", "script", "# \nsetquota -b --input p q\n", "p", "Not a regular file", "p: Not a regular file; write the lines into a regular file"),
+    ("store fault",
+        "repquota --names /dev/fd/63 q", "", "/dev/fd/63", "Not a regular file",
+        "/dev/fd/63: Not a regular file; write the names into a regular file"),
+    ("line 2: store fault",
+        "script", "# \nsetquota -b --input p q\n", "p", "Not a regular file",
+        "p: Not a regular file; write the lines into a regular file"),
     ("line 9: store fault", "script", "", "p", "Not a regular file", ""),
 ];
 
 /// Words separated by single spaces, the text that was read, and what is noted of it; empty where nothing is.
 #[rattlefmt::skip]
 const NOTED: &[(&str, &str, &str)] = &[
-    ("quotacheck q", "", "input: the input had no line, so all use was set to 0"),
-    ("quotacheck -c -u --input /root/listing q", "", "/root/listing: the input had no line, so all use was set to 0"),
+    ("quotacheck q", "", "input: no line of an inode was read, so all use was set to 0"),
+    ("quotacheck -c -u --input /root/listing q",
+        "", "/root/listing: no line of an inode was read, so all use was set to 0"),
     ("quotacheck q", "1 1 1 1 1\n", ""),
-    ("quotacheck q", "\n", ""),
+    ("quotacheck q", "\n", "input: no line of an inode was read, so all use was set to 0"),
     ("setquota -b q", "", ""),
     ("script", "", ""),
     ("", "", ""),
@@ -39,7 +46,9 @@ const NOTED: &[(&str, &str, &str)] = &[
 /// The last line that the client printed, and its reason; empty where there is none.
 #[rattlefmt::skip]
 const REPLIES: &[(&str, &str)] = &[
-    ("/home: no reply", "UDP port 875: look whether rquotad serves at that --port, or has answered its --calls, and whether a firewall keeps datagrams out"),
+    ("/home: no reply",
+        "UDP port 875: look whether rquotad serves at that --port, or has answered its --calls, and whether a \
+         firewall keeps datagrams out"),
     ("/home: denied", ""),
     ("/home: refused", ""),
     ("", ""),
@@ -84,7 +93,7 @@ fn a_refused_file_has_its_reason(rt: HostRuntime) {
 }
 
 #[test]
-fn an_empty_listing_is_noted(rt: HostRuntime) {
+fn a_listing_without_a_line_is_noted(rt: HostRuntime) {
     for (words, read, wanted) in NOTED {
         let is = noted(rt.alloc(), words, read);
         let is_so = matches!(&is, Ok(is) if is.as_str() == *wanted);

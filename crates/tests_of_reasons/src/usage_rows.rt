@@ -20,11 +20,16 @@ const OPTIONS: &[Row] = &[
     ("usage: UnknownOption at word 2",
         "setquota -u --force 1 2 3 4 5 q", "", "--force: the options of setquota are -u, -g, -P, -F FORMAT, --names FILE, -p PROTO, -t, -T, -b and --input FILE; quota_cli setquota --help"),
     ("usage: UnknownOption at word 1",
-        "repquota -avug", "", "-avug: no option -a; the options of repquota are -u, -g, -P, -v, -n, -p, -F FORMAT and --names FILE; quota_cli repquota --help"),
+        "repquota -avug", "",
+        "-avug: no option -a; the options of repquota are -u, -g, -P, -v, -n, -p, -F FORMAT and --names FILE; \
+         quota_cli repquota --help"),
     ("usage: UnknownOption at word 2",
-        "quotacheck q -ugmF", "", "-ugmF: no option -m; the options of quotacheck are -u, -g, -P, -c, -F FORMAT, --device NUMBER and --input FILE; quota_cli quotacheck --help"),
+        "quotacheck q -ugmF", "",
+        "-ugmF: no option -m; the options of quotacheck are -u, -g, -P, -c, -F FORMAT, --device NUMBER and --input \
+         FILE; quota_cli quotacheck --help"),
     ("usage: UnknownOption at word 1",
-        "convertquota -u\u{e9} a b", "", "-u\\xc3\\xa9: the options of convertquota are -u, -g, -P and -f OLD,NEW; quota_cli convertquota --help"),
+        "convertquota -u\u{e9} a b", "",
+        "-u\\xc3\\xa9: the options of convertquota are -u, -g, -P and -f OLD,NEW; quota_cli convertquota --help"),
     ("usage: UnknownOption at word 1",
         "generate -u 1 2 q", "", "-u: the options of generate are none; quota_cli generate --help"),
     ("usage: MissingValue at word 2", "repquota q -F", "", "-F: FORMAT is wanted behind it; quota_cli repquota --help"),
@@ -111,10 +116,13 @@ const OF_SERVER: &[Row] = &[
     ("usage: BadValue at word 2",
         "0 1 ext4 /home user q", "", "ext4: FORMAT is vfsold, vfsold32, vfsv0, vfsv1 or any; PORT CONNECTIONS FORMAT, and 1 to 16 times PATH KIND FILE, are wanted; rquotad_tcp --help"),
     ("q: no such file",
-        "0 1 any /home user q", "", "q: look at the name, and whether its file system is mounted; quota_cli quotacheck -c makes a new quota file of a listing"),
+        "0 1 any /home user q", "",
+        "q: look at the name, and whether its file system is mounted; quota_cli quotacheck -c makes a new quota file \
+         of a listing"),
     ("q: other format", "0 1 vfsv1 /home user q", "", "q: its format is vfsv0; give that one as FORMAT, or any"),
     ("q: not a quota file",
-        "0 1 any /home user q", "", "q: it does not begin as a tree file does; of flat files FORMAT is vfsold or vfsold32"),
+        "0 1 any /home user q", "",
+        "q: it does not begin as a tree file does; of flat files FORMAT is vfsold or vfsold32"),
     ("q: wrong kind", "0 1 any /home user q", "", "q: its header has another kind; KIND is user, group or project"),
 ];
 
