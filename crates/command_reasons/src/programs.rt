@@ -8,7 +8,7 @@ use crate::files::{FileWords, put_file_reason};
 use crate::tables::{FILE_NAME, NO_REPLY};
 use crate::text::Text;
 use crate::word_places::word_at;
-use error_lines::{Said, read_error_line, shown};
+use error_lines::{Said, read_error_line};
 use input_text::number_in;
 use option_words::read_format;
 use quota_types::Format;
@@ -103,11 +103,7 @@ pub fn program_reason(
         }
         _ => false,
     };
-    if is_known {
-        Ok(Some(shown(alloc, text.as_bytes(), usize::MAX)?))
-    } else {
-        Ok(None)
-    }
+    text.shown_where(alloc, is_known)
 }
 
 /// Why a run of `quota_client` with these words ended with status 1, by the last line that it printed, without the
@@ -129,7 +125,7 @@ pub fn reply_reason(
     let mut text = Text::new(alloc);
     text.put("UDP port ")?;
     text.put_of(word_at(words, 1).unwrap_or(""), NO_REPLY)?;
-    Ok(Some(shown(alloc, text.as_bytes(), usize::MAX)?))
+    text.shown_where(alloc, true)
 }
 
 /// The format that the words of `rquotad_tcp` ask for; none where it is any.

@@ -8,7 +8,7 @@ use crate::numbers::{NumberPlace, put_name_reason, put_number_reason};
 use crate::tables::NO_LINE;
 use crate::text::Text;
 use crate::usages::{Words, put_usage_reason, setting_of};
-use error_lines::{ErrorLine, Said, read_error_line, shown};
+use error_lines::{ErrorLine, Said, read_error_line};
 use input_text::{next_word, number_in};
 use option_words::{Setting, Tool};
 use std::alloc::{AllocError, Global};
@@ -31,11 +31,8 @@ pub fn reason_of<L: Lines>(
         return Ok(None);
     };
     let mut text = Text::new(alloc);
-    if put_reason(alloc, &mut text, &read, words, lines, None)? {
-        Ok(Some(shown(alloc, text.as_bytes(), usize::MAX)?))
-    } else {
-        Ok(None)
-    }
+    let is_known = put_reason(alloc, &mut text, &read, words, lines, None)?;
+    text.shown_where(alloc, is_known)
 }
 
 /// Why the system refused a file that the words name, in these words of the system, by the error line without the
@@ -59,11 +56,8 @@ pub fn refused_file_reason<L: Lines>(
     };
     let mut text = Text::new(alloc);
     let refused = RefusedFile { file, why };
-    if put_reason(alloc, &mut text, &read, words, lines, Some(refused))? {
-        Ok(Some(shown(alloc, text.as_bytes(), usize::MAX)?))
-    } else {
-        Ok(None)
-    }
+    let is_told = put_reason(alloc, &mut text, &read, words, lines, Some(refused))?;
+    text.shown_where(alloc, is_told)
 }
 
 /// What there is to note of a command that was carried out with status 0: that the listing of `quotacheck` had no line
@@ -91,7 +85,7 @@ pub fn note_of<L: Lines>(
     }
     let mut text = Text::new(alloc);
     text.put_of(input.unwrap_or("input"), NO_LINE)?;
-    Ok(Some(shown(alloc, text.as_bytes(), usize::MAX)?))
+    text.shown_where(alloc, true)
 }
 
 /// A file that the system refused.

@@ -1,3 +1,8 @@
+ghost use Rattle.std.specs.Prelude.{IfOk, IfSome, IsTrue, string_bytes};
+ghost use Rattle.std.specs.List.{list_all};
+ghost use Rattle.error_lines.specs.Shown.{is_printed};
+
+use error_lines::shown;
 use std::alloc::{AllocError, Global};
 
 /// How many bytes of a word or a line are shown at most.
@@ -20,6 +25,16 @@ impl Text {
     /// All its bytes.
     pub fn as_bytes(&self) -> &[u8] {
         self.bytes.as_slice()
+    }
+
+    /// All of it as it may be shown, where it is known.
+    pub fn shown_where(&self, alloc: Global, is_known: bool) -> Result<Option<String>, AllocError>
+        ensures { IfOk result (λ text. IfSome text (λ text. IsTrue (list_all is_printed (string_bytes text)))) }
+    {
+        if !is_known {
+            return Ok(None);
+        }
+        Ok(Some(shown(alloc, self.as_bytes(), usize::MAX)?))
     }
 
     /// Puts a piece behind it.
