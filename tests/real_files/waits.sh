@@ -9,7 +9,8 @@ if command -v python3 >/dev/null; then
         runner=("$top/tests/real_files/terminal.py" --typed "$typed" "$run")
         expect "$what" 0 '' "quota_cli: $line" "$@"
     }
-    waits 'a listing' 'reads a listing of inodes from the terminal, up to Ctrl-D; without a line nobody uses anything' '' \
+    waits 'a listing' 'reads a listing of inodes from the terminal, up to Ctrl-D; without a line nobody uses anything
+quota_cli: input: no line of an inode was read, so all use was set to 0' '' \
         quotacheck -c made
     waits 'lines of limits' 'reads lines NAME BSOFT BHARD ISOFT IHARD from the terminal, up to Ctrl-D' '7 1 2 3 4
 ' setquota -b made
