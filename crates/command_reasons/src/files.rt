@@ -117,7 +117,7 @@ pub(crate) fn put_irregular(
         return Ok(false);
     };
     text.put_shown(file)?;
-    text.put_all(&[": ", why, "; ", advice])?;
+    text.put_all(&[": ", IRREGULAR, "; ", advice])?;
     Ok(true)
 }
 
