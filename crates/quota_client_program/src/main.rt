@@ -85,7 +85,8 @@ fn main(rt: HostRuntime) -> ExitCode {
                 Some(text) => tell_asked(&rt, &words, text, &mut out, &mut err),
                 None => run_client(&words, &mut peer, &mut out, &mut err, first_xid(now)),
             };
-            let (line, printed) = (err.last_line(), out.last_line());
+            let line = err.last_line();
+            let printed = out.last_line();
             let text = text_of(rt.alloc(), is_asked, status, line, printed, &words);
             let refused = system_reason(out.failure(), peer.failure());
             let reason = run_reason(status, text.as_ref().map(|text| text.as_str()), refused);

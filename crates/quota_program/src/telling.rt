@@ -105,10 +105,12 @@ pub fn text_of<I, R: Files<File = File> + Eprint>(
         return None;
     }
     let lines = ReadLines { input, disk };
+    let error_line = error_line?;
     if status == 4 {
-        return refused_file_text(alloc, error_line?, words, &lines, disk.failure()?);
+        let failure = disk.failure()?;
+        return refused_file_text(alloc, error_line, words, &lines, failure);
     }
-    reason_of(alloc, error_line?, words, &lines).unwrap_or(None)
+    reason_of(alloc, error_line, words, &lines).unwrap_or(None)
 }
 
 /// What to do about a file that the system refused, where more is known than why.

@@ -94,11 +94,12 @@ impl<'a, R, E: Eprint> StreamSource<'a, R, E> {
     fn note(&mut self, bytes: &[u8], room: usize)
         ensures { self.new.faults ≡ self.old.faults }
     {
-        if let Some(last) = &mut self.last {
-            last.push(bytes);
-            self.has_ended |= bytes.is_empty() && room > 0;
-            self.has_word = self.has_word || has_word(bytes);
-        }
+        let Some(last) = &mut self.last else {
+            return;
+        };
+        last.push(bytes);
+        self.has_ended = bytes.is_empty() && room > 0;
+        self.has_word = self.has_word || has_word(bytes);
     }
 }
 
