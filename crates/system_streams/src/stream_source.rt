@@ -15,7 +15,7 @@ pub struct StreamSource<'a, R, E> {
     failure: Option<io::Error>,
     /// What was read last, where that is kept.
     last: Option<LastText>,
-    /// Whether a read met the end, where what was read last is kept.
+    /// Whether the last read gave nothing, where what was read is kept.
     has_ended: bool,
     /// Whether a word was read since then.
     has_word: bool,
@@ -90,15 +90,15 @@ impl<'a, R, E: Eprint> StreamSource<'a, R, E> {
         }
     }
 
-    /// Keeps what was read into a buffer with this much room, where that is asked for.
-    fn note(&mut self, bytes: &[u8], room: usize)
+    /// Keeps what was read, where that is asked for.
+    fn note(&mut self, bytes: &[u8])
         ensures { self.new.faults ≡ self.old.faults }
     {
         let Some(last) = &mut self.last else {
             return;
         };
         last.push(bytes);
-        self.has_ended = bytes.is_empty() && room > 0;
+        self.has_ended = bytes.is_empty();
         self.has_word = self.has_word || has_word(bytes);
     }
 }
@@ -151,7 +151,7 @@ impl<'a, R: Read, E: Eprint + Clock> Source for StreamSource<'a, R, E> {
         for _ in 0..u64::MAX {
             match self.stream.read(buf) {
                 Ok(count) => {
-                    self.note(&buf[..count], buf.len());
+                    self.note(&buf[..count]);
                     self.tell_read(count, count < buf.len());
                     return Ok(count);
                 }
