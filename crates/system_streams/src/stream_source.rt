@@ -17,7 +17,7 @@ pub struct StreamSource<'a, R, E> {
     last: Option<LastText>,
     /// Whether the last read gave nothing, where what was read is kept.
     has_ended: bool,
-    /// Whether a word was read since then.
+    /// Whether a word was read, where that is kept.
     has_word: bool,
     /// Who is told that the stream is waited for, and what of it, until that was told.
     waiting: Option<(Teller<'a>, &'static str)>,
