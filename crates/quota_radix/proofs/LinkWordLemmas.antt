@@ -19,37 +19,47 @@ not_alone x n ne = elim (cases_lt 0 (times (x ∷ []) n)) [
   | inr none ↦ omega arith
 ]
 
+-- References stand in the blocks of a way from some place to another, and one more is written at the latter: a change of
+-- its block alone, of a way whose blocks are distinct.
+pub record WritesReference (way : List ℕ) (first id place at value : ℕ) (old between new : List ℕ) : Type 0 where
+  pub five : length way ≡ 5
+  pub from : first ≤ place
+  pub few : place < 4
+  pub distinct : AreDistinct (stretch way first (4 - first))
+  pub kept : KeepsBlocksBut (stretch way first (place - first)) old between
+  pub so_far : (digits : ℕ) → first ≤ digits → digits < place
+      → HasWord (get_or way digits 0) (4 * digit_on_way id digits) (get_or way (suc digits) 0) old between
+  pub at_is : at ≡ 4 * digit_on_way id place
+  pub value_is : value ≡ get_or way (suc place) 0
+  pub set : HasWord (get_or way place 0) at value between new
+  pub keeps : KeepsBlocksBut (get_or way place 0 ∷ []) between new
+
 -- the references that were written so far, with one more
-pub leads_more : (way : List ℕ) (first id place at value : ℕ) (old between new : List ℕ) → length way ≡ 5
-    → first ≤ place → place < 4 → AreDistinct (stretch way first (4 - first))
-    → KeepsBlocksBut (stretch way first (place - first)) old between
-    → ((digits : ℕ) → first ≤ digits → digits < place
-    → HasWord (get_or way digits 0) (4 * digit_on_way id digits) (get_or way (suc digits) 0) old between)
-    → at ≡ 4 * digit_on_way id place → value ≡ get_or way (suc place) 0
-    → HasWord (get_or way place 0) at value between new → KeepsBlocksBut (get_or way place 0 ∷ []) between new
+pub leads_more : {way : List ℕ} {first id place at value : ℕ} {old between new : List ℕ}
+    → WritesReference way first id place at value old between new
     → (digits : ℕ) → first ≤ digits → digits < place + 1
     → HasWord (get_or way digits 0) (4 * digit_on_way id digits) (get_or way (suc digits) 0) old new
-leads_more way first id place at value old between new five from few distinct kept so_far at_is value_is set keeps
-    digits above below =
+leads_more {way} {first} {id} {place} {at} {value} {old} {between} {new} w digits above below =
     let apart : (j k : ℕ) → first ≤ j → j < k → k < first + (4 - first) → get_or way j 0 ≢ get_or way k 0 =
-    λ j k low lt high. stretch_apart way first (4 - first) j k (omega (arith, five, from, few)) distinct low lt high in
+    λ j k low lt high.
+    stretch_apart way first (4 - first) j k (omega (arith, w.five, w.from, w.few)) w.distinct low lt high in
     elim (cases_eq digits place) [
       | inl same ↦
           let untouched : block_of between (get_or way place 0) ≡ block_of old (get_or way place 0) =
-          kept.others (get_or way place 0)
+          w.kept.others (get_or way place 0)
           (not_in_stretch way first (place - first) (get_or way place 0)
-          (λ k low lt. apart k place low (omega (arith, from)) (omega (arith, from, few)))) in
+          (λ k low lt. apart k place low (omega (arith, w.from)) (omega (arith, w.from, w.few)))) in
           subst (λ (k : ℕ). HasWord (get_or way k 0) (4 * digit_on_way id k) (get_or way (suc k) 0) old new) (sym same)
-          (subst (λ (n : ℕ). HasWord (get_or way place 0) (4 * digit_on_way id place) n old new) value_is
-          (subst (λ (n : ℕ). HasWord (get_or way place 0) n value old new) at_is
-          (HasWord-earlier (get_or way place 0) at value old between new untouched set)))
+          (subst (λ (n : ℕ). HasWord (get_or way place 0) (4 * digit_on_way id place) n old new) w.value_is
+          (subst (λ (n : ℕ). HasWord (get_or way place 0) n value old new) w.at_is
+          (HasWord-earlier (get_or way place 0) at value old between new untouched w.set)))
       | inr other ↦
           let before : digits < place = omega arith in
           HasWord-later (get_or way digits 0) (4 * digit_on_way id digits) (get_or way (suc digits) 0) old between new
-          (so_far digits above before)
-          (keeps.others (get_or way digits 0)
+          (w.so_far digits above before)
+          (w.keeps.others (get_or way digits 0)
           (not_alone (get_or way place 0) (get_or way digits 0)
-          (λ same. apart digits place above before (omega (arith, from, few)) (sym same))))
+          (λ same. apart digits place above before (omega (arith, w.from, w.few)) (sym same))))
     ]
 
 -- a stretch of a way with one more block

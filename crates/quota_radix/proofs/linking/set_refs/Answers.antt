@@ -2,7 +2,7 @@ use Rattle.std.proofs.Common.{◌≡◌, ℕ, suc, ◌+◌, ◌-◌, ◌*◌, �
 use Rattle.std.proofs.Common.{subst, ◌∙◌, arith}
 use Rattle.quota_pages.specs.Page.{is_buffered}
 use Rattle.quota_pages.specs.Pages.{pages_of}
-use Rattle.quota_pages.specs.Used.{LendsSome, missing, shown_over}
+use Rattle.quota_pages.specs.Used.{LendsSome, missing}
 use Rattle.quota_pages.proofs.UsedLemmas.{lends_then, missing-there, shown_over-lends}
 use Rattle.quota_radix.proofs.LinkWayLemmas.{stretch}
 use Rattle.quota_radix.proofs.AlongLemmas.{digit_there}
@@ -36,16 +36,21 @@ loop-place-preserved g c =
           (S.seen c.args.store.now) (S.seen c.set_word.new.store) c.args.pages.now c.set_word.new.self)
           none (lends_then kept.lends set.lends));
       words = λ known distinct.
-          leads_more way first c.args.id place (4 * c.from.result) (get_or way (place + 1) 0)
-          (shown_over (S.seen c.args.store.now) c.args.pages.now)
-          (shown_over (S.seen c.loop-place.store) c.loop-place.pages)
-          (shown_over (S.seen c.set_word.new.store) c.set_word.new.self)
-          five from few distinct (shown_over-lends kept.lends) (kept.words known distinct)
-          (ap (λ (n : ℕ). 4 * n)
-          (c.from.ensures ∙ ap (λ (ds : List ℕ). get_or ds place 0) c.digits-digits.ensures.digits
-          ∙ digit_there c.args.id place few))
-          (ap (λ (k : ℕ). get_or way k 0) next)
-          (set.set (kept.lends.known known)) (shown_over-lends set.lends);
+          leads_more (record {
+            five = five;
+            from = from;
+            few = few;
+            distinct = distinct;
+            kept = shown_over-lends kept.lends;
+            so_far = kept.words known distinct;
+            at_is =
+                ap (λ (n : ℕ). 4 * n)
+                (c.from.ensures ∙ ap (λ (ds : List ℕ). get_or ds place 0) c.digits-digits.ensures.digits
+                ∙ digit_there c.args.id place few);
+            value_is = ap (λ (k : ℕ). get_or way k 0) next;
+            set = set.set (kept.lends.known known);
+            keeps = shown_over-lends set.lends;
+          });
       commits = g.S.Store.commits_on [] [] _ _ _ c.loop-place.invariant.commits set.commits;
     }
 
