@@ -52,31 +52,44 @@ parts_kept format old new list first low (suc count) kept are = (
   parts_kept format old new list first (low + 1) count (λ number below. kept number (omega arith)) are.1,
 )
 
-pub part_added : (format : Format) → IsTreeFormat format
-    → (list : List Entry) (first : ℕ) (old file new block : List ℕ) (leaves more : List TreePath)
-    (rest now later : List Entry) (count number now_len : ℕ)
-    → length file ≡ 1024 * number → number ≡ first + count → length block ≡ 1024 → new ≡ file ++ block
-    → 1 ≤ length rest → now_len ≡ min (length rest) (entries_per_block format) → now ≡ take now_len rest
-    → later ≡ drop now_len rest
-    → IsDataBlock format block now → more ≡ leaves ++ leaves_in (record { block = number; entries = now })
+-- One data block is appended to a file: it has the first entries of those that are left, as many as a block has room
+-- for, or all of them.
+pub record AppendsPart (format : Format) (file new block : List ℕ) (leaves more : List TreePath)
+    (rest now later : List Entry) (first count number now_len : ℕ) : Type 0 where
+  pub tree : IsTreeFormat format
+  pub long : length file ≡ 1024 * number
+  pub place : number ≡ first + count
+  pub size : length block ≡ 1024
+  pub grown : new ≡ file ++ block
+  pub some : 1 ≤ length rest
+  pub now_is : now_len ≡ min (length rest) (entries_per_block format)
+  pub now_so : now ≡ take now_len rest
+  pub later_so : later ≡ drop now_len rest
+  pub spelled : IsDataBlock format block now
+  pub pushed : more ≡ leaves ++ leaves_in (record { block = number; entries = now })
+
+-- the parts so far, with one more
+pub part_added : {format : Format} {file new block : List ℕ} {leaves more : List TreePath} {rest now later : List Entry}
+    {first count number now_len : ℕ} (list : List Entry) (old : List ℕ)
+    → AppendsPart format file new block leaves more rest now later first count number now_len
     → HasParts format list first old file leaves rest count → HasParts format list first old new more later (count + 1)
-part_added format tree list first old file new block leaves more rest now later count number now_len long place size
-    grown some now_is now_so later_so spelled pushed so_far =
+part_added {format} {file} {new} {block} {leaves} {more} {rest} {now} {later} {first} {count} {number} {now_len} list old
+    a so_far =
     let per : ℕ = entries_per_block format in
     let now_part : now ≡ (part_of format list first count).entries =
-    now_so ∙ take_least now_len per rest now_is ∙ ap (take per) so_far.rest_is in
+    a.now_so ∙ take_least now_len per rest a.now_is ∙ ap (take per) so_far.rest_is in
     let kept : KeepsBlocks number file new =
-    subst (λ (bytes : List ℕ). KeepsBlocks number file bytes) (sym grown) (kept_append file block number long) in
-    let there : block_of new (first + count) ≡ block = ap (λ (bytes : List ℕ). block_of bytes (first + count)) grown
-    ∙ ap (block_of (file ++ block)) (sym place) ∙ appended file block number long size in
+    subst (λ (bytes : List ℕ). KeepsBlocks number file bytes) (sym a.grown) (kept_append file block number a.long) in
+    let there : block_of new (first + count) ≡ block = ap (λ (bytes : List ℕ). block_of bytes (first + count)) a.grown
+    ∙ ap (block_of (file ++ block)) (sym a.place) ∙ appended file block number a.long a.size in
     let part : Part = part_of format list first count in
     let same_part : leaves_in (record { block = number; entries = now }) ≡ leaves_in part =
-    ap (λ (k : ℕ). leaves_in (record { block = k; entries = now })) place
+    ap (λ (k : ℕ). leaves_in (record { block = k; entries = now })) a.place
     ∙ ap (λ (es : List Entry). leaves_in (record { block = first + count; entries = es })) now_part in
     let one : leaves_in part ++ [] ≡ leaves_in part = append-nil (leaves_in part) in
     record {
       leaves_are =
-          pushed ∙ ap (λ (ps : List TreePath). leaves ++ ps) same_part
+          a.pushed ∙ ap (λ (ps : List TreePath). leaves ++ ps) same_part
           ∙ ap (λ (ps : List TreePath). ps ++ leaves_in part) so_far.leaves_are
           ∙ ap (λ (ps : List TreePath). flat_map leaves_in (parts_of format list first count) ++ ps) (sym one)
           ∙ sym (ap (flat_map leaves_in) (parts_push format list first count)
@@ -84,20 +97,20 @@ part_added format tree list first old file new block leaves more rest now later 
       blocks_are = subst (AreDataBlocks format new) (sym (parts_push format list first count))
           (each-append (λ (p : Part). IsDataBlock format (block_of new p.block) p.entries)
           (parts_of format list first count) (part ∷ [])
-          (parts_kept format file new list first 0 count (λ k below. kept k (omega arith)) so_far.blocks_are) (
+          (parts_kept format file new list first 0 count (λ k below. kept k (omega (arith, a.place))) so_far.blocks_are) (
             subst (λ (bytes : List ℕ). IsDataBlock format bytes part.entries) (sym there)
-                (subst (IsDataBlock format block) now_part spelled),
+                (subst (IsDataBlock format block) now_part a.spelled),
             tt,
           ));
-      kept = kept_again first old file new so_far.kept (λ k below. kept k (omega arith));
-      rest_is = later_so ∙ ap (drop now_len) so_far.rest_is
-          ∙ drop_least now_len (per * count) per (length rest) list now_is (ap length so_far.rest_is)
+      kept = kept_again first old file new so_far.kept (λ k below. kept k (omega (arith, a.place)));
+      rest_is = a.later_so ∙ ap (drop now_len) so_far.rest_is
+          ∙ drop_least now_len (per * count) per (length rest) list a.now_is (ap length so_far.rest_is)
           ∙ ap (λ (k : ℕ). drop k list) (omega arith);
       left = omega (
         arith,
         so_far.left,
-        filled_one_more format tree (length rest) now_len (length later) some now_is
-            (ap length later_so ∙ length-drop now_len rest),
+        filled_one_more format a.tree (length rest) now_len (length later) a.some a.now_is
+            (ap length a.later_so ∙ length-drop now_len rest),
       );
     }
   where

@@ -15,18 +15,23 @@ loop-rest-preserved c =
       count = so_far.count + 1;
       blocks = omega (arith, c.in_ok-block.ensures.blocks, so_far.blocks);
       parts =
-          part_added c.args.format c.requires.tree c.args.list.now c.args.file.now.blocks c.args.file.now.bytes.items
-          c.loop-rest.file.bytes.items c.append.new.self.bytes.items
-          c.data_block.result c.loop-rest.leaves.items c.add_leaves.new.leaves.items c.loop-rest.rest.now
-          c.split_at.result.0.now c.split_at.result.1.now
-          so_far.count c.loop-rest.file.blocks c.min.result (omega arith) so_far.blocks (omega arith)
-          c.in_ok-block.ensures.bytes
-          (some_left (length c.loop-rest.rest.now) c.is_empty.result c.is_empty.ensures c.loop-rest-test.true)
-          (c.min.ensures ∙ ap (λ (k : ℕ). min (length c.loop-rest.rest.now) k) c.entries_per_block-per_block.ensures)
-          c.split_at.ensures.front c.split_at.ensures.back c.data_block.ensures
-          (c.in_ok-add_leaves.ensures.leaves
-          ∙ ap (λ (k : ℕ). c.loop-rest.leaves.items
-          ++ leaves_in (record { block = k; entries = c.split_at.result.0.now })) c.in_ok-block.ensures.number)
-          so_far.parts;
+          part_added c.args.list.now c.args.file.now.bytes.items (record {
+            tree = c.requires.tree;
+            long = omega arith;
+            place = so_far.blocks;
+            size = omega arith;
+            grown = c.in_ok-block.ensures.bytes;
+            some = some_left (length c.loop-rest.rest.now) c.is_empty.result c.is_empty.ensures c.loop-rest-test.true;
+            now_is =
+                c.min.ensures
+                ∙ ap (λ (k : ℕ). min (length c.loop-rest.rest.now) k) c.entries_per_block-per_block.ensures;
+            now_so = c.split_at.ensures.front;
+            later_so = c.split_at.ensures.back;
+            spelled = c.data_block.ensures;
+            pushed =
+                c.in_ok-add_leaves.ensures.leaves
+                ∙ ap (λ (k : ℕ). c.loop-rest.leaves.items
+                ++ leaves_in (record { block = k; entries = c.split_at.result.0.now })) c.in_ok-block.ensures.number;
+          }) so_far.parts;
       below = c.in_ok-add_leaves.ensures.below so_far.below;
     }
