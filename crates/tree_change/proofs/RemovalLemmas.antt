@@ -124,45 +124,57 @@ freed_same old between new blocks id way named =
     ∙ ap (λ (xs : List ℕ). unnamed_of new blocks (drop 4 (blocks_on_way old blocks id))
     ++ drop (length xs) (take 4 (blocks_on_way old blocks id))) (sym way)
 
--- A record was taken out of a file, and the heads were written in its header.
-pub removes_record : (id : ℕ) (way : List ℕ) (header : Header) (start heads : Heads) (old between new : List ℕ)
-    (value : QuotaValue)
-    → id < 2 ^ 32 → AreOf header (header_of old) → start.blocks ≡ header.blocks → start.free ≡ header.free
-    → start.first ≡ header.first
-    → way ≡ blocks_on_way old header.blocks id → length way ≡ 5 → TreeStandsFor old value
-    → TakesRecord header.format way id old between start heads → heads.blocks ≡ start.blocks
-    → KeepsBlocksBut (0 ∷ []) between new → (AreOf header (header_of between) → SetsHeads heads between new)
+-- A record is taken out of a file, by the way of its identifier and with the heads that the header has, and the heads
+-- that are left are then written in the header.
+pub record TakesAndWrites (id : ℕ) (way : List ℕ) (header : Header) (start heads : Heads) (old between new : List ℕ)
+    : Type 0 where
+  pub small : id < 2 ^ 32
+  pub are : AreOf header (header_of old)
+  pub blocks : start.blocks ≡ header.blocks
+  pub free : start.free ≡ header.free
+  pub first : start.first ≡ header.first
+  pub is : way ≡ blocks_on_way old header.blocks id
+  pub five : length way ≡ 5
+  pub takes : TakesRecord header.format way id old between start heads
+  pub same : heads.blocks ≡ start.blocks
+  pub keeps : KeepsBlocksBut (0 ∷ []) between new
+  pub writes : AreOf header (header_of between) → SetsHeads heads between new
+
+-- so the record is removed
+pub removes_record : {id : ℕ} {way : List ℕ} {header : Header} {start heads : Heads} {old between new : List ℕ}
+    (value : QuotaValue) → TreeStandsFor old value → TakesAndWrites id way header start heads old between new
     → RemovesRecord id value old new heads
-removes_record id way header start heads old between new value small are blocks free first is five stands takes
-    same keeps writes =
-    let at : start ≡ heads_of (header_of old) = heads_are header (header_of old) start are blocks free first in
+removes_record {id} {way} {header} {start} {heads} {old} {between} {new} value stands t =
+    let at : start ≡ heads_of (header_of old) = heads_are header (header_of old) start t.are t.blocks t.free t.first in
     let was : IsWholeTree (loose_of [] None None) header.format old start value.records =
-    tree_by_header old header start value are at stands in
-    let found : way ≡ blocks_on_way old start.blocks id = is ∙ ap (λ (n : ℕ). blocks_on_way old n id) (sym blocks) in
-    let taken = takes value.records found was in
+    tree_by_header old header start value t.are at stands in
+    let found : way ≡ blocks_on_way old start.blocks id =
+    t.is ∙ ap (λ (n : ℕ). blocks_on_way old n id) (sym t.blocks) in
+    let taken = t.takes value.records found was in
     let unchanged : header_of between ≡ header_of old = header_same old between taken.header in
-    let set : SetsHeads heads between new = writes (subst (AreOf header) (sym unchanged) are) in
+    let set : SetsHeads heads between new = t.writes (subst (AreOf header) (sym unchanged) t.are) in
     let numbers : header_of new ≡ with_heads (header_of old) heads =
     set.numbers ∙ ap (λ (was : HeaderNumbers). with_heads was heads) unchanged in
     let tree : IsWholeTree (loose_of [] None None) header.format new heads (remove value.records id) =
     header_changed [] None header.format between new (length between) (length new) heads (remove value.records id)
-    taken.tree keeps keeps.longer in
-    let beside = header_frees header.format between new heads (remove value.records id) taken.tree keeps in
+    taken.tree t.keeps t.keeps.longer in
+    let beside = header_frees header.format between new heads (remove value.records id) taken.tree t.keeps in
     let freed =
     frees_then (freed_blocks old between heads.blocks id) [] old between new start heads heads taken.freed beside.0 in
     let long : 1024 * start.blocks ≤ length old =
-    long_by_way [] header.format old start value.records id small was (omega (arith, five, ap {B = ℕ} length found)) in
+    long_by_way [] header.format old start value.records id t.small was
+    (omega (arith, t.five, ap {B = ℕ} length found)) in
     record {
       stands = value_with_heads old new value (remove value.records id) heads stands numbers
           (subst (λ (format : Format). IsWholeTree (loose_of [] None None) format new heads (remove value.records id))
-          (sym (format_is header old value are stands)) tree);
+          (sym (format_is header old value t.are stands)) tree);
       heads_are = ap heads_of (sym numbers);
       header = subst (λ (block : List ℕ). KeepsOutside 20 32 block (block_of new 0)) taken.header set.others;
-      blocks = same ∙ blocks ∙ sym are.blocks;
-      long = omega (arith, freed.behind.longer, freed.behind.within, long, same);
+      blocks = t.same ∙ t.blocks ∙ sym t.are.blocks;
+      long = omega (arith, freed.behind.longer, freed.behind.within, long, t.same);
       freed = subst (λ (h : Heads). FreesBlocks (freed_blocks old new heads.blocks id) old new h heads) at
           (subst (λ (freed : List ℕ). FreesBlocks freed old new start heads)
-          (freed_same old between new heads.blocks id (beside.1 id small) beside.2) freed);
+          (freed_same old between new heads.blocks id (beside.1 id t.small) beside.2) freed);
     }
 
 -- Where none could be taken out of it the file stands for no value.

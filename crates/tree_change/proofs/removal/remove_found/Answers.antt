@@ -20,9 +20,19 @@ returns-clause-removed g c = λ is known are value stands.
     let start = c.heads_in-heads.ensures in
     let took = c.in_ok-take_out.ensures in
     let wrote = c.in_ok-renew_heads.ensures in
-    removes_record c.args.id c.args.path.now.found.items c.args.header.now c.heads_in-heads.result c.take_out.new.heads
-    _ _ _ value (omega (arith, c.ranges.id.fits)) are start.blocks start.free start.first is c.requires.found stands
-    (took.taken known) took.blocks wrote.keeps (wrote.set (took.uses.known known))
+    removes_record value stands (record {
+      small = omega (arith, c.ranges.id.fits);
+      are = are;
+      blocks = start.blocks;
+      free = start.free;
+      first = start.first;
+      is = is;
+      five = c.requires.found;
+      takes = took.taken known;
+      same = took.blocks;
+      keeps = wrote.keeps;
+      writes = wrote.set (took.uses.known known);
+    })
 
 pub returns-clause-beside : goal.returns-clause-beside
 returns-clause-beside g c =
