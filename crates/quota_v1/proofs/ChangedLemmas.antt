@@ -126,46 +126,55 @@ puts_part format flat old grace shown bytes size is from whole long keeps block 
     (number_at-take (time_width format) size bytes (inode_time_at format) (omega (arith, is, fill))
     ∙ ap (number_at (time_width format) bytes) here ∙ inode)
 
--- bytes were written into a file and synced, after a call that only read
+-- Bytes are written into a file and synced, after a call that only read: what the two calls did, by what is told of the
+-- store, and that the file with these bytes over it is as is wanted.
+pub record WritesAfterRead {E : Type 0} (tells : Bool) (so : (before after : List ℕ) → Type 0) (name : List ℕ) (at : ℕ)
+    (bytes : List ℕ) (old mid new : StoreSeen) (result : Result (Unit {0}) E) : Type 0 where
+  pub read : OnlyReads true name old mid
+  pub few : mid.reads ≤ old.reads + 1
+  pub written : OnOk result (IsTrue tells → new.files ≡ with_bytes mid.files name at bytes)
+  pub synced : OnOk result (IsTrue tells → IsSynced name mid new)
+  pub torn : OnErr result
+      (IsTrue tells → (new.files ≡ mid.files) ⊎ (new.files ≡ with_bytes mid.files name at bytes))
+  pub cause : OnErr result (Rose mid.faults new.faults)
+  pub leaves : ChangesOne name mid new
+  pub writes : new.writes ≤ mid.writes + 1
+  pub rose : Rose mid.writes new.writes
+  pub some : 1 ≤ length bytes
+  pub fits : length bytes ≤ 1024
+  pub made : IsTrue tells → so (bytes_of (old.files name)) (overwritten (bytes_of (old.files name)) at bytes)
+
+-- so the file is changed
 pub changes_file : {E : Type 0} (tells : Bool) (so : (before after : List ℕ) → Type 0) (name : List ℕ) (at : ℕ)
-    (bytes : List ℕ) (old mid new : StoreSeen) (result : Result (Unit {0}) E)
-    → OnlyReads true name old mid → mid.reads ≤ old.reads + 1
-    → OnOk result (IsTrue tells → new.files ≡ with_bytes mid.files name at bytes)
-    → OnOk result (IsTrue tells → IsSynced name mid new)
-    → OnErr result (IsTrue tells → (new.files ≡ mid.files) ⊎ (new.files ≡ with_bytes mid.files name at bytes))
-    → OnErr result (Rose mid.faults new.faults)
-    → ChangesOne name mid new → new.writes ≤ mid.writes + 1 → Rose mid.writes new.writes → 1 ≤ length bytes
-    → length bytes ≤ 1024
-    → (IsTrue tells → so (bytes_of (old.files name)) (overwritten (bytes_of (old.files name)) at bytes))
-    → ChangesFile tells so name old new result
-changes_file tells so name at bytes old mid new (Ok told) read few written synced torn cause leaves writes rose some
-    few' made = record {
-      changed = λ tell. made_overwritten so old.files new.files name at bytes
-          (written tell ∙ ap (λ (files : World). with_bytes files name at bytes) read.files) some few' (made tell);
-      synced = λ tell. is_synced-then name old mid new (is_synced-read name old mid read) (synced tell);
-      torn = tt;
-      cause = tt;
-      others = λ other differ. leaves.files other differ ∙ ap (λ (files : World). files other) read.files;
-      leaves = edits_one-after_read name old mid new read (edits_one-changed name mid new leaves (inr rose));
-      reads = omega (arith, few, leaves.reads);
-      writes = omega (arith, writes, read.writes);
-    }
-changes_file tells so name at bytes old mid new (Err fault) read few written synced torn cause leaves writes rose some
-    few' made = record {
-      changed = tt;
-      synced = tt;
-      torn = λ tell. elim (torn tell) [
-        | inl same ↦ inl (same ∙ read.files)
-        | inr wrote ↦ inr
-            (made_overwritten so old.files new.files name at bytes
-            (wrote ∙ ap (λ (files : World). with_bytes files name at bytes) read.files) some few' (made tell))
-      ];
-      cause = omega (arith, cause, read.later);
-      others = λ other differ. leaves.files other differ ∙ ap (λ (files : World). files other) read.files;
-      leaves = edits_one-after_read name old mid new read (edits_one-changed name mid new leaves (inr rose));
-      reads = omega (arith, few, leaves.reads);
-      writes = omega (arith, writes, read.writes);
-    }
+    (bytes : List ℕ) {old mid new : StoreSeen} (result : Result (Unit {0}) E)
+    → WritesAfterRead tells so name at bytes old mid new result → ChangesFile tells so name old new result
+changes_file tells so name at bytes {old} {mid} {new} (Ok told) w = record {
+  changed = λ tell. made_overwritten so old.files new.files name at bytes
+      (w.written tell ∙ ap (λ (files : World). with_bytes files name at bytes) w.read.files) w.some w.fits
+      (w.made tell);
+  synced = λ tell. is_synced-then name old mid new (is_synced-read name old mid w.read) (w.synced tell);
+  torn = tt;
+  cause = tt;
+  others = λ other differ. w.leaves.files other differ ∙ ap (λ (files : World). files other) w.read.files;
+  leaves = edits_one-after_read name old mid new w.read (edits_one-changed name mid new w.leaves (inr w.rose));
+  reads = omega (arith, w.few, w.leaves.reads);
+  writes = omega (arith, w.writes, w.read.writes);
+}
+changes_file tells so name at bytes {old} {mid} {new} (Err fault) w = record {
+  changed = tt;
+  synced = tt;
+  torn = λ tell. elim (w.torn tell) [
+    | inl same ↦ inl (same ∙ w.read.files)
+    | inr wrote ↦ inr
+        (made_overwritten so old.files new.files name at bytes
+        (wrote ∙ ap (λ (files : World). with_bytes files name at bytes) w.read.files) w.some w.fits (w.made tell))
+  ];
+  cause = omega (arith, w.cause, w.read.later);
+  others = λ other differ. w.leaves.files other differ ∙ ap (λ (files : World). files other) w.read.files;
+  leaves = edits_one-after_read name old mid new w.read (edits_one-changed name mid new w.leaves (inr w.rose));
+  reads = omega (arith, w.few, w.leaves.reads);
+  writes = omega (arith, w.writes, w.read.writes);
+}
 
 -- a change after a call that only read, which made no call of `read` itself
 pub changes_after_read : {E : Type 0} (tells : Bool) (so : (before after : List ℕ) → Type 0) (name : List ℕ)

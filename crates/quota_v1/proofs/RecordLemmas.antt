@@ -34,22 +34,33 @@ timed_record-other format file id other =
 not_zero : (n : ℕ) → (suc n == 0) ≡ false
 not_zero n = grind (arith, nat_tests)
 
--- the record of an identifier above 0 whose eight numbers were written where it starts
-pub written_record : (format : Format) → is_flat format ≡ true → (file : List ℕ) (id at : ℕ) (rec : Rec)
-    → at ≡ record_start format id → (id == 0) ≡ false → kept_of format id rec ≡ rec
-    → number_at 4 file at ≡ rec.bhard → number_at 4 file (at + 4) ≡ rec.bsoft
-    → number_at 4 file (at + 8) ≡ kib_of rec.space
-    → number_at 4 file (at + 12) ≡ rec.ihard → number_at 4 file (at + 16) ≡ rec.isoft
-    → number_at 4 file (at + 20) ≡ rec.inodes
-    → number_at (time_width format) file (at + block_time_at) ≡ rec.btime
-    → number_at (time_width format) file (at + inode_time_at format) ≡ rec.itime → timed_record format file id ≡ rec
-written_record format flat file id at rec place other kept e1 e2 e3 e4 e5 e6 e7 e8 =
+-- Where the record of an identifier above 0 starts in a flat file stand the eight numbers of a record, of which the
+-- format keeps all.
+pub record HasNumbers (format : Format) (file : List ℕ) (id at : ℕ) (rec : Rec) : Type 0 where
+  pub flat : is_flat format ≡ true
+  pub place : at ≡ record_start format id
+  pub other : (id == 0) ≡ false
+  pub kept : kept_of format id rec ≡ rec
+  pub bhard : number_at 4 file at ≡ rec.bhard
+  pub bsoft : number_at 4 file (at + 4) ≡ rec.bsoft
+  pub space : number_at 4 file (at + 8) ≡ kib_of rec.space
+  pub ihard : number_at 4 file (at + 12) ≡ rec.ihard
+  pub isoft : number_at 4 file (at + 16) ≡ rec.isoft
+  pub inodes : number_at 4 file (at + 20) ≡ rec.inodes
+  pub btime : number_at (time_width format) file (at + block_time_at) ≡ rec.btime
+  pub itime : number_at (time_width format) file (at + inode_time_at format) ≡ rec.itime
+
+-- so it is the record of the identifier
+pub written_record : {format : Format} {file : List ℕ} {id at : ℕ} {rec : Rec} → HasNumbers format file id at rec
+    → timed_record format file id ≡ rec
+written_record {format} {file} {id} {at} {rec} w =
     let whole : record rec { space = 1024 * kib_of rec.space } ≡ rec =
     sym (ap (λ (b : Bool). cond b (record rec { space = 1024 * kib_of rec.space; btime = 0; itime = 0 })
-    (record rec { space = 1024 * kib_of rec.space })) other)
-    ∙ sym (kept_flat format flat id rec) ∙ kept in
-    let stored : stored_at format file at ≡ rec = rw (e1, e2, e3, e4, e5, e6, e7, e8) whole in
-    timed_record-other format file id other ∙ ap (stored_at format file) (sym place) ∙ stored
+    (record rec { space = 1024 * kib_of rec.space })) w.other)
+    ∙ sym (kept_flat format w.flat id rec) ∙ w.kept in
+    let stored : stored_at format file at ≡ rec =
+    rw (w.bhard, w.bsoft, w.space, w.ihard, w.isoft, w.inodes, w.btime, w.itime) whole in
+    timed_record-other format file id w.other ∙ ap (stored_at format file) (sym w.place) ∙ stored
 
 -- the record of an identifier whose bytes stayed; the times of record 0 are no part of one
 pub timed_record-same : (format : Format) → is_flat format ≡ true → (old new : List ℕ) (q : ℕ)

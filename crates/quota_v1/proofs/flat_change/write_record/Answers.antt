@@ -8,13 +8,17 @@ pub returns-clause-written : goal.returns-clause-written
 returns-clause-written c =
     let numbers = c.write_numbers.ensures in
     let times = c.write_times.ensures in
-    written_record c.args.format c.requires.flat c.write_times.new.bytes c.args.id _ c.args.rec.now
-    c.record_start-start.ensures.place (grind (arith, nat_tests)) c.requires.kept.again
-    (number_before 4 _ _ _ _ _ times.kept (omega arith) ∙ numbers.bhard)
-    (number_before 4 _ _ _ _ _ times.kept (omega arith) ∙ numbers.bsoft)
-    (number_before 4 _ _ _ _ _ times.kept (omega arith) ∙ numbers.space)
-    (number_before 4 _ _ _ _ _ times.kept (omega arith) ∙ numbers.ihard)
-    (number_before 4 _ _ _ _ _ times.kept (omega arith) ∙ numbers.isoft)
-    (number_before 4 _ _ _ _ _ times.kept (omega arith) ∙ numbers.inodes)
-    times.block
-    times.inode
+    written_record (record {
+      flat = c.requires.flat;
+      place = c.record_start-start.ensures.place;
+      other = grind (arith, nat_tests);
+      kept = c.requires.kept.again;
+      bhard = number_before 4 _ _ _ _ _ times.kept (omega arith) ∙ numbers.bhard;
+      bsoft = number_before 4 _ _ _ _ _ times.kept (omega arith) ∙ numbers.bsoft;
+      space = number_before 4 _ _ _ _ _ times.kept (omega arith) ∙ numbers.space;
+      ihard = number_before 4 _ _ _ _ _ times.kept (omega arith) ∙ numbers.ihard;
+      isoft = number_before 4 _ _ _ _ _ times.kept (omega arith) ∙ numbers.isoft;
+      inodes = number_before 4 _ _ _ _ _ times.kept (omega arith) ∙ numbers.inodes;
+      btime = times.block;
+      itime = times.inode;
+    })

@@ -34,13 +34,23 @@ returns g c =
     let some_bytes : 1 ≤ length bytes = omega (arith, long, c.record_size.ensures, fill) in
     record {
       changes =
-          changes_file S.tells _ c.args.name.now 0 bytes (S.seen c.args.store.now) (S.seen c.read_from.new.store)
-          (S.seen c.write_synced.new.store) c.write_synced.result
-          read.leaves (omega (arith, read.reads)) wrote.written wrote.synced wrote.torn wrote.cause wrote.leaves
-          wrote.writes wrote.rose some_bytes few
-          (λ told. puts_part format c.requires.flat (bytes_of ((S.seen c.args.store.now).files c.args.name.now))
-          c.args.grace c.read_from.new.buf c.write_times.new.bytes size c.record_size.ensures
-          (read.shown told) shown room times.kept times.block times.inode);
+          changes_file S.tells _ c.args.name.now 0 bytes c.write_synced.result (record {
+            read = read.leaves;
+            few = omega (arith, read.reads);
+            written = wrote.written;
+            synced = wrote.synced;
+            torn = wrote.torn;
+            cause = wrote.cause;
+            leaves = wrote.leaves;
+            writes = wrote.writes;
+            rose = wrote.rose;
+            some = some_bytes;
+            fits = few;
+            made = λ told.
+                puts_part format c.requires.flat (bytes_of ((S.seen c.args.store.now).files c.args.name.now))
+                c.args.grace c.read_from.new.buf c.write_times.new.bytes size c.record_size.ensures
+                (read.shown told) shown room times.kept times.block times.inode;
+          });
       commits = once_behind S.commits S.commits_on _ _ _ _ _ _ c.read_from.ensures.commits wrote.commits
           (λ written told. made_overwritten (FlatGraced format c.args.grace) (S.seen c.args.store.now).files
           (S.seen c.write_synced.new.store).files c.args.name.now 0 bytes

@@ -27,13 +27,23 @@ returns g c =
     c.record_size.ensures ∙ whole.stored in
     record {
       changes =
-          changes_file S.tells _ c.args.name.now _ bytes (S.seen c.args.store.now) (S.seen c.args.store.now)
-          (S.seen c.write_synced.new.store) c.write_synced.result
-          (only_reads-none _ _) (omega arith) wrote.written wrote.synced wrote.torn wrote.cause wrote.leaves
-          wrote.writes wrote.rose some_bytes few
-          (λ told. puts_record format c.requires.flat (bytes_of ((S.seen c.args.store.now).files c.args.name.now))
-          c.args.id c.args.rec.now c.args.times c.times_in-times.result _ bytes
-          c.record_start-at.ensures.place long stored c.requires.kept times.first times.other);
+          changes_file S.tells _ c.args.name.now _ bytes c.write_synced.result (record {
+            read = only_reads-none _ _;
+            few = omega arith;
+            written = wrote.written;
+            synced = wrote.synced;
+            torn = wrote.torn;
+            cause = wrote.cause;
+            leaves = wrote.leaves;
+            writes = wrote.writes;
+            rose = wrote.rose;
+            some = some_bytes;
+            fits = few;
+            made = λ told.
+                puts_record format c.requires.flat (bytes_of ((S.seen c.args.store.now).files c.args.name.now))
+                c.args.id c.args.rec.now c.args.times c.times_in-times.result _ bytes
+                c.record_start-at.ensures.place long stored c.requires.kept times.first times.other;
+          });
       reads = wrote.leaves.reads;
       commits = once_then S.commits _ _ _ _ _ wrote.commits
           (λ written told. made_overwritten (PutsRecord format c.args.id c.args.rec.now c.args.times)
