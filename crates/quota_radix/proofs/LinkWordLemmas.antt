@@ -19,8 +19,8 @@ not_alone x n ne = elim (cases_lt 0 (times (x ∷ []) n)) [
   | inr none ↦ omega arith
 ]
 
--- References stand in the blocks of a way from some place to another, and one more is written at the latter: a change of
--- its block alone, of a way whose blocks are distinct.
+-- References stand in the blocks of a way from some place to another, and one more is written at the latter. That
+-- changes its block alone. The blocks of the way are distinct.
 pub record WritesReference (way : List ℕ) (first id place at value : ℕ) (old between new : List ℕ) : Type 0 where
   pub five : length way ≡ 5
   pub from : first ≤ place

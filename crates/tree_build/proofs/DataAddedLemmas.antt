@@ -73,8 +73,8 @@ pub part_added : {format : Format} {file new block : List ℕ} {leaves more : Li
     {first count number now_len : ℕ} (list : List Entry) (old : List ℕ)
     → AppendsPart format file new block leaves more rest now later first count number now_len
     → HasParts format list first old file leaves rest count → HasParts format list first old new more later (count + 1)
-part_added {format} {file} {new} {block} {leaves} {more} {rest} {now} {later} {first} {count} {number} {now_len} list old
-    a so_far =
+part_added {format} {file} {new} {block} {leaves} {more} {rest} {now} {later} {first} {count} {number} {now_len} list
+    old a so_far =
     let per : ℕ = entries_per_block format in
     let now_part : now ≡ (part_of format list first count).entries =
     a.now_so ∙ take_least now_len per rest a.now_is ∙ ap (take per) so_far.rest_is in
@@ -97,7 +97,8 @@ part_added {format} {file} {new} {block} {leaves} {more} {rest} {now} {later} {f
       blocks_are = subst (AreDataBlocks format new) (sym (parts_push format list first count))
           (each-append (λ (p : Part). IsDataBlock format (block_of new p.block) p.entries)
           (parts_of format list first count) (part ∷ [])
-          (parts_kept format file new list first 0 count (λ k below. kept k (omega (arith, a.place))) so_far.blocks_are) (
+          (parts_kept format file new list first 0 count (λ k below. kept k (omega (arith, a.place)))
+          so_far.blocks_are) (
             subst (λ (bytes : List ℕ). IsDataBlock format bytes part.entries) (sym there)
                 (subst (IsDataBlock format block) now_part a.spelled),
             tt,
