@@ -1,10 +1,13 @@
 -- A record that is removed: its leaf is unlinked first, and then its entry is cleared.
 use Rattle.std.proofs.Common.{◌≡◌, ℕ, ◌*◌, ◌^◌, ◌<◌, ◌≤◌, ◌==◌, List, [], ◌∷◌, ◌++◌, length, get_or, drop, filter, take}
-use Rattle.std.proofs.Common.{Some, None, refl, sym, ap, subst, ◌∙◌, arith}
+use Rattle.std.proofs.Common.{Bool, true, Some, None, inl, inr, refl, sym, ap, subst, ◌∙◌, arith}
+use Rattle.std.proofs.lemmas.Bool.{cases_Bool}
+use Rattle.std.proofs.lemmas.Bool.Decides.{nat_tests}
 use Rattle.std.specs.FinMap.{remove}
+use Rattle.std.specs.List.{range_with_len}
 use Rattle.quota_types.specs.Times.{StandsIn, times}
 use Rattle.quota_types.specs.declared.file_kind.Format.{Format}
-use Rattle.quota_types.proofs.TimesLemmas.{only_one, times-cons-same}
+use Rattle.quota_types.proofs.TimesLemmas.{only_one, times-cons, times-cons-same, times-filter-no, times-filter-yes}
 use Rattle.quota_types.specs.KeptBytes.{KeepsOutside}
 use Rattle.file_blocks.specs.Block.{block_of}
 use Rattle.entry_codec.specs.Header.{HeaderNumbers, header_of}
@@ -12,11 +15,13 @@ use Rattle.entry_codec.specs.Spelling.{AreOf}
 use Rattle.entry_codec.specs.declared.header.Header.{Header}
 use Rattle.quota_value.specs.QuotaValue.{QuotaValue, Records}
 use Rattle.quota_pages.specs.KeptBlocks.{KeepsBlocksBut}
-use Rattle.quota_radix.specs.Tree.{data_blocks, tree_blocks}
+use Rattle.quota_radix.specs.Tree.{data_blocks, is_data, level, tree_blocks}
+use Rattle.quota_radix.specs.declared.tree_path.TreePath.{TreePath}
 use Rattle.quota_radix.specs.OnWay.{blocks_on_way}
 use Rattle.free_chains.specs.declared.heads.Heads.{Heads}
 use Rattle.tree_meaning.specs.TreeHeads.{heads_of}
 use Rattle.tree_meaning.specs.Loose.{Loose, loose_of}
+use Rattle.tree_meaning.specs.Roles.{counts_as_data, data_with}
 use Rattle.tree_meaning.specs.TreeFile.{TreeStandsFor}
 use Rattle.tree_meaning.proofs.AsideLemmas.{header_changed}
 use Rattle.tree_meaning.proofs.MovedLemmas.{times-roles}
@@ -41,6 +46,22 @@ fifth_alone (a ∷ b ∷ c ∷ []) five = absurd (omega (arith, five))
 fifth_alone (a ∷ b ∷ c ∷ d ∷ []) five = absurd (omega (arith, five))
 fifth_alone (a ∷ b ∷ c ∷ d ∷ e ∷ []) five = refl
 fifth_alone (a ∷ b ∷ c ∷ d ∷ e ∷ f ∷ way) five = absurd (omega (arith, five))
+
+-- a number that a filter keeps, another one keeps that passes what it passes
+stands-filter : (few more : ℕ → Bool) (xs : List ℕ) (n : ℕ) → (few n ≡ true → more n ≡ true)
+    → StandsIn (filter few xs) n → StandsIn (filter more xs) n
+stands-filter few more xs n passes stands = elim (cases_Bool (few n)) [
+  | inl is ↦ omega (arith, stands, times-filter-yes few xs n is, times-filter-yes more xs n (passes is))
+  | inr other ↦ absurd (omega (arith, stands, times-filter-no few xs n other))
+]
+
+-- a data block is one where a leaf is awaited besides
+data_awaited : (leaf : TreePath) (file : List ℕ) (blocks block : ℕ) → StandsIn (data_blocks file blocks) block
+    → StandsIn (data_with (loose_of [] (Some leaf) None) file blocks) block
+data_awaited leaf file blocks block =
+    stands-filter (is_data file blocks) (counts_as_data (loose_of [] (Some leaf) None) file blocks)
+    (range_with_len 0 blocks) block
+    (λ is. grind (arith, nat_tests, is, times-cons leaf.block (level file blocks 4) block))
 
 module _ (format : Format) (way : List ℕ) (id block : ℕ) (old between : List ℕ) (heads middle : Heads)
     (fifth : block ≡ get_or way 4 0)
@@ -81,6 +102,10 @@ module _ (format : Format) (way : List ℕ) (id block : ℕ) (old between : List
             (λ (lower : List ℕ). unnamed_of new now.blocks (drop 4 (blocks_on_way old now.blocks id)) ++ lower) lost)
             (frees_then (lost_blocks old between middle.blocks id) (unnamed_of new now.blocks (block ∷ [])) old between
             new heads middle now gone.1 removed.1.frees);
+        new_data = λ number stands.
+            subst (λ (numbers : List ℕ). StandsIn numbers number) gone.0.same_data
+            (data_awaited (record { number = id; block = block }) between middle.blocks number
+            (subst (λ (numbers : List ℕ). StandsIn numbers number) removed.1.named stands));
       }
 
   -- or the second one was refused
@@ -175,6 +200,9 @@ removes_record {id} {way} {header} {start} {heads} {old} {between} {new} value s
       freed = subst (λ (h : Heads). FreesBlocks (freed_blocks old new heads.blocks id) old new h heads) at
           (subst (λ (freed : List ℕ). FreesBlocks freed old new start heads)
           (freed_same old between new heads.blocks id (beside.1 id t.small) beside.2) freed);
+      new_data = λ block stands.
+          subst (λ (blocks : ℕ). StandsIn (data_blocks old blocks) block) (t.blocks ∙ sym t.are.blocks)
+          (taken.new_data block (subst (λ (numbers : List ℕ). StandsIn numbers block) beside.2 stands));
     }
 
 -- Where none could be taken out of it the file stands for no value.
