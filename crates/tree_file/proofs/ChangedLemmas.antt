@@ -64,6 +64,8 @@ remove_changes id value old new heads stands there removes =
         blocks = sym blocks ∙ removes.blocks;
         freed = subst (λ (h : Heads). FreesBlocks (freed_blocks old new h.blocks id) old new (heads_of (header_of old))
             h) removes.heads_are removes.freed;
+        new_data = λ block stands.
+            removes.new_data block (subst (λ (n : ℕ). StandsIn (data_blocks new n) block) (sym blocks) stands);
       };
       room = wanted_removed old value id stands ∙ sym removes.blocks;
       busy = there;

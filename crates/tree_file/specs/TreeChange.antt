@@ -32,8 +32,8 @@ pub record PutsInPlace (id : ℕ) (before after : List ℕ) : Type 0 where
       → (header_of before).first ≡ 0
 
 -- The record of an identifier was taken away: of the header's block the heads alone change; there are as many blocks as
--- before, and those that it freed stand before the free ones, with nothing but their links. All bytes behind the last
--- block are as before, and the file is as long.
+-- before, and those that it freed stand before the free ones, with nothing but their links. Each data block was one
+-- before. All bytes behind the last block are as before, and the file is as long.
 pub record RemovesInPlace (id : ℕ) (before after : List ℕ) : Type 0 where
   pub header : KeepsOutside 20 32 (block_of before 0) (block_of after 0)
   pub behind : KeepsOutside 0 (1024 * (header_of after).blocks) before after
@@ -41,6 +41,8 @@ pub record RemovesInPlace (id : ℕ) (before after : List ℕ) : Type 0 where
   pub blocks : (header_of after).blocks ≡ (header_of before).blocks
   pub freed : FreesBlocks (freed_blocks before after (header_of after).blocks id) before after
       (heads_of (header_of before)) (heads_of (header_of after))
+  pub new_data : (block : ℕ) → StandsIn (data_blocks after (header_of after).blocks) block
+      → StandsIn (data_blocks before (header_of before).blocks) block
 
 -- The grace periods were set where they stand: all bytes stay but those of the two, and a file that is shorter than its
 -- first block has the whole of it.
