@@ -175,37 +175,43 @@ pub of_done : (result : Result (Unit {0}) Refusal) (holds : Type 0) → holds �
 of_done (Ok value) holds is = is
 of_done (Err refusal) holds is = tt
 
--- a command that uses no link and reads no commands was carried out
+-- What holds of a command that uses no link and reads no commands, once it was done or refused. Its link is as before.
+pub record DoesAlone (d : Description) (invocation : Invocation) (tells : RunTells) (old new : RunSeen)
+    (result : Result (Unit {0}) Refusal) : Type 0 where
+  pub unwritten : IsTrue d.unwritten
+      → IfErr result (λ (refusal : Refusal). refusal.cause ≡ Memory → IsUnwritten old.store new.store)
+  pub unfinished : d.unfinished invocation tells old new
+  pub reads_none : d.uses.reads_commands ≡ false
+  pub link : new.link ≡ old.link
+  pub carries : CarriesOut (d.steps invocation) d.uses d.may tells old new result
+  pub named : IfSome d.replaces
+      (λ (file : List ℕ). OnErr result (IsTrue tells.store → new.store.files file ≡ old.store.files file))
+  pub edited : IfSome d.edits (λ (file : List ℕ). IfErr result (λ (refusal : Refusal). IsTrue tells.store
+      → IsLeftByEdit (status_of refusal.cause) old.store.files new.store.files file))
+  pub within : ChangesWithin d old.store new.store
+  pub reads : OnOk result
+      (AreReadsTold d.uses tells → ReadsWithin (d.most_reads (outside_of old)) old.store new.store)
+  pub made : OnOk result (IsTrue tells.store → d.made invocation (outside_of old) new.store.files)
+  pub synced : IsTrue tells.store → Syncs (is_ok result) old.store new.store
+
+-- so it is carried out
 pub carried_alone : (d : Description) (invocation : Invocation) (tells : RunTells) (old new : RunSeen)
-    (result : Result (Unit {0}) Refusal)
-    → (IsTrue d.unwritten
-    → IfErr result (λ (refusal : Refusal). refusal.cause ≡ Memory → IsUnwritten old.store new.store))
-    → d.unfinished invocation tells old new → d.uses.reads_commands ≡ false → new.link ≡ old.link
-    → CarriesOut (d.steps invocation) d.uses
-    d.may tells old new result
-    → IfSome d.replaces
-    (λ (file : List ℕ). OnErr result (IsTrue tells.store → new.store.files file ≡ old.store.files file))
-    → IfSome d.edits (λ (file : List ℕ). IfErr result (λ (refusal : Refusal). IsTrue tells.store
-    → IsLeftByEdit (status_of refusal.cause) old.store.files new.store.files file))
-    → ChangesWithin d old.store new.store
-    → OnOk result (AreReadsTold d.uses tells → ReadsWithin (d.most_reads (outside_of old)) old.store new.store)
-    → OnOk result (IsTrue tells.store → d.made invocation (outside_of old) new.store.files)
-    → (IsTrue tells.store → Syncs (is_ok result) old.store new.store) → IsCarriedOut d invocation tells old new result
-carried_alone d invocation tells old new result unwritten finished one same carries named edited within reads made
-    synced = record {
-      carries = carries;
-      named = named;
-      edited = edited;
-      unwritten = unwritten;
-      within = within;
-      reads = reads;
-      made = made;
-      synced = synced;
-      unfinished = of_refusal result _ (λ refusal failed. finished);
-      untaken = λ _. of_refusal result _ (λ refusal five. same);
-      unlinked = λ told no. same;
-      unbegun = λ reads. absurd (false≢true (sym one ∙ reads));
-    }
+    (result : Result (Unit {0}) Refusal) → DoesAlone d invocation tells old new result
+    → IsCarriedOut d invocation tells old new result
+carried_alone d invocation tells old new result does = record {
+  carries = does.carries;
+  named = does.named;
+  edited = does.edited;
+  unwritten = does.unwritten;
+  within = does.within;
+  reads = does.reads;
+  made = does.made;
+  synced = does.synced;
+  unfinished = of_refusal result _ (λ refusal failed. does.unfinished);
+  untaken = λ _. of_refusal result _ (λ refusal five. does.link);
+  unlinked = λ told no. does.link;
+  unbegun = λ reads. absurd (false≢true (sym does.reads_none ∙ reads));
+}
 
 -- what follows from a fact of a refusal holds of the one that was answered
 pub of_refusal_weaker : (result : Result (Unit {0}) Refusal) (one other : Refusal → Type 0)

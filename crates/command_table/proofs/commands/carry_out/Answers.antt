@@ -12,101 +12,177 @@ pub returns-in-Report-clause-carries : goal.returns-in-Report-clause-carries
 returns-in-Report-clause-carries g c =
     let carries = c.report_file.ensures.carries _ _ _ _ _ _ c.args.invocation.line in
     rw c.in-Report.is
-    (carried_alone _ _ _ _ _ _ (λ said. absurd (false≢true said)) tt refl refl carries tt tt
-    (record { files = record { alone = tt; anew = tt }; few = tt }) (of_done c.report_file.result _ (λ told. tt))
-    (of_done c.report_file.result _ (λ told. tt))
-    (λ told. c.report_file.ensures.synced))
+    (carried_alone _ _ _ _ _ _ (record {
+      unwritten = λ said. absurd (false≢true said);
+      unfinished = tt;
+      reads_none = refl;
+      link = refl;
+      carries = carries;
+      named = tt;
+      edited = tt;
+      within = record { files = record { alone = tt; anew = tt }; few = tt };
+      reads = of_done c.report_file.result _ (λ told. tt);
+      made = of_done c.report_file.result _ (λ told. tt);
+      synced = λ told. c.report_file.ensures.synced;
+    }))
 
 pub returns-in-SetLimits-clause-carries : goal.returns-in-SetLimits-clause-carries
 returns-in-SetLimits-clause-carries g c =
     rw c.in-SetLimits.is
-    (carried_alone _ _ _ _ _ _ (λ said. absurd (false≢true said)) tt refl refl
-    (c.edit_by_words.ensures.carries _ _ _ _ _ _)
-    tt (of_refusal_weaker c.edit_by_words.result _ _ (λ refusal left told other. left told)
-    (c.edit_by_words.ensures.named refl))
-    (record {
-      files = record { alone = c.edit_by_words.ensures.alone.others; anew = tt };
-      few = c.edit_by_words.ensures.alone.writes;
-    }) (of_done c.edit_by_words.result _ (λ told. tt)) c.edit_by_words.ensures.made c.edit_by_words.ensures.synced)
+    (carried_alone _ _ _ _ _ _ (record {
+      unwritten = λ said. absurd (false≢true said);
+      unfinished = tt;
+      reads_none = refl;
+      link = refl;
+      carries = c.edit_by_words.ensures.carries _ _ _ _ _ _;
+      named = tt;
+      edited = of_refusal_weaker c.edit_by_words.result _ _ (λ refusal left told other. left told)
+          (c.edit_by_words.ensures.named refl);
+      within = record {
+        files = record { alone = c.edit_by_words.ensures.alone.others; anew = tt };
+        few = c.edit_by_words.ensures.alone.writes;
+      };
+      reads = of_done c.edit_by_words.result _ (λ told. tt);
+      made = c.edit_by_words.ensures.made;
+      synced = c.edit_by_words.ensures.synced;
+    }))
 
 pub returns-in-CopyLimits-clause-carries : goal.returns-in-CopyLimits-clause-carries
 returns-in-CopyLimits-clause-carries g c =
     rw c.in-CopyLimits.is
-    (carried_alone _ _ _ _ _ _ (λ said. absurd (false≢true said)) tt refl refl
-    (c.edit_by_words-in-CopyLimits.ensures.carries _ _ _ _ _ _)
-    tt (of_refusal_weaker c.edit_by_words-in-CopyLimits.result _ _ (λ refusal left told other. left told)
-    (c.edit_by_words-in-CopyLimits.ensures.named refl))
-    (record {
-      files = record { alone = c.edit_by_words-in-CopyLimits.ensures.alone.others; anew = tt };
-      few = c.edit_by_words-in-CopyLimits.ensures.alone.writes;
-    }) (of_done c.edit_by_words-in-CopyLimits.result _ (λ told. tt)) c.edit_by_words-in-CopyLimits.ensures.made
-    c.edit_by_words-in-CopyLimits.ensures.synced)
+    (carried_alone _ _ _ _ _ _ (record {
+      unwritten = λ said. absurd (false≢true said);
+      unfinished = tt;
+      reads_none = refl;
+      link = refl;
+      carries = c.edit_by_words-in-CopyLimits.ensures.carries _ _ _ _ _ _;
+      named = tt;
+      edited = of_refusal_weaker c.edit_by_words-in-CopyLimits.result _ _ (λ refusal left told other. left told)
+          (c.edit_by_words-in-CopyLimits.ensures.named refl);
+      within = record {
+        files = record { alone = c.edit_by_words-in-CopyLimits.ensures.alone.others; anew = tt };
+        few = c.edit_by_words-in-CopyLimits.ensures.alone.writes;
+      };
+      reads = of_done c.edit_by_words-in-CopyLimits.result _ (λ told. tt);
+      made = c.edit_by_words-in-CopyLimits.ensures.made;
+      synced = c.edit_by_words-in-CopyLimits.ensures.synced;
+    }))
 
 pub returns-in-SetGrace-clause-carries : goal.returns-in-SetGrace-clause-carries
 returns-in-SetGrace-clause-carries g c =
     rw c.in-SetGrace.is
-    (carried_alone _ _ _ _ _ _ (λ said. absurd (false≢true said)) tt refl refl
-    (c.edit_by_words-in-SetGrace.ensures.carries _ _ _ _ _ _)
-    tt (of_refusal_weaker c.edit_by_words-in-SetGrace.result _ _ (λ refusal left told other. left told)
-    (c.edit_by_words-in-SetGrace.ensures.named refl))
-    (record {
-      files = record { alone = c.edit_by_words-in-SetGrace.ensures.alone.others; anew = tt };
-      few = c.edit_by_words-in-SetGrace.ensures.alone.writes;
-    }) (of_done c.edit_by_words-in-SetGrace.result _ (λ told. tt)) c.edit_by_words-in-SetGrace.ensures.made
-    c.edit_by_words-in-SetGrace.ensures.synced)
+    (carried_alone _ _ _ _ _ _ (record {
+      unwritten = λ said. absurd (false≢true said);
+      unfinished = tt;
+      reads_none = refl;
+      link = refl;
+      carries = c.edit_by_words-in-SetGrace.ensures.carries _ _ _ _ _ _;
+      named = tt;
+      edited = of_refusal_weaker c.edit_by_words-in-SetGrace.result _ _ (λ refusal left told other. left told)
+          (c.edit_by_words-in-SetGrace.ensures.named refl);
+      within = record {
+        files = record { alone = c.edit_by_words-in-SetGrace.ensures.alone.others; anew = tt };
+        few = c.edit_by_words-in-SetGrace.ensures.alone.writes;
+      };
+      reads = of_done c.edit_by_words-in-SetGrace.result _ (λ told. tt);
+      made = c.edit_by_words-in-SetGrace.ensures.made;
+      synced = c.edit_by_words-in-SetGrace.ensures.synced;
+    }))
 
 pub returns-in-SetTimes-clause-carries : goal.returns-in-SetTimes-clause-carries
 returns-in-SetTimes-clause-carries g c =
     rw c.in-SetTimes.is
-    (carried_alone _ _ _ _ _ _ (λ said. absurd (false≢true said)) tt refl refl
-    (c.edit_by_words-in-SetTimes.ensures.carries _ _ _ _ _ _)
-    tt tt (record {
-      files = record { alone = c.edit_by_words-in-SetTimes.ensures.alone.others; anew = tt };
-      few = c.edit_by_words-in-SetTimes.ensures.alone.writes;
-    }) (of_done c.edit_by_words-in-SetTimes.result _ (λ told. tt)) c.edit_by_words-in-SetTimes.ensures.made
-    c.edit_by_words-in-SetTimes.ensures.synced)
+    (carried_alone _ _ _ _ _ _ (record {
+      unwritten = λ said. absurd (false≢true said);
+      unfinished = tt;
+      reads_none = refl;
+      link = refl;
+      carries = c.edit_by_words-in-SetTimes.ensures.carries _ _ _ _ _ _;
+      named = tt;
+      edited = tt;
+      within = record {
+        files = record { alone = c.edit_by_words-in-SetTimes.ensures.alone.others; anew = tt };
+        few = c.edit_by_words-in-SetTimes.ensures.alone.writes;
+      };
+      reads = of_done c.edit_by_words-in-SetTimes.result _ (λ told. tt);
+      made = c.edit_by_words-in-SetTimes.ensures.made;
+      synced = c.edit_by_words-in-SetTimes.ensures.synced;
+    }))
 
 pub returns-in-PrintForm-clause-carries : goal.returns-in-PrintForm-clause-carries
 returns-in-PrintForm-clause-carries g c =
     let carries = c.print_by_word.ensures.carries _ _ _ _ _ _ c.args.invocation.now c.args.invocation.line in
     rw c.in-PrintForm.is
-    (carried_alone _ _ _ _ _ _ (λ said. absurd (false≢true said)) tt refl refl carries tt tt
-    (record { files = record { alone = tt; anew = tt }; few = tt }) (of_done c.print_by_word.result _ (λ told. tt))
-    (of_done c.print_by_word.result _ (λ told. tt))
-    (λ told. c.print_by_word.ensures.synced))
+    (carried_alone _ _ _ _ _ _ (record {
+      unwritten = λ said. absurd (false≢true said);
+      unfinished = tt;
+      reads_none = refl;
+      link = refl;
+      carries = carries;
+      named = tt;
+      edited = tt;
+      within = record { files = record { alone = tt; anew = tt }; few = tt };
+      reads = of_done c.print_by_word.result _ (λ told. tt);
+      made = of_done c.print_by_word.result _ (λ told. tt);
+      synced = λ told. c.print_by_word.ensures.synced;
+    }))
 
 pub returns-in-Batch-clause-carries : goal.returns-in-Batch-clause-carries
 returns-in-Batch-clause-carries g c =
     rw c.in-Batch.is
-    (carried_alone _ _ _ _ _ _ (λ said. c.apply_lines.ensures.wanting) tt refl refl
-    (c.apply_lines.ensures.carries _ _ _ _ _ _ c.args.invocation.line)
-    tt tt (record { files = record { alone = tt; anew = c.apply_lines.ensures.others }; few = tt })
-    (lines_within _ _ _ c.apply_lines.result
-    (tells_of g.S.Store.tells g.I.Source.tells g.O.Sink.tells g.E.Sink.tells g.L.Link.tells)
-    (g.S.Store.seen c.args.store.now) (g.S.Store.seen c.apply_lines.new.store) c.apply_lines.ensures.reads)
-    (of_done c.apply_lines.result _ (λ told. tt)) c.apply_lines.ensures.synced)
+    (carried_alone _ _ _ _ _ _ (record {
+      unwritten = λ said. c.apply_lines.ensures.wanting;
+      unfinished = tt;
+      reads_none = refl;
+      link = refl;
+      carries = c.apply_lines.ensures.carries _ _ _ _ _ _ c.args.invocation.line;
+      named = tt;
+      edited = tt;
+      within = record { files = record { alone = tt; anew = c.apply_lines.ensures.others }; few = tt };
+      reads = lines_within _ _ _ c.apply_lines.result
+          (tells_of g.S.Store.tells g.I.Source.tells g.O.Sink.tells g.E.Sink.tells g.L.Link.tells)
+          (g.S.Store.seen c.args.store.now) (g.S.Store.seen c.apply_lines.new.store) c.apply_lines.ensures.reads;
+      made = of_done c.apply_lines.result _ (λ told. tt);
+      synced = c.apply_lines.ensures.synced;
+    }))
 
 pub returns-in-ApplyForm-clause-carries : goal.returns-in-ApplyForm-clause-carries
 returns-in-ApplyForm-clause-carries g c =
     rw c.in-ApplyForm.is
-    (carried_alone _ _ _ _ _ _ (λ said. absurd (false≢true said)) tt refl refl (c.apply_by_word.ensures.carries _ _ _ _)
-    tt (of_refusal_weaker c.apply_by_word.result _ _ (λ refusal left told other. left told)
-    c.apply_by_word.ensures.named)
-    (record {
-      files = record { alone = c.apply_by_word.ensures.alone.others; anew = tt };
-      few = c.apply_by_word.ensures.alone.writes;
-    }) (of_done c.apply_by_word.result _ (λ told. tt)) (of_done c.apply_by_word.result _ (λ told. tt))
-    c.apply_by_word.ensures.synced)
+    (carried_alone _ _ _ _ _ _ (record {
+      unwritten = λ said. absurd (false≢true said);
+      unfinished = tt;
+      reads_none = refl;
+      link = refl;
+      carries = c.apply_by_word.ensures.carries _ _ _ _;
+      named = tt;
+      edited = of_refusal_weaker c.apply_by_word.result _ _ (λ refusal left told other. left told)
+          c.apply_by_word.ensures.named;
+      within = record {
+        files = record { alone = c.apply_by_word.ensures.alone.others; anew = tt };
+        few = c.apply_by_word.ensures.alone.writes;
+      };
+      reads = of_done c.apply_by_word.result _ (λ told. tt);
+      made = of_done c.apply_by_word.result _ (λ told. tt);
+      synced = c.apply_by_word.ensures.synced;
+    }))
 
 pub returns-in-Check-clause-carries : goal.returns-in-Check-clause-carries
 returns-in-Check-clause-carries g c =
     rw c.in-Check.is
-    (carried_alone _ _ _ _ _ _ (λ said. absurd (false≢true said)) tt refl refl
-    (c.check_file.ensures.carries _ _ _ _ _ _ c.args.invocation.line)
-    (on_err_weaker c.check_file.result (λ same told. same) c.check_file.ensures.named) tt
-    (record { files = record { alone = tt; anew = c.check_file.ensures.others }; few = tt })
-    (of_done c.check_file.result _ (λ told. tt)) (of_done c.check_file.result _ (λ told. tt))
-    c.check_file.ensures.synced)
+    (carried_alone _ _ _ _ _ _ (record {
+      unwritten = λ said. absurd (false≢true said);
+      unfinished = tt;
+      reads_none = refl;
+      link = refl;
+      carries = c.check_file.ensures.carries _ _ _ _ _ _ c.args.invocation.line;
+      named = on_err_weaker c.check_file.result (λ same told. same) c.check_file.ensures.named;
+      edited = tt;
+      within = record { files = record { alone = tt; anew = c.check_file.ensures.others }; few = tt };
+      reads = of_done c.check_file.result _ (λ told. tt);
+      made = of_done c.check_file.result _ (λ told. tt);
+      synced = c.check_file.ensures.synced;
+    }))
 
 pub convert_file-requires : goal.convert_file-requires
 convert_file-requires g c = rw c.in-Convert.is at c.requires.known
@@ -114,12 +190,19 @@ convert_file-requires g c = rw c.in-Convert.is at c.requires.known
 pub returns-in-Convert-clause-carries : goal.returns-in-Convert-clause-carries
 returns-in-Convert-clause-carries g c =
     rw c.in-Convert.is
-    (carried_alone _ _ _ _ _ _ (λ said. absurd (false≢true said)) tt refl refl
-    (c.convert_file.ensures.carries _ _ _ _ _ _ _ _ c.args.invocation)
-    (on_err_weaker c.convert_file.result (λ same told. same) c.convert_file.ensures.named) tt
-    (record { files = record { alone = tt; anew = c.convert_file.ensures.others }; few = tt })
-    (of_done c.convert_file.result _ (λ told. tt)) (of_done c.convert_file.result _ (λ told. tt))
-    c.convert_file.ensures.synced)
+    (carried_alone _ _ _ _ _ _ (record {
+      unwritten = λ said. absurd (false≢true said);
+      unfinished = tt;
+      reads_none = refl;
+      link = refl;
+      carries = c.convert_file.ensures.carries _ _ _ _ _ _ _ _ c.args.invocation;
+      named = on_err_weaker c.convert_file.result (λ same told. same) c.convert_file.ensures.named;
+      edited = tt;
+      within = record { files = record { alone = tt; anew = c.convert_file.ensures.others }; few = tt };
+      reads = of_done c.convert_file.result _ (λ told. tt);
+      made = of_done c.convert_file.result _ (λ told. tt);
+      synced = c.convert_file.ensures.synced;
+    }))
 
 pub serve_files-requires-clause-some : goal.serve_files-requires-clause-some
 serve_files-requires-clause-some g c = (rw c.in-Serve.is at c.requires.known).0
@@ -154,11 +237,19 @@ returns-in-Script-clause-carries g c =
 pub returns-in-Generate-clause-carries : goal.returns-in-Generate-clause-carries
 returns-in-Generate-clause-carries g c =
     rw c.in-Generate.is
-    (carried_alone _ _ _ _ _ _ (λ said. absurd (false≢true said)) tt refl refl
-    (c.generate_file.ensures.carries _ _ _ _ _ _)
-    tt tt (record { files = record { alone = tt; anew = c.generate_file.ensures.others }; few = tt })
-    (of_done c.generate_file.result _ (λ told. tt)) (of_done c.generate_file.result _ (λ told. tt))
-    c.generate_file.ensures.synced)
+    (carried_alone _ _ _ _ _ _ (record {
+      unwritten = λ said. absurd (false≢true said);
+      unfinished = tt;
+      reads_none = refl;
+      link = refl;
+      carries = c.generate_file.ensures.carries _ _ _ _ _ _;
+      named = tt;
+      edited = tt;
+      within = record { files = record { alone = tt; anew = c.generate_file.ensures.others }; few = tt };
+      reads = of_done c.generate_file.result _ (λ told. tt);
+      made = of_done c.generate_file.result _ (λ told. tt);
+      synced = c.generate_file.ensures.synced;
+    }))
 
 pub returns-in-Report-clause-commits : goal.returns-in-Report-clause-commits
 returns-in-Report-clause-commits g c =
