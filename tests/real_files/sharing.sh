@@ -89,10 +89,11 @@ read_halves() {
     done
 }
 
-# copy_wholes: copies that are made under a lock of flock(1), for as long as others write, and are no sound files.
+# copy_wholes: copies that are made under a lock of flock(1), for as long as others write, and are no sound files. It is the
+# locked file that is copied: many lines are made as a new file, which then has its name.
 copy_wholes() {
     while [ ! -e done ]; do
-        flock -s q cat q >copy
+        (flock -s 9 && cp -p /dev/fd/9 copy) 9<q
         "${runner[@]}" repquota -v -F "$format" copy >copied.txt || echo "the status is $?"
     done
 }
