@@ -646,6 +646,17 @@ in_sources() {
     same "$line" 'no source has these names'
 }
 
+# of_demo: each line is one that bin/demo prints, as it stands there; real_files.sh runs it.
+of_demo() {
+    local it
+    while IFS= read -r it; do
+        case $it in
+            '=> '*) grep -qF "look '${it#=> }'" "$top/bin/demo" || wrong "$line" "bin/demo says no such thing: $it" ;;
+            *) grep -qxF "step ${it%%.*} '${it#*. }'" "$top/bin/demo" || wrong "$line" "bin/demo has no such step: $it" ;;
+        esac
+    done <<<"$text"
+}
+
 # quoted: each line is said by a run of this test, with any word in the place of one in capitals. It is looked for at the end.
 quoted() {
     local it at=$line
@@ -727,10 +738,11 @@ display() {
         'while quota_cli rquotad '*) looped ;;
         'quota_cli rquotad '* | 'rquotad_tcp '*) served ;;
         'quota_client '*) told ;;
-        'quota_cli '* | 'quotaoff '* | 'find '* | 'flock '* | 'while read '* | 'systemctl '*) carried_out ;;
+        'quota_cli '* | 'quotaoff '* | 'find '* | 'flock '* | '(flock '* | 'while read '* | 'systemctl '*) carried_out ;;
         'echo '*' | quota_cli script'*) carried_out ;;
         'file: '*) wrong_body ;;
         'words ──► '* | '  words ─► '*) in_sources ;;
+        [0-9]'. '*) of_demo ;;
         *)
             case $document/$heading in
                 # what a script of bench/ printed
@@ -758,7 +770,7 @@ words() {
     case $text in
         'quota: '?* | 'quota_cli: '?* | 'not believed: '* | 'it had an open gate '* | 'touch FILE.undo') quoted '' ;;
         'quota_cli rquotad '* | 'rquotad_tcp '*) served ;;
-        'quota_cli '* | 'find '* | 'flock '* | 'mount '* | 'cp '*) carried_out ;;
+        'quota_cli '* | 'find '* | 'flock '* | '(flock '* | 'mount '* | 'cp '*) carried_out ;;
         'systemd-escape '*) if command -v systemd-escape >/dev/null; then carried_out; fi ;;
         'systemctl '* | 'sed '* | 'getent '* | 'head '* | 'set -'* | 'sort '* | 'stat '* | 'ulimit '*) carried_out ;;
         'man -l '*) formatted "${them[2]}" ;;
