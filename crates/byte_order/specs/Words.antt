@@ -4,6 +4,8 @@
 use Rattle.std.specs.Prelude.{ℕ, ◌+◌, ◌-◌, ◌*◌, ◌/◌, ◌%◌, List, length, map}
 use Rattle.std.specs.List.{range_with_len}
 use Rattle.quota_types.specs.Bytes.{byte_at}
+use Rattle.outside.specs.World.{World}
+use Rattle.file_blocks.specs.Block.{file_of}
 use Rattle.byte_order.specs.declared.order.Order.{Order}
 use Rattle.byte_order.specs.declared.order.Order.TheVariants.{Little, Big}
 
@@ -24,3 +26,7 @@ turned file = map (λ at. byte_at file (turned_place at)) (range_with_len 0 (4 *
 abbrev pub in_order : Order → List ℕ → List ℕ
 in_order Little file = file
 in_order Big file = turned file
+
+-- the words of the file that has a name among some files
+abbrev pub words_of : Order → World → (name : List ℕ) → List ℕ
+words_of order files name = in_order order (file_of files name)

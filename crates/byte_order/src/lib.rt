@@ -17,4 +17,4 @@ mod words;
 
 pub use number::{half_at, u16_at, u32_at, u64_at, word_at};
 pub use order::Order;
-pub use words::put_in_order;
+pub use words::{put_in_order, read_words};

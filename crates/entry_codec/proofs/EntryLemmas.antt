@@ -43,7 +43,7 @@ unused_v2r1 bytes unused = simp (unused_number bytes unused)
 -- what was stored is an entry
 used_by : (bytes : List ℕ) (id : ℕ) (found stored rec : Rec) → (is_unused bytes ≡ true → found ≡ zeros)
     → stored_id bytes ≡ id → found ≡ stored → (id ≡ 0 → stored ≢ zeros) → without_marker id stored ≡ rec
-    → IsUsedBy bytes found id rec
+    → IsUsedBy bytes (stored_id bytes) found id rec
 used_by bytes id found stored rec unused is_id is_stored not_zeros read = record {
   used = elim (test_cases (is_unused bytes)) [
     | inl none ↦ absurd (not_zeros (sym is_id ∙ unused_number bytes none 4 0) (sym is_stored ∙ unused none))

@@ -14,6 +14,7 @@ use Rattle.entry_codec.specs.Entry.{is_unused, stored_id, stored_v2r0, stored_v2
 use Rattle.entry_codec.specs.Spelling.{AreBytes, IsSpelling, IsUsedBy}
 use Rattle.entry_codec.specs.Header.{HeaderNumbers, header_of}
 use Rattle.entry_codec.proofs.EntryLemmas.{zeros}
+use Rattle.byte_order.specs.declared.order.Order.TheVariants.{Little}
 use Rattle.entry_codec.proofs.TreeLemmas.{entry_tree}
 
 same_byte : (x y rest rest' : ℕ) → x < 256 → y < 256 → x + 256 * rest ≡ y + 256 * rest' → (x ≡ y) × (rest ≡ rest')
@@ -148,7 +149,8 @@ not_zeros_v2r1 xs hx size used padding is_zero same =
     used (is_unused-zeros xs (λ k lt. below k (omega arith)))
 
 -- the stored records of two entries of one identifier and record
-same_used : (xs ys : List ℕ) (id : ℕ) (rec stored other : Rec) → IsUsedBy xs stored id rec → IsUsedBy ys other id rec
+same_used : (xs ys : List ℕ) (id : ℕ) (rec stored other : Rec) → IsUsedBy xs (stored_id xs) stored id rec
+    → IsUsedBy ys (stored_id ys) other id rec
     → (stored_id xs ≡ 0 → stored ≢ zeros) → (stored_id ys ≡ 0 → other ≢ zeros) → stored ≡ other
 same_used xs ys id rec stored other x y not_x not_y =
     same_stored id stored other
@@ -156,15 +158,16 @@ same_used xs ys id rec stored other x y not_x not_y =
     ∙ ap (λ (i : ℕ). without_marker i other) (sym y.id_is))
     (λ z. not_x (sym x.id_is ∙ z)) (λ z. not_y (sym y.id_is ∙ z))
 
-used_not_true : (xs : List ℕ) (stored : Rec) (id : ℕ) (rec : Rec) → IsUsedBy xs stored id rec → is_unused xs ≢ true
-used_not_true xs stored id rec x unused = let used = x.used in cc
+used_not_true : (xs : List ℕ) (stored_id : ℕ) (stored : Rec) (id : ℕ) (rec : Rec) → IsUsedBy xs stored_id stored id rec
+    → is_unused xs ≢ true
+used_not_true xs stored_id stored id rec x unused = let used = x.used in cc
 
 one_spelling_v2r0 : (xs ys : List ℕ) (id : ℕ) (rec : Rec) → IsSpelling V2R0 xs id rec
     → IsSpelling V2R0 ys id rec → xs ≡ ys
 one_spelling_v2r0 xs ys id rec x y =
     let same = same_used xs ys id rec (stored_v2r0 xs) (stored_v2r0 ys) x.entry y.entry
-    (not_zeros_v2r0 xs x.are_bytes x.size (used_not_true xs _ id rec x.entry))
-    (not_zeros_v2r0 ys y.are_bytes y.size (used_not_true ys _ id rec y.entry)) in
+    (not_zeros_v2r0 xs x.are_bytes x.size (used_not_true xs _ _ id rec x.entry))
+    (not_zeros_v2r0 ys y.are_bytes y.size (used_not_true ys _ _ id rec y.entry)) in
     let below = same_v2r0 xs ys x.are_bytes y.are_bytes (sym x.entry.id_is ∙ y.entry.id_is) same in
     let size = x.size in
     same_number_lists xs ys (x.size ∙ sym y.size) (λ k lt. below k (omega arith))
@@ -173,8 +176,8 @@ one_spelling_v2r1 : (xs ys : List ℕ) (id : ℕ) (rec : Rec) → IsSpelling V2R
     → IsSpelling V2R1 ys id rec → xs ≡ ys
 one_spelling_v2r1 xs ys id rec x y =
     let same = same_used xs ys id rec (stored_v2r1 xs) (stored_v2r1 ys) x.entry y.entry
-    (not_zeros_v2r1 xs x.are_bytes x.size (used_not_true xs _ id rec x.entry) x.padding)
-    (not_zeros_v2r1 ys y.are_bytes y.size (used_not_true ys _ id rec y.entry) y.padding) in
+    (not_zeros_v2r1 xs x.are_bytes x.size (used_not_true xs _ _ id rec x.entry) x.padding)
+    (not_zeros_v2r1 ys y.are_bytes y.size (used_not_true ys _ _ id rec y.entry) y.padding) in
     let below =
     same_v2r1 xs ys x.are_bytes y.are_bytes (sym x.entry.id_is ∙ y.entry.id_is) (x.padding ∙ sym y.padding) same in
     let size = x.size in
@@ -185,4 +188,5 @@ pub one_spelling : (format : Format) (xs ys : List ℕ) (id : ℕ) (rec : Rec) �
     → IsSpelling format ys id rec → xs ≡ ys
 one_spelling format xs ys id rec x y =
     by_tree (λ (format : Format). IsSpelling format xs id rec → IsSpelling format ys id rec → xs ≡ ys)
-    (one_spelling_v2r0 xs ys id rec) (one_spelling_v2r1 xs ys id rec) format (entry_tree format xs id rec x.entry) x y
+    (one_spelling_v2r0 xs ys id rec) (one_spelling_v2r1 xs ys id rec) format
+    (entry_tree Little format xs id rec x.entry) x y

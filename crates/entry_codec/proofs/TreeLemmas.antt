@@ -9,15 +9,17 @@ use Rattle.quota_types.specs.declared.file_kind.Format.TheVariants.{V1, V1R32, V
 use Rattle.quota_types.specs.declared.record.Rec.{Rec}
 use Rattle.entry_codec.specs.Entry.{entries_per_block}
 use Rattle.entry_codec.specs.Header.{format_of}
-use Rattle.entry_codec.specs.Spelling.{IsEntry}
+use Rattle.byte_order.specs.declared.order.Order.{Order}
+use Rattle.entry_codec.specs.Spelling.{IsEntryIn}
 
 -- bytes spell an entry of it
-pub entry_tree : (format : Format) (bytes : List ℕ) (id : ℕ) (rec : Rec) → IsEntry format bytes id rec
+pub entry_tree : (order : Order) (format : Format) (bytes : List ℕ) (id : ℕ) (rec : Rec)
+    → IsEntryIn order format bytes id rec
     → IsTreeFormat format
-entry_tree V1 bytes id rec entry = absurd entry
-entry_tree V1R32 bytes id rec entry = absurd entry
-entry_tree V2R0 bytes id rec entry = refl
-entry_tree V2R1 bytes id rec entry = refl
+entry_tree order V1 bytes id rec entry = absurd entry
+entry_tree order V1R32 bytes id rec entry = absurd entry
+entry_tree order V2R0 bytes id rec entry = refl
+entry_tree order V2R1 bytes id rec entry = refl
 
 -- a block of it has places for entries
 pub places_tree : (format : Format) (place : ℕ) → place < entries_per_block format → IsTreeFormat format

@@ -1,46 +1,48 @@
 ghost use Rattle.std.specs.Prelude.{◌≡◌, ◌≢◌, ◌≤◌, ℕ, true, false, None, Some, IfNone, IfSome, length};
-ghost use Rattle.entry_codec.specs.Entry.{is_unused, stored_id, stored_v2r0, stored_v2r1};
-ghost use Rattle.entry_codec.specs.Spelling.{IsEntry, padding_of};
+ghost use Rattle.entry_codec.specs.Entry.{is_unused, stored_id, stored_id_in, stored_v2r0, stored_v2r0_in};
+ghost use Rattle.entry_codec.specs.Entry.{stored_v2r1, stored_v2r1_in};
+ghost use Rattle.entry_codec.specs.Spelling.{IsEntry, IsEntryIn, padding_of};
 ghost use Rattle.quota_types.specs.Bytes.{number_at};
 ghost use Rattle.quota_types.specs.Format.{IsTreeFormat, record_size};
 ghost use Rattle.quota_types.specs.Kept.{kept_of, without_marker};
 ghost use Rattle.quota_types.specs.Range.{unfit};
 
-use quota_types::{Format, Rec, kept, le32_at, le64_at, set_le32s_at, set_le64s_at};
+use byte_order::{Order, u32_at, u64_at};
+use quota_types::{Format, Rec, kept, le32_at, set_le32s_at, set_le64s_at};
 
 /// The record of an entry of vfsv0, as it is stored. It fits, whatever the identifier.
-fn stored_v2r0(bytes: &[u8]) -> Rec
+fn stored_v2r0(bytes: &[u8], order: Order) -> Rec
     requires { length bytes.now ≡ 48 }
-    ensures value { result ≡ stored_v2r0 bytes.now }
+    ensures value { result ≡ stored_v2r0_in order bytes.now }
     ensures fits { unfit Format.V2R0 0 result ≡ None }
 {
     Rec {
-        ihard: u64::from(le32_at(bytes, 4)),
-        isoft: u64::from(le32_at(bytes, 8)),
-        inodes: u64::from(le32_at(bytes, 12)),
-        bhard: u64::from(le32_at(bytes, 16)),
-        bsoft: u64::from(le32_at(bytes, 20)),
-        space: le64_at(bytes, 24),
-        btime: le64_at(bytes, 32),
-        itime: le64_at(bytes, 40),
+        ihard: u64::from(u32_at(bytes, 4, order)),
+        isoft: u64::from(u32_at(bytes, 8, order)),
+        inodes: u64::from(u32_at(bytes, 12, order)),
+        bhard: u64::from(u32_at(bytes, 16, order)),
+        bsoft: u64::from(u32_at(bytes, 20, order)),
+        space: u64_at(bytes, 24, order),
+        btime: u64_at(bytes, 32, order),
+        itime: u64_at(bytes, 40, order),
     }
 }
 
 /// The record of an entry of vfsv1, as it is stored. It fits, whatever the identifier.
-fn stored_v2r1(bytes: &[u8]) -> Rec
+fn stored_v2r1(bytes: &[u8], order: Order) -> Rec
     requires { length bytes.now ≡ 72 }
-    ensures value { result ≡ stored_v2r1 bytes.now }
+    ensures value { result ≡ stored_v2r1_in order bytes.now }
     ensures fits { unfit Format.V2R1 0 result ≡ None }
 {
     Rec {
-        ihard: le64_at(bytes, 8),
-        isoft: le64_at(bytes, 16),
-        inodes: le64_at(bytes, 24),
-        bhard: le64_at(bytes, 32),
-        bsoft: le64_at(bytes, 40),
-        space: le64_at(bytes, 48),
-        btime: le64_at(bytes, 56),
-        itime: le64_at(bytes, 64),
+        ihard: u64_at(bytes, 8, order),
+        isoft: u64_at(bytes, 16, order),
+        inodes: u64_at(bytes, 24, order),
+        bhard: u64_at(bytes, 32, order),
+        bsoft: u64_at(bytes, 40, order),
+        space: u64_at(bytes, 48, order),
+        btime: u64_at(bytes, 56, order),
+        itime: u64_at(bytes, 64, order),
     }
 }
 
@@ -53,23 +55,23 @@ fn is_unused(bytes: &[u8]) -> bool
 
 /// The record of an entry in use.
 #[inline(always)]
-fn used_record(format: Format, id: u32, bytes: &[u8]) -> Rec
+fn used_record(format: Format, id: u32, bytes: &[u8], order: Order) -> Rec
     requires tree { IsTreeFormat format }
     requires size { length bytes.now ≡ record_size format }
     requires used { is_unused bytes.now ≡ false }
-    requires id { id ≡ stored_id bytes.now }
-    ensures entry { IsEntry format bytes.now id result }
+    requires id { id ≡ stored_id_in order bytes.now }
+    ensures entry { IsEntryIn order format bytes.now id result }
     ensures fits { unfit format id result ≡ None }
     ensures kept { kept_of format id result ≡ result }
 {
     match format {
         Format::V1 | Format::V1R32 => unreachable!(),
-        Format::V2R0 => kept(Format::V2R0, id, stored_v2r0(bytes)),
-        Format::V2R1 => kept(Format::V2R1, id, stored_v2r1(bytes)),
+        Format::V2R0 => kept(Format::V2R0, id, stored_v2r0(bytes, order)),
+        Format::V2R1 => kept(Format::V2R1, id, stored_v2r1(bytes, order)),
     }
 }
 
-/// The identifier of an entry, or none where it is unused.
+/// The identifier of a little-endian entry, or none where it is unused.
 pub fn read_id(bytes: &[u8]) -> Option<u32>
     requires { 4 ≤ length bytes.now }
     ensures id { IfSome result (λ id. id ≡ stored_id bytes.now) }
@@ -82,20 +84,23 @@ pub fn read_id(bytes: &[u8]) -> Option<u32>
     Some(le32_at(bytes, 0))
 }
 
-/// The identifier and the record of an entry, or none where it is unused.
+/// The identifier and the record of an entry of a file that is read in an order, or none where it is unused.
 #[inline(always)]
-pub fn read_entry(format: Format, bytes: &[u8]) -> Option<(u32, Rec)>
+pub fn read_entry(format: Format, bytes: &[u8], order: Order) -> Option<(u32, Rec)>
     requires tree { IsTreeFormat format }
     requires size { length bytes.now ≡ record_size format }
-    ensures used { IfSome result (λ entry. IsEntry format bytes.now entry.0 entry.1) }
-    ensures found { (id : ℕ) (rec : Rec) → IsEntry format bytes.now id rec → result ≡ Some (id, rec) }
+    ensures used { IfSome result (λ entry. IsEntryIn order format bytes.now entry.0 entry.1) }
+    ensures found { (id : ℕ) (rec : Rec) → IsEntryIn order format bytes.now id rec → result ≡ Some (id, rec) }
     ensures unused { IfNone result (is_unused bytes.now ≡ true) }
     ensures none { is_unused bytes.now ≡ true → result ≡ None }
     ensures fits { IfSome result (λ entry. unfit format entry.0 entry.1 ≡ None) }
     ensures kept { IfSome result (λ entry. kept_of format entry.0 entry.1 ≡ entry.1) }
 {
-    let id = read_id(bytes)?;
-    Some((id, used_record(format, id, bytes)))
+    if is_unused(bytes) {
+        return None;
+    }
+    let id = u32_at(bytes, 0, order);
+    Some((id, used_record(format, id, bytes, order)))
 }
 
 /// The record as it is stored: the record of zeros of identifier 0 has the marker in its place.

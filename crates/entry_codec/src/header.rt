@@ -1,9 +1,11 @@
 ghost use Rattle.std.specs.Prelude.{◌≡◌, ◌^◌, ◌<◌, ◌≤◌, None, Some, IfErr, IfOk, OnOk, drop, length};
 ghost use Rattle.entry_codec.specs.Header.{format_of, header_fault, header_of, is_magic, magic_of};
 ghost use Rattle.entry_codec.specs.Spelling.{AreOf};
+ghost use Rattle.byte_order.specs.Words.{in_order};
 ghost use Rattle.quota_types.specs.Format.{IsTreeFormat};
 ghost use Rattle.quota_types.specs.Range.{grace_unfit};
 
+use byte_order::{Order, put_in_order};
 use quota_types::{Format, Grace, Kind, le32_at, set_le32s_at};
 
 /// The header of a tree file.
@@ -126,18 +128,20 @@ fn read_from(block: &[u8], kind: Kind) -> Result<Header, HeaderFault>
     })
 }
 
-/// The header of a file of this kind, from the file's first block. Each refusal comes exactly where its cause holds and
-/// none that stands before it in `HeaderFault`.
-pub fn read_header(block: &[u8; 1024], kind: Kind) -> Result<Header, HeaderFault>
-    ensures accepted { OnOk result (header_fault kind (header_of block.now) ≡ None) }
-    ensures refused { IfErr result (λ fault. header_fault kind (header_of block.now) ≡ Some fault) }
+/// The header of a file of this kind that is read in an order, from the file's first block. Each refusal comes exactly
+/// where its cause holds and none that stands before it in `HeaderFault`.
+pub fn read_header(block: &[u8; 1024], kind: Kind, order: Order) -> Result<Header, HeaderFault>
+    ensures accepted { OnOk result (header_fault kind (header_of (in_order order block.now)) ≡ None) }
+    ensures refused { IfErr result (λ fault. header_fault kind (header_of (in_order order block.now)) ≡ Some fault) }
     ensures kind { IfOk result (λ header. header.kind ≡ kind) }
-    ensures numbers { IfOk result (λ header. AreOf header (header_of block.now)) }
+    ensures numbers { IfOk result (λ header. AreOf header (header_of (in_order order block.now))) }
     ensures grace { IfOk result (λ header. grace_unfit header.format header.grace ≡ None) }
     ensures blocks { IfOk result (λ header. 2 ≤ header.blocks) }
     ensures tree { IfOk result (λ header. IsTreeFormat header.format) }
 {
-    read_from(&block[..], kind)
+    let mut words = *block;
+    put_in_order(&mut words, order);
+    read_from(&words[..], kind)
 }
 
 fn write_to(header: &Header, block: &mut [u8])

@@ -1,7 +1,7 @@
 //! Laws of the layout: what is written is read again, and bytes and values determine each other.
 
 ghost use Rattle.std.specs.Prelude.{◌≡◌, ◌^◌, ◌<◌, ◌≤◌, ℕ, List, None, Ok, Some, length};
-ghost use Rattle.entry_codec.specs.Spelling.{AreBytes, IsEntry, IsSpelling, AreOf};
+ghost use Rattle.entry_codec.specs.Spelling.{AreBytes, AreOf, IsEntryIn, IsSpelling};
 ghost use Rattle.entry_codec.specs.Header.{HeaderNumbers, header_of};
 ghost use Rattle.quota_types.specs.Bytes.{byte_at};
 ghost use Rattle.quota_types.specs.Format.{IsTreeFormat, record_size};
@@ -9,6 +9,7 @@ ghost use Rattle.quota_types.specs.Kept.{kept_of};
 ghost use Rattle.quota_types.specs.Range.{unfit};
 
 use crate::{Header, HeaderFault, read_entry, read_header, write_entry, write_header};
+use byte_order::Order;
 use quota_types::{Format, Rec};
 
 /// A header that was written is read again.
@@ -23,7 +24,7 @@ pub fn a_header_is_read_again(
     ensures { result ≡ Ok header.now }
 {
     write_header(header, block);
-    read_header(block, header.kind)
+    read_header(block, header.kind, Order::Little)
 }
 
 /// An entry that was written is read again.
@@ -40,7 +41,7 @@ pub fn an_entry_is_read_again(
     ensures { result ≡ Some (id, rec.now) }
 {
     write_entry(format, id, rec, bytes);
-    read_entry(format, bytes)
+    read_entry(format, bytes, Order::Little)
 }
 
 /// Numbers are those of one header at most.
@@ -49,12 +50,12 @@ pub fn numbers_are_of_one_header()
         → header ≡ other }
 {}
 
-/// Bytes are an entry of one identifier and one record at most.
+/// Bytes that are read in an order are an entry of one identifier and one record at most.
 pub fn an_entry_has_one_meaning()
-    ensures id { (format : Format) (bytes : List ℕ) (id other_id : ℕ) (rec other : Rec) → IsEntry format bytes id rec
-        → IsEntry format bytes other_id other → id ≡ other_id }
-    ensures rec { (format : Format) (bytes : List ℕ) (id other_id : ℕ) (rec other : Rec) → IsEntry format bytes id rec
-        → IsEntry format bytes other_id other → rec ≡ other }
+    ensures id { (order : Order) (format : Format) (bytes : List ℕ) (id other_id : ℕ) (rec other : Rec)
+        → IsEntryIn order format bytes id rec → IsEntryIn order format bytes other_id other → id ≡ other_id }
+    ensures rec { (order : Order) (format : Format) (bytes : List ℕ) (id other_id : ℕ) (rec other : Rec)
+        → IsEntryIn order format bytes id rec → IsEntryIn order format bytes other_id other → rec ≡ other }
 {}
 
 /// An identifier's record is spelled by one entry at most in which padding is 0, so `write_entry` has no choice.

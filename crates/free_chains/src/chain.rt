@@ -1,11 +1,12 @@
 ghost use Rattle.std.specs.Prelude.{◌≡◌, ◌≢◌, ℕ, ◌+◌, ◌<◌, ◌≤◌, [], vec_len, IsTrue, IfOk, OnOk, IfErr, is_ok};
 ghost use Rattle.outside.specs.Frame.{OnlyReads};
 ghost use Rattle.file_blocks.specs.CheckFault.{IsCheckFault};
-ghost use Rattle.file_blocks.specs.Block.{file_of};
+ghost use Rattle.byte_order.specs.Words.{words_of};
 ghost use Rattle.free_chains.specs.Walk.{AreLinksTo, IsWalk, IsWalkDefect};
 
 use crate::chain_link::ChainLink;
-use file_blocks::{BlockSet, CheckFault, le32, read_block};
+use byte_order::{Order, read_words};
+use file_blocks::{BlockSet, CheckFault, le32};
 use outside::Store;
 use quota_types::{DamageKind, damage_at};
 use std::alloc::{AllocError, Global};
@@ -32,25 +33,26 @@ impl Walk {
         })
     }
 
-    /// Goes to a block, and answers the number to which its link leads.
+    /// Goes to a block of a file that is read in a byte order, and answers the number to which its link leads.
     fn go_to<S: Store>(
         &mut self,
         store: &mut S,
         name: &str,
         blocks: u32,
         at: u32,
+        order: Order,
     ) -> Result<u32, CheckFault>
         requires { at ≢ 0 }
         ensures longer { OnOk result (vec_len self.new.links ≡ vec_len self.old.links + 1) }
         ensures walk { OnOk result (IsWalk blocks self.old → IsWalk blocks self.new) }
         ensures links { IfOk result (λ next. IsTrue S.tells → (head : ℕ)
-            → AreLinksTo (file_of (S.seen store.old).files name.now) head self.old.links.items at
-            → AreLinksTo (file_of (S.seen store.old).files name.now) head self.new.links.items next) }
+            → AreLinksTo (words_of order (S.seen store.old).files name.now) head self.old.links.items at
+            → AreLinksTo (words_of order (S.seen store.old).files name.now) head self.new.links.items next) }
         ensures refused { IfErr result (IsCheckFault (S.seen store.old).faults (S.seen store.new).faults
             (λ damage. IsTrue S.tells → (head : ℕ)
             → IsWalk blocks self.old
-            → AreLinksTo (file_of (S.seen store.old).files name.now) head self.old.links.items at
-            → IsWalkDefect (file_of (S.seen store.old).files name.now) blocks head damage)) }
+            → AreLinksTo (words_of order (S.seen store.old).files name.now) head self.old.links.items at
+            → IsWalkDefect (words_of order (S.seen store.old).files name.now) blocks head damage)) }
         ensures leaves { OnlyReads (is_ok result) name.now (S.seen store.old) (S.seen store.new) }
         ensures reads { (S.seen store.new).reads ≤ (S.seen store.old).reads + 1 }
         ensures few_reads { IsWalk blocks self.old → (S.seen store.new).reads + vec_len self.old.links
@@ -64,7 +66,7 @@ impl Walk {
             return Err(CheckFault::Damage(damage_at(DamageKind::ChainLoop, at)));
         }
         let mut block = [0; 1024];
-        read_block(store, name, at, &mut block)?;
+        read_words(store, name, at, &mut block, order)?;
         let previous = le32(&block, 4);
         self.links.push(ChainLink {
             block: at,
@@ -76,7 +78,8 @@ impl Walk {
 
 /// Walks along the list of a head to its end.
 ///
-/// The file has `blocks` blocks; bytes past its end are 0. There is at most one read for each block of the list.
+/// The file is read in a byte order and has `blocks` blocks; bytes past its end are 0. There is at most one read for
+/// each block of the list.
 ///
 /// # Errors
 ///
@@ -88,13 +91,14 @@ pub fn walk_chain<S: Store>(
     name: &str,
     blocks: u32,
     head: u32,
+    order: Order,
 ) -> Result<Walk, CheckFault>
     ensures walk { IfOk result (IsWalk blocks) }
     ensures links { IfOk result (λ walk. IsTrue S.tells
-        → AreLinksTo (file_of (S.seen store.old).files name.now) head walk.links.items 0) }
+        → AreLinksTo (words_of order (S.seen store.old).files name.now) head walk.links.items 0) }
     ensures refused { IfErr result (IsCheckFault (S.seen store.old).faults (S.seen store.new).faults
         (λ damage. IsTrue S.tells
-        → IsWalkDefect (file_of (S.seen store.old).files name.now) blocks head damage)) }
+        → IsWalkDefect (words_of order (S.seen store.old).files name.now) blocks head damage)) }
     ensures leaves { OnlyReads (is_ok result) name.now (S.seen store.old) (S.seen store.new) }
     ensures reads { IfOk result (λ walk. (S.seen store.new).reads ≤ (S.seen store.old).reads + vec_len walk.links) }
     ensures few_reads { (S.seen store.new).reads ≤ (S.seen store.old).reads + blocks }
@@ -103,7 +107,7 @@ pub fn walk_chain<S: Store>(
     let mut walk = Walk::new(alloc, blocks)?;
     let mut at = head;
     while at != 0 {
-        at = walk.go_to(store, name, blocks, at)?;
+        at = walk.go_to(store, name, blocks, at, order)?;
     }
     Ok(walk)
 }

@@ -16,13 +16,16 @@ use Rattle.opened_file.specs.declared.quota_file.OpenFault.TheVariants.{Store, N
 use Rattle.opened_file.specs.declared.quota_file.OpenFault.TheVariants.{WrongKind, UnknownVersion, BadBlockCount}
 use Rattle.opened_file.specs.declared.quota_file.OpenFault.TheVariants.{FormatMismatch, Damage as Damaged}
 use Rattle.entry_codec.specs.Header.{HeaderNumbers, format_of, header_fault, header_of, magic_of}
-use Rattle.tree_meaning.specs.TreeFile.{IsSound, TreeStandsFor}
+use Rattle.tree_meaning.specs.TreeFile.{IsSoundIn, TreeStandsFor, TreeStandsForIn}
 use Rattle.quota_pages.specs.Pages.{name_of}
 use Rattle.entry_codec.specs.declared.header.Header.{Header}
 use Rattle.tree_file.specs.Opened.{HoldsTree}
 use Rattle.tree_file.specs.declared.coming.Coming.{Coming}
-use Rattle.tree_file.specs.View.{FitsRequest, IsAsAsked, IsRefusedFor, IsTreeView}
+use Rattle.tree_file.specs.View.{FitsRequest, IsAsAsked, IsRefusedFor, IsTreeView, IsTreeViewIn}
 use Rattle.tree_file.specs.TreeCalls.{IsTreeFault}
+use Rattle.byte_order.specs.declared.order.Order.{Order}
+use Rattle.byte_order.specs.declared.order.Order.TheVariants.{Little}
+use Rattle.byte_order.specs.Words.{in_order}
 use Rattle.tree_meaning.proofs.DefectLemmas.{no_defect_of_sound}
 use Rattle.quota_types.specs.declared.record.Grace.{Grace}
 use Rattle.quota_v1.specs.Opened.{HoldsFlat}
@@ -49,69 +52,75 @@ not_refused : (kind : Kind) (numbers : HeaderNumbers) → numbers.magic ≡ magi
 not_refused kind numbers magic version two = grind (arith, nat_tests)
 
 -- the header of a file that stands for a value is one of its kind
-stands_header : (file : List ℕ) (value : QuotaValue) (kind : Kind) → TreeStandsFor file value → value.kind ≡ kind
-    → header_fault kind (header_of file) ≡ None
-stands_header file value kind stands is =
-    not_refused kind (header_of file) (stands.magic ∙ ap magic_of is)
-    (known_version (header_of file).version value.format stands.version) stands.sound.two
+stands_header : (order : Order) (file : List ℕ) (value : QuotaValue) (kind : Kind) → TreeStandsForIn order file value
+    → value.kind ≡ kind
+    → header_fault kind (header_of (in_order order file)) ≡ None
+stands_header order file value kind stands is =
+    not_refused kind (header_of (in_order order file)) (stands.magic ∙ ap magic_of is)
+    (known_version (header_of (in_order order file)).version value.format stands.version) stands.sound.two
 
 -- what a refusal says of a file that stands for a value of the kind and the format that was asked for is not so
-tree_refused : (kind : Kind) (asked : Option Format) (limit : ℕ) (file : List ℕ) (value : QuotaValue)
+tree_refused : (order : Order) (kind : Kind) (asked : Option Format) (limit : ℕ) (file : List ℕ) (value : QuotaValue)
     (fault : OpenFault)
-    → (header_of file).blocks ≤ limit → TreeStandsFor file value → value.kind ≡ kind → IsAsAsked asked value.format
-    → FitsRequest asked limit fault → IsRefusedFor kind asked limit fault file → ⊥
-tree_refused kind asked limit file value Store few stands is as_asked fits refused = refused
-tree_refused kind asked limit file value NoFile few stands is as_asked fits refused = refused
-tree_refused kind asked limit file value (TooLarge number most) few stands is as_asked fits refused =
+    → (header_of (in_order order file)).blocks ≤ limit → TreeStandsForIn order file value → value.kind ≡ kind
+    → IsAsAsked asked value.format
+    → FitsRequest asked limit fault → IsRefusedFor order kind asked limit fault file → ⊥
+tree_refused order kind asked limit file value Store few stands is as_asked fits refused = refused
+tree_refused order kind asked limit file value NoFile few stands is as_asked fits refused = refused
+tree_refused order kind asked limit file value (TooLarge number most) few stands is as_asked fits refused =
     omega (arith, few, refused.many)
-tree_refused kind asked limit file value Memory few stands is as_asked fits refused = refused
-tree_refused kind asked limit file value NotQuota few stands is as_asked fits refused =
-    none-some _ (sym (stands_header file value kind stands is) ∙ refused)
-tree_refused kind asked limit file value WrongKind few stands is as_asked fits refused =
-    none-some _ (sym (stands_header file value kind stands is) ∙ refused)
-tree_refused kind asked limit file value UnknownVersion few stands is as_asked fits refused =
-    none-some _ (sym (stands_header file value kind stands is) ∙ refused)
-tree_refused kind asked limit file value BadBlockCount few stands is as_asked fits refused =
-    none-some _ (sym (stands_header file value kind stands is) ∙ refused)
-tree_refused kind None limit file value (FormatMismatch found) few stands is as_asked fits refused = fits
-tree_refused kind (Some wanted) limit file value (FormatMismatch found) few stands is as_asked fits refused =
+tree_refused order kind asked limit file value Memory few stands is as_asked fits refused = refused
+tree_refused order kind asked limit file value NotQuota few stands is as_asked fits refused =
+    none-some _ (sym (stands_header order file value kind stands is) ∙ refused)
+tree_refused order kind asked limit file value WrongKind few stands is as_asked fits refused =
+    none-some _ (sym (stands_header order file value kind stands is) ∙ refused)
+tree_refused order kind asked limit file value UnknownVersion few stands is as_asked fits refused =
+    none-some _ (sym (stands_header order file value kind stands is) ∙ refused)
+tree_refused order kind asked limit file value BadBlockCount few stands is as_asked fits refused =
+    none-some _ (sym (stands_header order file value kind stands is) ∙ refused)
+tree_refused order kind None limit file value (FormatMismatch found) few stands is as_asked fits refused = fits
+tree_refused order kind (Some wanted) limit file value (FormatMismatch found) few stands is as_asked fits refused =
     let same : Some value.format ≡ Some found = sym stands.version ∙ refused.version in
     let format : value.format ≡ found = cc in
     fits (as_asked ∙ format)
-tree_refused kind asked limit file value (Damaged damage) few stands is as_asked fits refused =
+tree_refused order kind asked limit file value (Damaged damage) few stands is as_asked fits refused =
     let same : Some value.format ≡ Some refused.format = sym stands.version ∙ refused.header.version in
     let format : value.format ≡ refused.format = cc in
-    no_defect_of_sound refused.format file (header_of file)
-    (subst (λ (f : Format). IsSound f file (length file) (header_of file)) format stands.sound) damage refused.defect
+    no_defect_of_sound order refused.format file (header_of (in_order order file))
+    (subst (λ (f : Format). IsSoundIn order f file (header_of (in_order order file))) format stands.sound) damage
+    refused.defect
 
 -- a tree file is not both seen as a value and refused
-tree_seen_or_refused : (named : Option (List ℕ)) (kind : Kind) (asked : Option Format) (limit : ℕ) (value : QuotaValue)
+pub tree_seen_or_refused : (order : Order) (named : Option (List ℕ)) (kind : Kind) (asked : Option Format) (limit : ℕ)
+    (value : QuotaValue)
     (fault : OpenFault)
-    → IsTreeView named kind asked limit (Ok value) → IsTreeView named kind asked limit (Err fault) → ⊥
-tree_seen_or_refused None kind asked limit value fault seen refused = absurd seen.0
-tree_seen_or_refused (Some file) kind asked limit value Store seen refused = refused
-tree_seen_or_refused (Some file) kind asked limit value NoFile seen refused = none-some file (sym refused)
-tree_seen_or_refused (Some file) kind asked limit value Memory seen refused = refused
-tree_seen_or_refused (Some file) kind asked limit value (TooLarge number most) seen refused =
-    tree_refused kind asked limit file value (TooLarge number most) seen.0.0 seen.0.1 seen.1 seen.2 refused.0 refused.1
-tree_seen_or_refused (Some file) kind asked limit value NotQuota seen refused =
-    tree_refused kind asked limit file value NotQuota seen.0.0 seen.0.1 seen.1 seen.2 refused.0 refused.1
-tree_seen_or_refused (Some file) kind asked limit value WrongKind seen refused =
-    tree_refused kind asked limit file value WrongKind seen.0.0 seen.0.1 seen.1 seen.2 refused.0 refused.1
-tree_seen_or_refused (Some file) kind asked limit value UnknownVersion seen refused =
-    tree_refused kind asked limit file value UnknownVersion seen.0.0 seen.0.1 seen.1 seen.2 refused.0 refused.1
-tree_seen_or_refused (Some file) kind asked limit value BadBlockCount seen refused =
-    tree_refused kind asked limit file value BadBlockCount seen.0.0 seen.0.1 seen.1 seen.2 refused.0 refused.1
-tree_seen_or_refused (Some file) kind asked limit value (FormatMismatch found) seen refused =
-    tree_refused kind asked limit file value (FormatMismatch found) seen.0.0 seen.0.1 seen.1 seen.2 refused.0 refused.1
-tree_seen_or_refused (Some file) kind asked limit value (Damaged damage) seen refused =
-    tree_refused kind asked limit file value (Damaged damage) seen.0.0 seen.0.1 seen.1 seen.2 refused.0 refused.1
+    → IsTreeViewIn order named kind asked limit (Ok value) → IsTreeViewIn order named kind asked limit (Err fault) → ⊥
+tree_seen_or_refused order None kind asked limit value fault seen refused = absurd seen.0
+tree_seen_or_refused order (Some file) kind asked limit value Store seen refused = refused
+tree_seen_or_refused order (Some file) kind asked limit value NoFile seen refused = none-some file (sym refused)
+tree_seen_or_refused order (Some file) kind asked limit value Memory seen refused = refused
+tree_seen_or_refused order (Some file) kind asked limit value (TooLarge number most) seen refused =
+    tree_refused order kind asked limit file value (TooLarge number most) seen.0.0 seen.0.1 seen.1 seen.2
+    refused.0 refused.1
+tree_seen_or_refused order (Some file) kind asked limit value NotQuota seen refused =
+    tree_refused order kind asked limit file value NotQuota seen.0.0 seen.0.1 seen.1 seen.2 refused.0 refused.1
+tree_seen_or_refused order (Some file) kind asked limit value WrongKind seen refused =
+    tree_refused order kind asked limit file value WrongKind seen.0.0 seen.0.1 seen.1 seen.2 refused.0 refused.1
+tree_seen_or_refused order (Some file) kind asked limit value UnknownVersion seen refused =
+    tree_refused order kind asked limit file value UnknownVersion seen.0.0 seen.0.1 seen.1 seen.2 refused.0 refused.1
+tree_seen_or_refused order (Some file) kind asked limit value BadBlockCount seen refused =
+    tree_refused order kind asked limit file value BadBlockCount seen.0.0 seen.0.1 seen.1 seen.2 refused.0 refused.1
+tree_seen_or_refused order (Some file) kind asked limit value (FormatMismatch found) seen refused =
+    tree_refused order kind asked limit file value (FormatMismatch found) seen.0.0 seen.0.1 seen.1 seen.2
+    refused.0 refused.1
+tree_seen_or_refused order (Some file) kind asked limit value (Damaged damage) seen refused =
+    tree_refused order kind asked limit file value (Damaged damage) seen.0.0 seen.0.1 seen.1 seen.2 refused.0 refused.1
 
 -- a file of any format is not both seen as a value and refused
 pub view_or_refused : (named : Option (List ℕ)) (kind : Kind) (asked : Asked) (value : QuotaValue) (fault : OpenFault)
     → IsView named kind asked (Ok value) → IsView named kind asked (Err fault) → ⊥
 view_or_refused named kind AnyTree value fault seen refused =
-    tree_seen_or_refused named kind None most_blocks value fault seen refused
+    tree_seen_or_refused Little named kind None most_blocks value fault seen refused
 view_or_refused named kind (InFormat format) value fault seen refused =
     refused_if (is_flat format) format named kind value fault seen refused
   where
@@ -124,7 +133,7 @@ view_or_refused named kind (InFormat format) value fault seen refused =
     refused_if true format named kind value fault seen refused =
         seen_or_refused format named kind value fault seen refused
     refused_if false format named kind value fault seen refused =
-        tree_seen_or_refused named kind (Some format) most_blocks value fault seen refused
+        tree_seen_or_refused Little named kind (Some format) most_blocks value fault seen refused
 
 -- a fault of the store, or lack of memory
 abbrev pub IsOfCall : OpenFault → Type 0

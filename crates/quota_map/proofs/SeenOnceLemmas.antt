@@ -11,8 +11,10 @@ use Rattle.quota_v1.specs.FlatFile.{FlatStandsFor}
 use Rattle.quota_v1.specs.View.{IsFlatView}
 use Rattle.quota_map.specs.Asked.{AnyTree, Asked, InFormat}
 use Rattle.quota_map.specs.View.{IsView, most_blocks}
+use Rattle.byte_order.specs.declared.order.Order.{Order}
+use Rattle.byte_order.specs.declared.order.Order.TheVariants.{Little}
 use Rattle.tree_meaning.proofs.MeaningLemmas.{one_meaning}
-use Rattle.tree_file.specs.View.{IsTreeView}
+use Rattle.tree_file.specs.View.{IsTreeView, IsTreeViewIn}
 
 -- a flat file stands for one value of a kind at most
 flat_meaning : (layout : Format) (file : List ℕ) (value other : QuotaValue) → FlatStandsFor layout file value
@@ -32,15 +34,15 @@ flat_once format None kind value other seen also = absurd seen.0
 flat_once format (Some file) kind value other seen also =
     flat_meaning format file value other seen.0.1 also.0.1 (seen.1 ∙ sym also.1)
 
-tree_once : (named : Option (List ℕ)) (kind : Kind) (asked : Option Format) (value other : QuotaValue)
-    → IsTreeView named kind asked most_blocks (Ok value)
-    → IsTreeView named kind asked most_blocks (Ok other) → value ≡ other
-tree_once None kind asked value other seen also = absurd seen.0
-tree_once (Some file) kind asked value other seen also = one_meaning file value other seen.0.1 also.0.1
+tree_once : (order : Order) (named : Option (List ℕ)) (kind : Kind) (asked : Option Format) (value other : QuotaValue)
+    → IsTreeViewIn order named kind asked most_blocks (Ok value)
+    → IsTreeViewIn order named kind asked most_blocks (Ok other) → value ≡ other
+tree_once order None kind asked value other seen also = absurd seen.0
+tree_once order (Some file) kind asked value other seen also = one_meaning order file value other seen.0.1 also.0.1
 
 pub seen_once : (named : Option (List ℕ)) (kind : Kind) (asked : Asked) (value other : QuotaValue)
     → IsView named kind asked (Ok value) → IsView named kind asked (Ok other) → value ≡ other
-seen_once named kind AnyTree value other seen also = tree_once named kind None value other seen also
+seen_once named kind AnyTree value other seen also = tree_once Little named kind None value other seen also
 seen_once named kind (InFormat format) value other seen also =
     once_if (is_flat format) format named kind value other seen also
   where
@@ -50,4 +52,5 @@ seen_once named kind (InFormat format) value other seen also =
         → MatchBool flat (IsFlatView format named kind (Ok other))
         (IsTreeView named kind (Some format) most_blocks (Ok other)) → value ≡ other
     once_if true format named kind value other seen also = flat_once format named kind value other seen also
-    once_if false format named kind value other seen also = tree_once named kind (Some format) value other seen also
+    once_if false format named kind value other seen also =
+        tree_once Little named kind (Some format) value other seen also

@@ -1,5 +1,5 @@
 -- The way down the tree, level by level: what is known of those that were read.
-use Rattle.std.proofs.Common.{◌≡◌, ◌≢◌, ℕ, zero, suc, ◌+◌, ◌*◌, ◌<◌, ◌≤◌, IsTrue, Option, Result, Ok, Err, List, []}
+use Rattle.std.proofs.Common.{◌≡◌, ◌≢◌, ℕ, zero, suc, ◌+◌, ◌*◌, ◌<◌, ◌≤◌, IsTrue, Result, Ok, Err, List, []}
 use Rattle.std.proofs.Common.{◌∷◌, ◌++◌, refl, sym, ap, subst, ◌∙◌, ◌⊎◌, inl, inr, arith}
 use Rattle.std.specs.Prelude.{All, Bool, IfErr, OnOk, IfOk}
 use Rattle.std.specs.List.{flat_map}
@@ -14,7 +14,10 @@ use Rattle.file_blocks.specs.declared.check_fault.CheckFault.TheVariants.{Store,
 use Rattle.quota_radix.specs.declared.tree_path.TreePath.{TreePath}
 use Rattle.file_blocks.specs.BlockSet.{AreFlagsOf}
 use Rattle.file_blocks.specs.CheckFault.{IsCheckFault, IsStepFault}
-use Rattle.file_blocks.specs.Block.{bytes_of, leads}
+use Rattle.file_blocks.specs.Block.{leads}
+use Rattle.byte_order.specs.declared.order.Order.{Order}
+use Rattle.byte_order.specs.Words.{words_of}
+use Rattle.outside.specs.World.{World}
 use Rattle.quota_types.specs.Times.{StandsIn, StandsTwiceIn, times}
 use Rattle.quota_radix.specs.Levels.{AreTreeBlocksWhole, AreWithin, IsBlockDefect, IsLevelDefect, IsSecondRole}
 use Rattle.quota_radix.specs.Levels.{IsTreeFault, IsTreeFaultOf, IsWhole}
@@ -304,9 +307,9 @@ down_on file file_there blocks digits tells flags now next found items below sam
     (subst (λ (f : List ℕ). All (λ (path : TreePath). IsWhole f blocks path.block) found) same_file (all told))
 
 -- the file of one name, of files that stay
-pub file_same : (name : List ℕ) (files now : List ℕ → Option (List ℕ)) → now ≡ files
-    → bytes_of (now name) ≡ bytes_of (files name)
-file_same name files now same = ap (λ (fs : List ℕ → Option (List ℕ)). bytes_of (fs name)) same
+pub file_same : (order : Order) (name : List ℕ) (files now : World) → now ≡ files
+    → words_of order now name ≡ words_of order files name
+file_same order name files now same = ap (λ (fs : World). words_of order fs name) same
 
 -- the last level down, of what a call answers
 pub down_end : {T : Type 0} (items : T → List TreePath) (file file_there : List ℕ) (blocks digits : ℕ) (tells : Bool)

@@ -1,5 +1,5 @@
 -- The blocks of a level, one after another.
-use Rattle.std.proofs.Common.{◌≡◌, ℕ, ◌+◌, ◌<◌, IsTrue, Option, List, [], ◌∷◌, ◌++◌, length, get_or, take, sym, ap}
+use Rattle.std.proofs.Common.{◌≡◌, ℕ, ◌+◌, ◌<◌, IsTrue, List, [], ◌∷◌, ◌++◌, length, get_or, take, sym, ap}
 use Rattle.std.proofs.Common.{subst, ◌∙◌}
 use Rattle.std.proofs.lemmas.List.{append-nil, take_more}
 use Rattle.std.proofs.lemmas.List.Concat.{flat_map-append}
@@ -10,7 +10,10 @@ use Rattle.file_blocks.specs.declared.check_fault.CheckFault.TheVariants.{Store,
 use Rattle.std.specs.Prelude.{Bool}
 use Rattle.quota_radix.specs.declared.tree_path.TreePath.{TreePath}
 use Rattle.file_blocks.specs.CheckFault.{IsCheckFault, IsStepFault}
-use Rattle.file_blocks.specs.Block.{bytes_of, block_of}
+use Rattle.file_blocks.specs.Block.{block_of}
+use Rattle.byte_order.specs.declared.order.Order.{Order}
+use Rattle.byte_order.specs.Words.{words_of}
+use Rattle.outside.specs.World.{World}
 use Rattle.quota_types.specs.Times.{StandsIn}
 use Rattle.quota_radix.specs.Levels.{IsLevelDefect}
 use Rattle.quota_radix.specs.Tree.{blocks_of, steps}
@@ -42,10 +45,10 @@ level_refused before now blocks tells file block paths i d low is (Damaged damag
 level_refused before now blocks tells file block paths i d low is Memory refused = tt
 
 -- what is read of a store whose files stay
-pub read_of_same : (name : List ℕ) (files now : List ℕ → Option (List ℕ)) (number : ℕ) (block : List ℕ) → now ≡ files
-    → block ≡ block_of (bytes_of (now name)) number → block ≡ block_of (bytes_of (files name)) number
-read_of_same name files now number block same is =
-    is ∙ ap (λ (fs : List ℕ → Option (List ℕ)). block_of (bytes_of (fs name)) number) same
+pub read_of_same : (order : Order) (name : List ℕ) (files now : World) (number : ℕ) (block : List ℕ) → now ≡ files
+    → block ≡ block_of (words_of order now name) number → block ≡ block_of (words_of order files name) number
+read_of_same order name files now number block same is =
+    is ∙ ap (λ (fs : World). block_of (words_of order fs name) number) same
 
 -- the paths that go on from one more of a level
 pub paths_more : (file : List ℕ) (blocks : ℕ) (paths next now : List TreePath) (i : ℕ) (d : TreePath) → i < length paths

@@ -3,13 +3,15 @@ ghost use Rattle.std.specs.Prelude.{All, IsTrue, OnOk, IfOk, IfErr, is_ok};
 ghost use Rattle.std.specs.List.{flat_map};
 ghost use Rattle.outside.specs.Frame.{OnlyReads};
 ghost use Rattle.quota_radix.specs.declared.tree_path.TreePath.{TreePath};
-ghost use Rattle.file_blocks.specs.Block.{block_of, file_of};
+ghost use Rattle.file_blocks.specs.Block.{block_of};
+ghost use Rattle.byte_order.specs.Words.{words_of};
 ghost use Rattle.file_blocks.specs.CheckFault.{IsCheckFault, IsStepFault};
 ghost use Rattle.quota_radix.specs.Levels.{AreWithin, IsLevelDefect, IsWhole};
 ghost use Rattle.quota_radix.specs.Tree.{blocks_of, steps};
 
 use crate::{TreePath, level_ref};
-use file_blocks::{CheckFault, read_block};
+use byte_order::{Order, read_words};
+use file_blocks::CheckFault;
 use outside::Store;
 use quota_types::{DamageKind, damage_at};
 use std::alloc::{AllocError, Global};
@@ -17,24 +19,25 @@ use std::alloc::{AllocError, Global};
 /// The block of the root.
 pub(crate) const ROOT: u32 = 1;
 
-/// Finds the paths that go on from those of a level, in order.
+/// Finds the paths that go on from those of a level, in order, in a file that is read in a byte order.
 pub(crate) fn next_level<S: Store>(
     alloc: Global,
     store: &mut S,
     name: &str,
     blocks: u32,
     level: &[TreePath],
+    order: Order,
 ) -> Result<Vec<TreePath>, CheckFault>
     requires small { AreWithin blocks (2 ^ 24) level.now }
     ensures next { IfOk result (λ next. IsTrue S.tells
-        → next.items ≡ flat_map (steps (file_of (S.seen store.old).files name.now) blocks) level.now) }
+        → next.items ≡ flat_map (steps (words_of order (S.seen store.old).files name.now) blocks) level.now) }
     ensures whole { OnOk result (IsTrue S.tells
-        → All (λ path. IsWhole (file_of (S.seen store.old).files name.now) blocks path.block) level.now) }
+        → All (λ path. IsWhole (words_of order (S.seen store.old).files name.now) blocks path.block) level.now) }
     ensures within { IfOk result (λ next. (bound : ℕ) → AreWithin blocks bound level.now
         → AreWithin blocks (256 * bound) next.items) }
     ensures refused { IfErr result (IsCheckFault (S.seen store.old).faults (S.seen store.new).faults
         (λ damage. IsTrue S.tells
-        → IsLevelDefect (file_of (S.seen store.old).files name.now) blocks (blocks_of level.now) damage)) }
+        → IsLevelDefect (words_of order (S.seen store.old).files name.now) blocks (blocks_of level.now) damage)) }
     ensures leaves { OnlyReads (is_ok result) name.now (S.seen store.old) (S.seen store.new) }
     ensures reads { (S.seen store.new).reads ≤ (S.seen store.old).reads + length level.now }
     ensures commits { S.commits [] store.old store.new }
@@ -42,7 +45,7 @@ pub(crate) fn next_level<S: Store>(
     let mut next = Vec::new(alloc);
     let mut block = [0u8; 1024];
     for path in level {
-        read_block(store, name, path.block, &mut block)?;
+        read_words(store, name, path.block, &mut block, order)?;
         add_steps(&mut next, blocks, *path, &block)?;
     }
     Ok(next)

@@ -4,7 +4,7 @@ ghost use Rattle.std.specs.List.{flat_map};
 ghost use Rattle.outside.specs.Frame.{OnlyReads};
 ghost use Rattle.file_blocks.specs.BlockSet.{AreFlagsOf};
 ghost use Rattle.file_blocks.specs.CheckFault.{IsCheckFault, IsStepFault};
-ghost use Rattle.file_blocks.specs.Block.{file_of};
+ghost use Rattle.byte_order.specs.Words.{words_of};
 ghost use Rattle.quota_radix.specs.Levels.{AreTreeBlocksWhole, AreWithin, IsLevelDefect, IsSecondRole, IsTreeFault};
 ghost use Rattle.quota_radix.specs.Levels.{IsWhole};
 ghost use Rattle.quota_radix.specs.Tree.{blocks_of, leaves, steps, tree_blocks};
@@ -12,6 +12,7 @@ ghost use Rattle.quota_radix.specs.Reads.{AreMarkedReads};
 
 use crate::TreePath;
 use crate::levels::{ROOT, next_level};
+use byte_order::Order;
 use file_blocks::{BlockSet, CheckFault};
 use outside::Store;
 use quota_types::{DamageKind, damage_at};
@@ -19,7 +20,8 @@ use std::alloc::Global;
 
 /// Finds the leaves of a file's tree, in order, and adds the blocks of the tree to those that were met.
 ///
-/// The file has `blocks` blocks; bytes past its end are 0. There is at most one read for each block that is added.
+/// The file is read in a byte order and has `blocks` blocks; bytes past its end are 0. There is at most one read for
+/// each block that is added.
 ///
 /// # Errors
 ///
@@ -31,20 +33,21 @@ pub fn find_leaves<S: Store>(
     name: &str,
     blocks: u32,
     met: &mut BlockSet,
+    order: Order,
 ) -> Result<Vec<TreePath>, CheckFault>
     requires two { 2 ≤ blocks }
     ensures found { IfOk result (λ found. IsTrue S.tells
-        → found.items ≡ leaves (file_of (S.seen store.old).files name.now) blocks) }
+        → found.items ≡ leaves (words_of order (S.seen store.old).files name.now) blocks) }
     ensures marked { OnOk result (IsTrue S.tells → (numbers : List ℕ) → AreFlagsOf blocks met.old.flags.items numbers
         → AreFlagsOf blocks met.new.flags.items
-        (numbers ++ tree_blocks (file_of (S.seen store.old).files name.now) blocks)) }
+        (numbers ++ tree_blocks (words_of order (S.seen store.old).files name.now) blocks)) }
     ensures whole { OnOk result (IsTrue S.tells
-        → AreTreeBlocksWhole (file_of (S.seen store.old).files name.now) blocks) }
+        → AreTreeBlocksWhole (words_of order (S.seen store.old).files name.now) blocks) }
     ensures within { IfOk result (λ found. AreWithin blocks (2 ^ 32) found.items) }
     ensures refused { IfErr result (IsCheckFault (S.seen store.old).faults (S.seen store.new).faults
         (λ damage. IsTrue S.tells
         → (numbers : List ℕ) → AreFlagsOf blocks met.old.flags.items numbers
-        → IsTreeFault (file_of (S.seen store.old).files name.now) blocks numbers damage)) }
+        → IsTreeFault (words_of order (S.seen store.old).files name.now) blocks numbers damage)) }
     ensures leaves { OnlyReads (is_ok result) name.now (S.seen store.old) (S.seen store.new) }
     ensures reads { OnOk result ((numbers : List ℕ) → AreFlagsOf blocks met.old.flags.items numbers
         → AreMarkedReads blocks met.new.flags.items numbers (S.seen store.old).reads (S.seen store.new).reads) }
@@ -56,10 +59,10 @@ pub fn find_leaves<S: Store>(
         number: 0,
         block: ROOT,
     }];
-    let second = go_down(alloc, store, name, blocks, met, &root)?;
-    let third = go_down(alloc, store, name, blocks, met, &second)?;
-    let fourth = go_down(alloc, store, name, blocks, met, &third)?;
-    go_down(alloc, store, name, blocks, met, &fourth)
+    let second = go_down(alloc, store, name, blocks, met, &root, order)?;
+    let third = go_down(alloc, store, name, blocks, met, &second, order)?;
+    let fourth = go_down(alloc, store, name, blocks, met, &third, order)?;
+    go_down(alloc, store, name, blocks, met, &fourth, order)
 }
 
 /// Adds the blocks of a level to those that were met, and finds the paths that go on from it.
@@ -70,21 +73,22 @@ fn go_down<S: Store>(
     blocks: u32,
     met: &mut BlockSet,
     level: &[TreePath],
+    order: Order,
 ) -> Result<Vec<TreePath>, CheckFault>
     requires small { AreWithin blocks (2 ^ 24) level.now }
     ensures next { IfOk result (λ next. IsTrue S.tells
-        → next.items ≡ flat_map (steps (file_of (S.seen store.old).files name.now) blocks) level.now) }
+        → next.items ≡ flat_map (steps (words_of order (S.seen store.old).files name.now) blocks) level.now) }
     ensures marked { OnOk result ((numbers : List ℕ) → AreFlagsOf blocks met.old.flags.items numbers
         → AreFlagsOf blocks met.new.flags.items (numbers ++ blocks_of level.now)) }
     ensures whole { OnOk result (IsTrue S.tells
-        → All (λ path. IsWhole (file_of (S.seen store.old).files name.now) blocks path.block) level.now) }
+        → All (λ path. IsWhole (words_of order (S.seen store.old).files name.now) blocks path.block) level.now) }
     ensures within { IfOk result (λ next. (bound : ℕ) → AreWithin blocks bound level.now
         → AreWithin blocks (256 * bound) next.items) }
     ensures refused { IfErr result (IsCheckFault (S.seen store.old).faults (S.seen store.new).faults
         (λ damage. IsTrue S.tells
         → (numbers : List ℕ) → AreFlagsOf blocks met.old.flags.items numbers
         → (IsSecondRole (numbers ++ blocks_of level.now) damage
-        ⊎ IsLevelDefect (file_of (S.seen store.old).files name.now) blocks (blocks_of level.now) damage))) }
+        ⊎ IsLevelDefect (words_of order (S.seen store.old).files name.now) blocks (blocks_of level.now) damage))) }
     ensures leaves { OnlyReads (is_ok result) name.now (S.seen store.old) (S.seen store.new) }
     ensures reads { (S.seen store.new).reads ≤ (S.seen store.old).reads + length level.now }
     ensures few_reads { (numbers : List ℕ) → AreFlagsOf blocks met.old.flags.items numbers
@@ -92,7 +96,7 @@ fn go_down<S: Store>(
     ensures commits { S.commits [] store.old store.new }
 {
     mark_all(met, level)?;
-    next_level(alloc, store, name, blocks, level)
+    next_level(alloc, store, name, blocks, level, order)
 }
 
 /// Adds the block of each path to those that were met.

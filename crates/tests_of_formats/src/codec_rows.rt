@@ -1,5 +1,6 @@
 use entry_codec::{
-    Header, HeaderFault, entries_per_block, read_entry, read_header, write_entry, write_header,
+    Header, HeaderFault, Order, entries_per_block, read_entry, read_header, write_entry,
+    write_header,
 };
 use quota_types::{Format, Grace, Kind, Rec, check_record, kept};
 use std::process::Abort;
@@ -53,7 +54,7 @@ fn block_of(at: usize, byte: u8, fill: u8) -> [u8; 1024] {
 
 fn expect_headers(rt: &impl Abort, rows: &[HeaderRow]) {
     for row in rows {
-        let found = read_header(&block_of(row.0, row.1, 0), row.2);
+        let found = read_header(&block_of(row.0, row.1, 0), row.2, Order::Little);
         assert!(rt;
             found == row.3,
             "byte {} is {}, {:?}: {found:?}",
@@ -116,14 +117,24 @@ fn header_of(kind: Kind) -> Header {
     }
 }
 
-/// Whether a file of a kind is read as one of this kind, and refused as one of another kind.
+/// Turns each number of four bytes round.
+fn turn_words(bytes: &mut [u8]) {
+    for word in bytes.chunks_exact_mut(4) {
+        word.reverse();
+    }
+}
+
+/// Whether a file of a kind is read as one of this kind, and refused as one of another kind, in either byte order.
 fn is_read_as(block: &[u8; 1024], kind: Kind, wanted: Kind) -> bool {
     let want = if kind == wanted {
         Ok(header_of(kind))
     } else {
         Err(HeaderFault::WrongKind)
     };
-    read_header(block, wanted) == want
+    let mut turned = *block;
+    turn_words(&mut turned);
+    read_header(block, wanted, Order::Little) == want
+        && read_header(&turned, wanted, Order::Big) == want
 }
 
 fn expect_magics(rt: &impl Abort, rows: &[(Kind, [u8; 4])]) {
@@ -204,7 +215,7 @@ fn reads(format: Format, bytes: &[u8], want: Option<(u32, Rec)>) -> bool {
     if format.is_flat() || bytes.len() != format.record_size() {
         return false;
     }
-    read_entry(format, bytes) == want
+    read_entry(format, bytes, Order::Little) == want
 }
 
 fn expect_read(rt: &impl Abort, rows: &[ReadRow]) {

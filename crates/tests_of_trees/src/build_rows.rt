@@ -7,7 +7,7 @@ use tree_build::{BuildFault, build};
 use tree_file::open_tree;
 
 /// A week, as the quota tools set it.
-const WEEK: Grace = Grace {
+pub(crate) const WEEK: Grace = Grace {
     block: 604_800,
     inode: 604_800,
 };
@@ -90,7 +90,7 @@ fn entries_of(alloc: Global, entries: &Entries) -> Result<Vec<Entry>, AllocError
     }
 }
 
-fn spaced(alloc: Global, count: u32, step: u32) -> Result<Vec<Entry>, AllocError> {
+pub(crate) fn spaced(alloc: Global, count: u32, step: u32) -> Result<Vec<Entry>, AllocError> {
     let mut list = Vec::new(alloc);
     for place in 0..count {
         list.push(Entry {
@@ -102,7 +102,7 @@ fn spaced(alloc: Global, count: u32, step: u32) -> Result<Vec<Entry>, AllocError
 }
 
 /// What `build` answers on a list; None where it may not be asked for.
-fn built(
+pub(crate) fn built(
     alloc: Global,
     format: Format,
     list: &[Entry],

@@ -5,6 +5,8 @@
 #![tactic(auto)]
 
 #[cfg(test)]
+mod big_endian_rows;
+#[cfg(test)]
 mod build_rows;
 #[cfg(test)]
 mod check_rows;

@@ -1,6 +1,6 @@
 //! Small tree files as data, and what a check answers on them.
 
-use entry_codec::{Header, HeaderFault, read_header};
+use entry_codec::{Header, HeaderFault, Order, read_header};
 use file_blocks::CheckFault;
 use memory_objects::MemStore;
 use outside::Store;
@@ -233,7 +233,7 @@ pub(crate) fn header_of(file: &[u8]) -> Result<Header, HeaderFault> {
     for (to, from) in block.iter_mut().zip(file) {
         *to = *from;
     }
-    read_header(&block, Kind::User)
+    read_header(&block, Kind::User, Order::Little)
 }
 
 /// What a check of a file of users answers, of which the calls of the store with these numbers fail, and how many
@@ -256,7 +256,7 @@ fn check_by(alloc: Global, store: &mut MemStore, header: &Header) -> Result<Chec
     if header.format.is_flat() || header.blocks < 2 {
         return Err(CheckFault::Memory);
     }
-    check(alloc, store, "q", header)
+    check(alloc, store, "q", header, Order::Little)
 }
 
 /// What a check of a file answers where no call fails, and how many blocks it read.

@@ -20,10 +20,11 @@ use Rattle.quota_types.proofs.BytesLemmas.{number_at-zeros, number_same}
 use Rattle.entry_codec.specs.Entry.{entries_per_block, is_unused, stored_id}
 use Rattle.entry_codec.specs.Spelling.{IsEntry, padding_of}
 use Rattle.entry_codec.proofs.SpellingLemmas.{is_unused-zeros}
-use Rattle.tree_meaning.specs.Entries.{entry_bytes, entry_of, has_unused, stored_record, used_entries}
+use Rattle.tree_meaning.specs.Entries.{entries_in, entry_bytes, entry_of, has_unused, stored_record, used_entries}
 use Rattle.tree_build.specs.NewFile.{IsDataBlock}
 use Rattle.file_blocks.proofs.WordLemmas.{same_part}
 use Rattle.tree_meaning.proofs.EntryLemmas.{no_test}
+use Rattle.byte_order.specs.declared.order.Order.TheVariants.{Little}
 use Rattle.tree_meaning.proofs.RecordLemmas.{used_is}
 use Rattle.tree_meaning.proofs.BlankLemmas.{zero_part, zero_bytes}
 
@@ -143,7 +144,7 @@ padding_zero V2R1 bytes zeros = number_at-zeros 4 4 bytes (λ k from to. zeros k
 pub filled_all : (format : Format) (block : List ℕ) (entries : List Entry) (count : ℕ)
     → length entries ≤ entries_per_block format → length entries ≤ count → count ≤ length entries
     → IsFilledTo format block entries count → IsDataBlock format block entries
-unfolding used_entries has_unused number_at
+unfolding entries_in has_unused number_at
 filled_all format block entries count few over under so_far =
     let size : ℕ = record_size format in
     let per : ℕ = entries_per_block format in
@@ -158,7 +159,8 @@ filled_all format block entries count few over under so_far =
     zero_part size (16 + size * place) block (λ k behind. so_far.zeros k (omega arith)) in
     let used : (place : ℕ) (absent : Entry) → place < length entries
     → (free place ≡ false) × (read place ≡ Some (get_or entries place absent)) = λ place absent low.
-    used_is format (entry_bytes format block place) (get_or entries place absent).id (get_or entries place absent).rec
+    used_is Little format (entry_bytes format block place) (get_or entries place absent).id
+    (get_or entries place absent).rec
     (so_far.entry place absent (omega arith)) in
     let unused : (place : ℕ) → length entries ≤ place → free place ≡ true =
     λ place from. is_unused-zeros (entry_bytes format block place) (λ k low. zeros place from k) in

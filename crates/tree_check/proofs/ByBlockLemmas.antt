@@ -15,6 +15,7 @@ use Rattle.std.proofs.lemmas.List.FromFn.{get_or-map-range_with_len, length-map-
 use Rattle.std.proofs.lemmas.List.Sorted.{IsNonDecreasingBy-drop}
 use Rattle.quota_radix.specs.declared.tree_path.TreePath.{TreePath}
 use Rattle.quota_radix.specs.Tree.{ids_at, numbers_of}
+use Rattle.byte_order.specs.declared.order.Order.{Order}
 use Rattle.tree_meaning.specs.Compared.{IsDataDefect, leading_ids}
 use Rattle.quota_types.specs.declared.damage.Damage.{Damage}
 use Rattle.quota_types.specs.declared.file_kind.Format.{Format}
@@ -176,25 +177,27 @@ led_here blocks leaves here block ids slice low is made as_slice =
     ∙ sym made ∙ sym as_slice
 
 -- a damage of a block by the list of its leaves is one by the groups
-led_damage : (format : Format) (file there : List ℕ) (groups : List (List ℕ)) (block : ℕ) (ids : List ℕ)
+led_damage : (order : Order) (format : Format) (file there : List ℕ) (groups : List (List ℕ)) (block : ℕ) (ids : List ℕ)
     (damage : Damage) → there ≡ file → leading_ids groups block ≡ ids
-    → IsDataDefect format there ids block damage
-    → IsDataDefect format file (leading_ids groups damage.block) damage.block damage
-led_damage format file there groups block ids damage same_file group is =
-    subst (λ (f : List ℕ). IsDataDefect format f (leading_ids groups damage.block) damage.block damage) same_file
-    (subst (λ (b : ℕ). IsDataDefect format there (leading_ids groups b) b damage) (sym is.defect.block_is)
-    (subst (λ (ns : List ℕ). IsDataDefect format there ns block damage) (sym group) is))
+    → IsDataDefect order format there ids block damage
+    → IsDataDefect order format file (leading_ids groups damage.block) damage.block damage
+led_damage order format file there groups block ids damage same_file group is =
+    subst (λ (f : List ℕ). IsDataDefect order format f (leading_ids groups damage.block) damage.block damage) same_file
+    (subst (λ (b : ℕ). IsDataDefect order format there (leading_ids groups b) b damage) (sym is.defect.block_is)
+    (subst (λ (ns : List ℕ). IsDataDefect order format there ns block damage) (sym group) is))
 
-pub led_refused : (before between now : ℕ) (tells : Bool) (format : Format) (file there : List ℕ)
+pub led_refused : (before between now : ℕ) (tells : Bool) (order : Order) (format : Format) (file there : List ℕ)
     (groups : List (List ℕ)) (block : ℕ) (ids : List ℕ) (fault : CheckFault)
     → before ≤ between → there ≡ file → leading_ids groups block ≡ ids
-    → IsCheckFault between now (λ damage. IsTrue tells → IsDataDefect format there ids block damage) fault
+    → IsCheckFault between now (λ damage. IsTrue tells → IsDataDefect order format there ids block damage) fault
     → IsCheckFault before now
-    (λ damage. IsTrue tells → IsDataDefect format file (leading_ids groups damage.block) damage.block damage) fault
-led_refused before between now tells format file there groups block ids Store later same_file group is =
+    (λ damage. IsTrue tells → IsDataDefect order format file (leading_ids groups damage.block) damage.block damage)
+    fault
+led_refused before between now tells order format file there groups block ids Store later same_file group is =
     omega (arith, is)
-led_refused before between now tells format file there groups block ids (Damaged damage) later same_file group is = (
-  is.0,
-  λ told. led_damage format file there groups block ids damage same_file group (is.1 told),
-)
-led_refused before between now tells format file there groups block ids Memory later same_file group is = tt
+led_refused before between now tells order format file there groups block ids (Damaged damage) later
+    same_file group is = (
+      is.0,
+      λ told. led_damage order format file there groups block ids damage same_file group (is.1 told),
+    )
+led_refused before between now tells order format file there groups block ids Memory later same_file group is = tt

@@ -13,104 +13,141 @@ use Rattle.file_blocks.specs.declared.check_fault.CheckFault.TheVariants.{Store,
 use Rattle.tree_check.specs.declared.roles.Roles.{Roles}
 use Rattle.free_chains.specs.Chain.{IsChain}
 use Rattle.file_blocks.specs.CheckFault.{IsCheckFault}
-use Rattle.tree_check.specs.Check.{IsChecked}
-use Rattle.tree_meaning.specs.Defect.{IsTreeDefect}
+use Rattle.tree_check.specs.Check.{IsCheckedIn}
+use Rattle.byte_order.specs.declared.order.Order.{Order}
+use Rattle.byte_order.specs.Words.{in_order}
+use Rattle.tree_meaning.specs.Defect.{IsTreeDefectIn}
+use Rattle.tree_meaning.specs.Entries.{stated_in}
 use Rattle.tree_check.specs.Found.{AreRoles, IsLengthDefect, IsListedDefect, IsRoleDefect}
 use Rattle.tree_check.specs.Groups.{AreGroupsOf}
 use Rattle.tree_meaning.specs.Loose.{nothing_loose}
-use Rattle.tree_meaning.specs.Roles.{Chained, Filled}
+use Rattle.tree_meaning.specs.Roles.{Chained, FilledBy, OneRole}
 use Rattle.quota_radix.specs.Tree.{leaves}
-use Rattle.tree_meaning.specs.TreeFile.{IsSound, TreeStandsFor}
+use Rattle.tree_meaning.specs.TreeFile.{IsSoundIn, TreeStandsForIn}
 use Rattle.tree_meaning.proofs.DefectLemmas.{no_defect_of_sound}
-use Rattle.tree_meaning.proofs.ValueLemmas.{sound_value, sound}
+use Rattle.tree_meaning.proofs.ValueLemmas.{sound_value}
 
 -- what the check of the length was refused for
-pub length_refused : (before now : ℕ) (tells : Bool) (file : List ℕ) (header : Header) (fault : CheckFault)
+pub length_refused : (before now : ℕ) (tells : Bool) (order : Order) (file : List ℕ) (header : Header)
+    (fault : CheckFault)
     → IsCheckFault before now (λ damage. IsTrue tells → IsLengthDefect file header.blocks damage) fault
     → IsCheckFault before now
-    (λ damage. IsTrue tells → AreOf header (header_of file) → IsTreeDefect header.format file (header_of file) damage)
+    (λ damage. IsTrue tells → AreOf header (header_of (in_order order file))
+    → IsTreeDefectIn order header.format file (header_of (in_order order file)) damage)
     fault
-length_refused before now tells file header Store is = is
-length_refused before now tells file header (Damaged damage) is =
-    (is.0, λ told are. is.1 told header.format (header_of file) are.blocks)
-length_refused before now tells file header Memory is = tt
+length_refused before now tells order file header Store is = is
+length_refused before now tells order file header (Damaged damage) is =
+    (is.0, λ told are. is.1 told order header.format (header_of (in_order order file)) are.blocks)
+length_refused before now tells order file header Memory is = tt
 
 -- what the check of the roles was refused for
-pub roles_refused : (before between now : ℕ) (tells : Bool) (file there : List ℕ) (header : Header) (fault : CheckFault)
+pub roles_refused : (before between now : ℕ) (tells : Bool) (order : Order) (file there : List ℕ) (header : Header)
+    (fault : CheckFault)
     → before ≤ between → there ≡ file
-    → IsCheckFault between now (λ damage. IsTrue tells → IsRoleDefect there header.blocks header.free damage) fault
+    → IsCheckFault between now
+    (λ damage. IsTrue tells → IsRoleDefect order there header.blocks header.free damage) fault
     → IsCheckFault before now
-    (λ damage. IsTrue tells → AreOf header (header_of file) → IsTreeDefect header.format file (header_of file) damage)
+    (λ damage. IsTrue tells → AreOf header (header_of (in_order order file))
+    → IsTreeDefectIn order header.format file (header_of (in_order order file)) damage)
     fault
-roles_refused before between now tells file there header Store later same_file is = omega (arith, is)
-roles_refused before between now tells file there header (Damaged damage) later same_file is = (
+roles_refused before between now tells order file there header Store later same_file is = omega (arith, is)
+roles_refused before between now tells order file there header (Damaged damage) later same_file is = (
   is.0,
   λ told are.
-      let found : IsRoleDefect file header.blocks header.free damage =
-      subst (λ (f : List ℕ). IsRoleDefect f header.blocks header.free damage) same_file (is.1 told) in
-      found header.format (header_of file) are.blocks are.free,
+      let found : IsRoleDefect order file header.blocks header.free damage =
+      subst (λ (f : List ℕ). IsRoleDefect order f header.blocks header.free damage) same_file (is.1 told) in
+      found header.format (header_of (in_order order file)) are.blocks are.free,
 )
-roles_refused before between now tells file there header Memory later same_file is = tt
+roles_refused before between now tells order file there header Memory later same_file is = tt
 
 -- what the check of the lists was refused for
-pub lists_refused : (before between now : ℕ) (tells : Bool) (file there : List ℕ) (header : Header)
+pub lists_refused : (before between now : ℕ) (tells : Bool) (order : Order) (file there : List ℕ) (header : Header)
     (groups : List (List ℕ)) (fault : CheckFault)
-    → before ≤ between → there ≡ file → (IsTrue tells → AreGroupsOf header.blocks (leaves file header.blocks) groups)
-    → IsCheckFault between now (λ damage. IsTrue tells → AreGroupsOf header.blocks (leaves there header.blocks) groups
-    → IsListedDefect header.format there header.blocks header.first damage) fault
+    → before ≤ between → there ≡ file
+    → (IsTrue tells → AreGroupsOf header.blocks (leaves (in_order order file) header.blocks) groups)
+    → IsCheckFault between now
+    (λ damage. IsTrue tells → AreGroupsOf header.blocks (leaves (in_order order there) header.blocks) groups
+    → IsListedDefect order header.format there header.blocks header.first damage) fault
     → IsCheckFault before now
-    (λ damage. IsTrue tells → AreOf header (header_of file) → IsTreeDefect header.format file (header_of file) damage)
+    (λ damage. IsTrue tells → AreOf header (header_of (in_order order file))
+    → IsTreeDefectIn order header.format file (header_of (in_order order file)) damage)
     fault
-lists_refused before between now tells file there header groups Store later same_file grouped is = omega (arith, is)
-lists_refused before between now tells file there header groups (Damaged damage) later same_file grouped is = (
+lists_refused before between now tells order file there header groups Store later same_file grouped is =
+    omega (arith, is)
+lists_refused before between now tells order file there header groups (Damaged damage) later same_file grouped is = (
   is.0,
   λ told are.
-      let found : IsListedDefect header.format file header.blocks header.first damage =
-      subst (λ (f : List ℕ). AreGroupsOf header.blocks (leaves f header.blocks) groups
-      → IsListedDefect header.format f header.blocks header.first damage)
+      let found : IsListedDefect order header.format file header.blocks header.first damage =
+      subst (λ (f : List ℕ). AreGroupsOf header.blocks (leaves (in_order order f) header.blocks) groups
+      → IsListedDefect order header.format f header.blocks header.first damage)
       same_file (is.1 told) (grouped told) in
-      found (header_of file) are.blocks are.first,
+      found (header_of (in_order order file)) are.blocks are.first,
 )
-lists_refused before between now tells file there header groups Memory later same_file grouped is = tt
+lists_refused before between now tells order file there header groups Memory later same_file grouped is = tt
 
 -- a file with a damage stands for no value
-stands_for_none : (file : List ℕ) (header : Header) → AreOf header (header_of file) → (damage : Damage)
-    → IsTreeDefect header.format file (header_of file) damage
-    → (value : QuotaValue) → ¬ TreeStandsFor file value
-stands_for_none file header are damage defect value stands =
+stands_for_none : (order : Order) (file : List ℕ) (header : Header) → AreOf header (header_of (in_order order file))
+    → (damage : Damage) → IsTreeDefectIn order header.format file (header_of (in_order order file)) damage
+    → (value : QuotaValue) → ¬ TreeStandsForIn order file value
+stands_for_none order file header are damage defect value stands =
     let found : Some value.format ≡ Some header.format = sym stands.version ∙ are.version in
     let same : value.format ≡ header.format = cc in
-    no_defect_of_sound header.format file (header_of file)
-    (subst (λ (f : Format). IsSound f file (length file) (header_of file)) same stands.sound) damage defect
+    no_defect_of_sound order header.format file (header_of (in_order order file))
+    (subst (λ (f : Format). IsSoundIn order f file (header_of (in_order order file))) same stands.sound) damage defect
 
 -- a file for whose damage a check was refused stands for no value
-pub only_damaged : {T : Type 0} (before now : ℕ) (tells : Bool) (file : List ℕ) (header : Header)
+pub only_damaged : {T : Type 0} (before now : ℕ) (tells : Bool) (order : Order) (file : List ℕ) (header : Header)
     (result : Result T CheckFault)
     → IfErr result (IsCheckFault before now
-    (λ damage. IsTrue tells → AreOf header (header_of file) → IsTreeDefect header.format file (header_of file) damage))
-    → IfErr result (λ fault. (damage : Damage) → fault ≡ Damaged damage → IsTrue tells → AreOf header (header_of file)
-    → (value : QuotaValue) → ¬ TreeStandsFor file value)
-only_damaged before now tells file header (Ok found) is = tt
-only_damaged before now tells file header (Err (Damaged damage)) is =
-    λ named same told are value. stands_for_none file header are damage (is.1 told are) value
-only_damaged before now tells file header (Err Store) is = λ named same. absurd cc
-only_damaged before now tells file header (Err Memory) is = λ named same. absurd cc
+    (λ damage. IsTrue tells → AreOf header (header_of (in_order order file))
+    → IsTreeDefectIn order header.format file (header_of (in_order order file)) damage))
+    → IfErr result
+    (λ fault. (damage : Damage) → fault ≡ Damaged damage → IsTrue tells → AreOf header (header_of (in_order order file))
+    → (value : QuotaValue) → ¬ TreeStandsForIn order file value)
+only_damaged before now tells order file header (Ok found) is = tt
+only_damaged before now tells order file header (Err (Damaged damage)) is =
+    λ named same told are value. stands_for_none order file header are damage (is.1 told are) value
+only_damaged before now tells order file header (Err Store) is = λ named same. absurd cc
+only_damaged before now tells order file header (Err Memory) is = λ named same. absurd cc
+
+-- the parts of a sound file, by the numbers of its header
+sound_parts : (order : Order) (file : List ℕ) (header : Header) → AreOf header (header_of (in_order order file))
+    → 2 ≤ header.blocks → (2 < header.blocks → 1024 * header.blocks ≤ length file)
+    → OneRole nothing_loose (in_order order file) header.blocks header.free
+    → Chained nothing_loose header.format (in_order order file) header.blocks header.first
+    → FilledBy (stated_in order file) nothing_loose header.format (in_order order file) header.blocks
+    → IsSoundIn order header.format file (header_of (in_order order file))
+sound_parts order file header are two long roles chained filled =
+    let words : List ℕ = in_order order file in
+    record {
+      two = subst (λ (b : ℕ). 2 ≤ b) (sym are.blocks) two;
+      long = subst (λ (b : ℕ). 2 < b → 1024 * b ≤ length file) (sym are.blocks) long;
+      roles = subst (λ (b : ℕ). OneRole nothing_loose words b (header_of words).free) (sym are.blocks)
+          (subst (λ (h : ℕ). OneRole nothing_loose words header.blocks h) (sym are.free) roles);
+      chained = subst (λ (b : ℕ). Chained nothing_loose header.format words b (header_of words).first) (sym are.blocks)
+          (subst (λ (h : ℕ). Chained nothing_loose header.format words header.blocks h) (sym are.first) chained);
+      filled = subst (λ (b : ℕ). FilledBy (stated_in order file) nothing_loose header.format words b) (sym are.blocks)
+          filled;
+    }
 
 -- a file whose length, roles and lists were checked
-pub is_checked : (file : List ℕ) (header : Header) (roles : Roles) → AreOf header (header_of file) → 2 ≤ header.blocks
+pub is_checked : (order : Order) (file : List ℕ) (header : Header) (roles : Roles)
+    → AreOf header (header_of (in_order order file)) → 2 ≤ header.blocks
     → (2 < header.blocks → 1024 * header.blocks ≤ length file)
-    → AreRoles file header.blocks header.free roles
-    → Chained nothing_loose header.format file header.blocks header.first
-    → Filled nothing_loose header.format file header.blocks
-    → IsChecked file (record { used = roles.used; free = roles.free })
-is_checked file header roles are two long found chained filled =
-    let value = sound_value file header.kind header.format are.magic are.version
-    (sound file header are two long found.one_role chained filled) in record {
+    → AreRoles (in_order order file) header.blocks header.free roles
+    → Chained nothing_loose header.format (in_order order file) header.blocks header.first
+    → FilledBy (stated_in order file) nothing_loose header.format (in_order order file) header.blocks
+    → IsCheckedIn order file (record { used = roles.used; free = roles.free })
+is_checked order file header roles are two long found chained filled =
+    let words : List ℕ = in_order order file in
+    let value = sound_value order file header.kind header.format are.magic are.version
+    (sound_parts order file header are two long found.one_role chained filled) in record {
       value = value.0;
       stands = value.1;
-      used = found.used ∙ sym (value.4 ∙ ap (λ (b : ℕ). length (leaves file b)) are.blocks);
+      used = found.used ∙ sym (value.4 ∙ ap (λ (b : ℕ). length (leaves words b)) are.blocks);
       free = found.one_role.free;
-      is_free = subst (λ (b : ℕ). IsChain file b (header_of file).free found.one_role.free 0) (sym are.blocks)
-          (subst (λ (h : ℕ). IsChain file header.blocks h found.one_role.free 0) (sym are.free) found.one_role.is_free);
+      is_free = subst (λ (b : ℕ). IsChain words b (header_of words).free found.one_role.free 0) (sym are.blocks)
+          (subst (λ (h : ℕ). IsChain words header.blocks h found.one_role.free 0) (sym are.free)
+          found.one_role.is_free);
       free_count = found.free;
     }

@@ -12,6 +12,7 @@ use Rattle.quota_types.specs.declared.file_kind.Format.{Format}
 use Rattle.free_chains.specs.declared.chain_link.ChainLink.{ChainLink}
 use Rattle.file_blocks.specs.Block.{block_of}
 use Rattle.file_blocks.specs.BlockSet.{AreFlagsOf}
+use Rattle.byte_order.specs.declared.order.Order.{Order}
 use Rattle.tree_meaning.specs.Compared.{HasEntriesOf, leading_ids, is_room, rooms}
 use Rattle.tree_meaning.specs.Entries.{has_unused}
 use Rattle.quota_types.specs.Times.{StandsIn, times}
@@ -139,14 +140,16 @@ room_added blocks number flags numbers true some room s r new added =
 room_added blocks number flags numbers false some room s r new added = absurd (omega (arith, new, added))
 
 -- the blocks that were compared, with one more
-pub entries_more : (format : Format) (file now : List ℕ) (groups : List (List ℕ)) (block : ℕ) (ids : List ℕ)
+pub entries_more : (order : Order) (format : Format) (file now : List ℕ) (groups : List (List ℕ))
+    (block : ℕ) (ids : List ℕ)
     → now ≡ file → leading_ids groups block ≡ ids
-    → ((b : ℕ) → b < block → HasEntriesOf format file b (leading_ids groups b)) → HasEntriesOf format now block ids
-    → (b : ℕ) → b < block + 1 → HasEntriesOf format file b (leading_ids groups b)
-entries_more format file now groups block ids same group before here =
-    below_more (λ (b : ℕ). HasEntriesOf format file b (leading_ids groups b)) block before
-    (subst (λ (f : List ℕ). HasEntriesOf format f block (leading_ids groups block)) same
-    (subst (λ (i : List ℕ). HasEntriesOf format now block i) (sym group) here))
+    → ((b : ℕ) → b < block → HasEntriesOf order format file b (leading_ids groups b))
+    → HasEntriesOf order format now block ids
+    → (b : ℕ) → b < block + 1 → HasEntriesOf order format file b (leading_ids groups b)
+entries_more order format file now groups block ids same group before here =
+    below_more (λ (b : ℕ). HasEntriesOf order format file b (leading_ids groups b)) block before
+    (subst (λ (f : List ℕ). HasEntriesOf order format f block (leading_ids groups block)) same
+    (subst (λ (i : List ℕ). HasEntriesOf order format now block i) (sym group) here))
 
 -- the set of those with room, with one more
 pub room_more : (format : Format) (file now : List ℕ) (groups : List (List ℕ)) (block blocks : ℕ) (ids : List ℕ)

@@ -21,16 +21,19 @@ use Rattle.quota_radix.specs.declared.tree_path.TreePath.{TreePath}
 use Rattle.file_blocks.specs.Block.{block_of, previous_of, bytes_of, leads}
 use Rattle.free_chains.specs.Chain.{IsChain}
 use Rattle.file_blocks.specs.CheckFault.{IsCheckFault}
+use Rattle.byte_order.specs.declared.order.Order.{Order}
+use Rattle.byte_order.specs.Words.{in_order, words_of}
+use Rattle.outside.specs.World.{World}
 use Rattle.tree_meaning.specs.Compared.{AreEntriesOf, HasEntriesOf, IsDataDefect, IsEntryDefect, leading_ids, is_room}
 use Rattle.tree_meaning.specs.Compared.{rooms}
 use Rattle.quota_types.specs.Times.{StandsIn, times}
-use Rattle.tree_meaning.specs.Defect.{IsDefectOf, IsTreeDefect}
+use Rattle.tree_meaning.specs.Defect.{IsDefectOf, IsTreeDefectIn}
 use Rattle.quota_types.specs.Damage.{NamesItsId}
-use Rattle.tree_meaning.specs.Entries.{has_unused, stated_count, used_ids}
+use Rattle.tree_meaning.specs.Entries.{has_unused, stated_in, used_ids}
 use Rattle.tree_check.specs.Found.{HasNoEmptyBlock, IsListedDefect}
 use Rattle.tree_check.specs.Groups.{AreGroupsOf}
 use Rattle.tree_meaning.specs.Loose.{nothing_loose}
-use Rattle.tree_meaning.specs.Roles.{Chained, Filled, has_room}
+use Rattle.tree_meaning.specs.Roles.{Chained, FilledBy, has_room}
 use Rattle.quota_radix.specs.Tree.{data_blocks, ids_at, is_data, leaves, level}
 use Rattle.free_chains.specs.Walk.{AreLinksTo, linked_blocks, previous_in}
 use Rattle.tree_check.specs.EntryList.{AreListed, IsListDefect, IsListDefectOf}
@@ -120,13 +123,15 @@ chained format file blocks first groups links are is_chain linked listed = recor
   previous = sym linked.previous ∙ listed.in_order;
 }
 
-pub filled : (format : Format) (file : List ℕ) (blocks : ℕ) (groups : List (List ℕ))
-    → AreGroupsOf blocks (leaves file blocks) groups
-    → ((block : ℕ) → block < blocks → HasEntriesOf format file block (leading_ids groups block))
-    → HasNoEmptyBlock file blocks → Filled nothing_loose format file blocks
-filled format file blocks groups are entries not_empty =
+pub filled : (order : Order) (format : Format) (read : List ℕ) (blocks : ℕ) (groups : List (List ℕ))
+    → AreGroupsOf blocks (leaves (in_order order read) blocks) groups
+    → ((block : ℕ) → block < blocks → HasEntriesOf order format read block (leading_ids groups block))
+    → HasNoEmptyBlock (in_order order read) blocks
+    → FilledBy (stated_in order read) nothing_loose format (in_order order read) blocks
+filled order format read blocks groups are entries not_empty =
+    let file : List ℕ = in_order order read in
     let here : (block : ℕ) → is_data file blocks block ≡ true
-    → AreEntriesOf (stated_count file block) (used_ids format (block_of file block))
+    → AreEntriesOf (stated_in order read block) (used_ids format (block_of file block))
     (ids_at (leaves file blocks) block) = λ block is.
     let low = data_within file blocks block is in
     let same = ids_there blocks (leaves file blocks) groups block are low in
@@ -136,7 +141,7 @@ filled format file blocks groups are entries not_empty =
       length_ids (leaves file blocks) block,
       leb-true 1 (times (level file blocks 4) block) is,
     ) in
-    subst (λ (ids : List ℕ). AreEntriesOf (stated_count file block) (used_ids format (block_of file block)) ids) same
+    subst (λ (ids : List ℕ). AreEntriesOf (stated_in order read block) (used_ids format (block_of file block)) ids) same
     (entries block low led) in
     let data_of : (block : ℕ) → StandsIn (data_blocks file blocks) block → is_data file blocks block ≡ true =
     λ block stands. elim (cases_Bool (is_data file blocks block)) [
@@ -163,64 +168,71 @@ filled format file blocks groups are entries not_empty =
     }
 
 -- the damages of data blocks
-entry_defect : (format : Format) (file : List ℕ) (numbers : HeaderNumbers) (block id : ℕ) (kind : DamageKind)
+entry_defect : (stated : ℕ → ℕ) (len : ℕ) (format : Format) (file : List ℕ) (numbers : HeaderNumbers) (block id : ℕ)
+    (kind : DamageKind)
     → StandsIn (data_blocks file numbers.blocks) block
-    → IsEntryDefect (stated_count file block) (used_ids format (block_of file block))
+    → IsEntryDefect (stated block) (used_ids format (block_of file block))
     (ids_at (leaves file numbers.blocks) block) kind id
-    → IsDefectOf format file numbers kind block id × NamesItsId kind id
-entry_defect format file numbers block id BadCount is_data is = (record { is_data = is_data; other = is.0 }, is.1)
-entry_defect format file numbers block id MissingEntry is_data is = (record { leads = is.0; none = is.1 }, tt)
-entry_defect format file numbers block id StrayEntry is_data is =
+    → IsDefectOf stated len format file numbers kind block id × NamesItsId kind id
+entry_defect stated len format file numbers block id BadCount is_data is =
+    (record { is_data = is_data; other = is.0 }, is.1)
+entry_defect stated len format file numbers block id MissingEntry is_data is =
+    (record { leads = is.0; none = is.1 }, tt)
+entry_defect stated len format file numbers block id StrayEntry is_data is =
     (record { is_data = is_data; used = is.0; stray = is.1 }, tt)
-entry_defect format file numbers block id DoubleEntry is_data is = (record { is_data = is_data; twice = is }, tt)
-entry_defect format file numbers block id Short is_data is = absurd is
-entry_defect format file numbers block id RefOut is_data is = absurd is
-entry_defect format file numbers block id TwoRoles is_data is = absurd is
-entry_defect format file numbers block id NoRole is_data is = absurd is
-entry_defect format file numbers block id EmptyTree is_data is = absurd is
-entry_defect format file numbers block id ChainOut is_data is = absurd is
-entry_defect format file numbers block id ChainLoop is_data is = absurd is
-entry_defect format file numbers block id ForeignInChain is_data is = absurd is
-entry_defect format file numbers block id MissingInChain is_data is = absurd is
-entry_defect format file numbers block id BadPrev is_data is = absurd is
-entry_defect format file numbers block id PartialRecord is_data is = absurd is
+entry_defect stated len format file numbers block id DoubleEntry is_data is =
+    (record { is_data = is_data; twice = is }, tt)
+entry_defect stated len format file numbers block id Short is_data is = absurd is
+entry_defect stated len format file numbers block id RefOut is_data is = absurd is
+entry_defect stated len format file numbers block id TwoRoles is_data is = absurd is
+entry_defect stated len format file numbers block id NoRole is_data is = absurd is
+entry_defect stated len format file numbers block id EmptyTree is_data is = absurd is
+entry_defect stated len format file numbers block id ChainOut is_data is = absurd is
+entry_defect stated len format file numbers block id ChainLoop is_data is = absurd is
+entry_defect stated len format file numbers block id ForeignInChain is_data is = absurd is
+entry_defect stated len format file numbers block id MissingInChain is_data is = absurd is
+entry_defect stated len format file numbers block id BadPrev is_data is = absurd is
+entry_defect stated len format file numbers block id PartialRecord is_data is = absurd is
 
-data_defect_there : (format : Format) (file : List ℕ) (numbers : HeaderNumbers) (groups : List (List ℕ))
-    (damage : Damage)
-    → AreGroupsOf numbers.blocks (leaves file numbers.blocks) groups
-    → IsDataDefect format file (leading_ids groups damage.block) damage.block damage
-    → IsTreeDefect format file numbers damage
-data_defect_there format file numbers groups damage are is =
+data_defect_there : (order : Order) (format : Format) (read : List ℕ) (numbers : HeaderNumbers)
+    (groups : List (List ℕ)) (damage : Damage)
+    → AreGroupsOf numbers.blocks (leaves (in_order order read) numbers.blocks) groups
+    → IsDataDefect order format read (leading_ids groups damage.block) damage.block damage
+    → IsTreeDefectIn order format read numbers damage
+data_defect_there order format read numbers groups damage are is =
+    let file : List ℕ = in_order order read in
     let low = led_within numbers.blocks (leaves file numbers.blocks) groups damage.block are is.led in
     let same = ids_there numbers.blocks (leaves file numbers.blocks) groups damage.block are low in
     let led : 1 ≤ length (ids_at (leaves file numbers.blocks) damage.block) = omega (arith, is.led, ap length same) in
-    entry_defect format file numbers damage.block damage.id damage.kind
+    entry_defect (stated_in order read) (length read) format file numbers damage.block damage.id damage.kind
     (data_stands file numbers.blocks damage.block (led_data file numbers.blocks damage.block led))
-    (subst (λ (ids : List ℕ). IsEntryDefect (stated_count file damage.block)
+    (subst (λ (ids : List ℕ). IsEntryDefect (stated_in order read damage.block)
     (used_ids format (block_of file damage.block)) ids damage.kind damage.id) same is.defect.defect)
 
-pub data_defect : (format : Format) (file there : List ℕ) (numbers : HeaderNumbers) (blocks : ℕ)
+pub data_defect : (order : Order) (format : Format) (file there : List ℕ) (numbers : HeaderNumbers) (blocks : ℕ)
     (groups : List (List ℕ)) (damage : Damage) → there ≡ file → numbers.blocks ≡ blocks
-    → AreGroupsOf blocks (leaves file blocks) groups
-    → IsDataDefect format there (leading_ids groups damage.block) damage.block damage
-    → IsTreeDefect format file numbers damage
-data_defect format file there numbers blocks groups damage same_file same are is =
-    data_defect_there format file numbers groups damage
-    (subst (λ (b : ℕ). AreGroupsOf b (leaves file b) groups) (sym same) are)
-    (subst (λ (f : List ℕ). IsDataDefect format f (leading_ids groups damage.block) damage.block damage) same_file is)
+    → AreGroupsOf blocks (leaves (in_order order file) blocks) groups
+    → IsDataDefect order format there (leading_ids groups damage.block) damage.block damage
+    → IsTreeDefectIn order format file numbers damage
+data_defect order format file there numbers blocks groups damage same_file same are is =
+    data_defect_there order format file numbers groups damage
+    (subst (λ (b : ℕ). AreGroupsOf b (leaves (in_order order file) b) groups) (sym same) are)
+    (subst (λ (f : List ℕ). IsDataDefect order format f (leading_ids groups damage.block) damage.block damage) same_file
+    is)
 
 index_map : (f : ℕ → ℕ) (before : List ℕ) (n : ℕ) (behind : List ℕ)
     → get_or (map f (before ++ n ∷ behind)) (length before) 0 ≡ f n
 index_map f [] n behind = refl
 index_map f (b ∷ before) n behind = index_map f before n behind
 
-list_defect_of : (format : Format) (file : List ℕ) (numbers : HeaderNumbers) (groups : List (List ℕ))
+list_defect_of : (stated : ℕ → ℕ) (len : ℕ) (format : Format) (file : List ℕ) (numbers : HeaderNumbers)
+    (groups : List (List ℕ))
     (chain previous : List ℕ) (block id : ℕ) (kind : DamageKind)
     → AreGroupsOf numbers.blocks (leaves file numbers.blocks) groups → IsChain file numbers.blocks numbers.first chain 0
     → previous ≡ map (previous_of file) chain → id ≡ 0
     → IsListDefectOf (rooms format file groups numbers.blocks) chain previous kind block
-    → IsDefectOf format file numbers kind block id × NamesItsId kind id
-list_defect_of format file numbers groups chain previous block id ForeignInChain are is_chain e no_id is = (
+    → IsDefectOf stated len format file numbers kind block id × NamesItsId kind id
+list_defect_of stated len format file numbers groups chain previous block id ForeignInChain are is_chain e no_id is = (
   record {
     chain = chain;
     end = 0;
@@ -238,7 +250,7 @@ list_defect_of format file numbers groups chain previous block id ForeignInChain
   },
   no_id,
 )
-list_defect_of format file numbers groups chain previous block id MissingInChain are is_chain e no_id is = (
+list_defect_of stated len format file numbers groups chain previous block id MissingInChain are is_chain e no_id is = (
   record {
     chain = chain;
     end = 0;
@@ -256,7 +268,7 @@ list_defect_of format file numbers groups chain previous block id MissingInChain
   },
   no_id,
 )
-list_defect_of format file numbers groups chain previous block id BadPrev are is_chain e no_id is = (
+list_defect_of stated len format file numbers groups chain previous block id BadPrev are is_chain e no_id is = (
   record {
     before = is.before;
     behind = is.behind;
@@ -268,29 +280,40 @@ list_defect_of format file numbers groups chain previous block id BadPrev are is
   },
   no_id,
 )
-list_defect_of format file numbers groups chain previous block id Short are is_chain e no_id is = absurd is
-list_defect_of format file numbers groups chain previous block id RefOut are is_chain e no_id is = absurd is
-list_defect_of format file numbers groups chain previous block id TwoRoles are is_chain e no_id is = absurd is
-list_defect_of format file numbers groups chain previous block id NoRole are is_chain e no_id is = absurd is
-list_defect_of format file numbers groups chain previous block id EmptyTree are is_chain e no_id is = absurd is
-list_defect_of format file numbers groups chain previous block id ChainOut are is_chain e no_id is = absurd is
-list_defect_of format file numbers groups chain previous block id ChainLoop are is_chain e no_id is = absurd is
-list_defect_of format file numbers groups chain previous block id BadCount are is_chain e no_id is = absurd is
-list_defect_of format file numbers groups chain previous block id MissingEntry are is_chain e no_id is = absurd is
-list_defect_of format file numbers groups chain previous block id StrayEntry are is_chain e no_id is = absurd is
-list_defect_of format file numbers groups chain previous block id DoubleEntry are is_chain e no_id is = absurd is
-list_defect_of format file numbers groups chain previous block id PartialRecord are is_chain e no_id is = absurd is
+list_defect_of stated len format file numbers groups chain previous block id Short are is_chain e no_id is = absurd is
+list_defect_of stated len format file numbers groups chain previous block id RefOut are is_chain e no_id is = absurd is
+list_defect_of stated len format file numbers groups chain previous block id TwoRoles are is_chain e no_id is =
+    absurd is
+list_defect_of stated len format file numbers groups chain previous block id NoRole are is_chain e no_id is = absurd is
+list_defect_of stated len format file numbers groups chain previous block id EmptyTree are is_chain e no_id is =
+    absurd is
+list_defect_of stated len format file numbers groups chain previous block id ChainOut are is_chain e no_id is =
+    absurd is
+list_defect_of stated len format file numbers groups chain previous block id ChainLoop are is_chain e no_id is =
+    absurd is
+list_defect_of stated len format file numbers groups chain previous block id BadCount are is_chain e no_id is =
+    absurd is
+list_defect_of stated len format file numbers groups chain previous block id MissingEntry are is_chain e no_id is =
+    absurd is
+list_defect_of stated len format file numbers groups chain previous block id StrayEntry are is_chain e no_id is =
+    absurd is
+list_defect_of stated len format file numbers groups chain previous block id DoubleEntry are is_chain e no_id is =
+    absurd is
+list_defect_of stated len format file numbers groups chain previous block id PartialRecord are is_chain e no_id is =
+    absurd is
 
-pub list_defect : (format : Format) (file : List ℕ) (numbers : HeaderNumbers) (blocks first : ℕ)
+pub list_defect : (order : Order) (format : Format) (read : List ℕ) (numbers : HeaderNumbers) (blocks first : ℕ)
     (groups : List (List ℕ)) (links : List ChainLink) (damage : Damage)
     → numbers.blocks ≡ blocks → numbers.first ≡ first
-    → AreGroupsOf blocks (leaves file blocks) groups → IsChain file blocks first (linked_blocks links) 0
-    → AreLinksTo file first links 0
-    → IsListDefect (rooms format file groups blocks) (linked_blocks links) (previous_in links) damage
-    → IsTreeDefect format file numbers damage
-list_defect format file numbers blocks first groups links damage same same_first are is_chain linked is =
-    list_defect_of format file numbers groups (linked_blocks links) (previous_in links) damage.block
-    damage.id damage.kind
+    → AreGroupsOf blocks (leaves (in_order order read) blocks) groups
+    → IsChain (in_order order read) blocks first (linked_blocks links) 0
+    → AreLinksTo (in_order order read) first links 0
+    → IsListDefect (rooms format (in_order order read) groups blocks) (linked_blocks links) (previous_in links) damage
+    → IsTreeDefectIn order format read numbers damage
+list_defect order format read numbers blocks first groups links damage same same_first are is_chain linked is =
+    let file : List ℕ = in_order order read in
+    list_defect_of (stated_in order read) (length read) format file numbers groups (linked_blocks links)
+    (previous_in links) damage.block damage.id damage.kind
     (subst (λ (b : ℕ). AreGroupsOf b (leaves file b) groups) (sym same) are)
     (subst (λ (b : ℕ). IsChain file b numbers.first (linked_blocks links) 0) (sym same)
     (subst (λ (h : ℕ). IsChain file blocks h (linked_blocks links) 0) (sym same_first) is_chain))
@@ -299,23 +322,32 @@ list_defect format file numbers blocks first groups links damage same same_first
     damage.block) (sym same) is.defect)
 
 -- what the check of the data blocks was refused for
-pub data_refused : (before between now : ℕ) (tells : Bool) (format : Format) (file there : List ℕ) (blocks first : ℕ)
+pub data_refused : (before between now : ℕ) (tells : Bool) (order : Order) (format : Format) (file there : List ℕ)
+    (blocks first : ℕ)
     (groups : List (List ℕ)) (fault : CheckFault)
     → before ≤ between → there ≡ file
     → IsCheckFault between now
-    (λ damage. IsTrue tells → IsDataDefect format there (leading_ids groups damage.block) damage.block damage) fault
+    (λ damage. IsTrue tells → IsDataDefect order format there (leading_ids groups damage.block) damage.block damage)
+    fault
     → IsCheckFault before now
-    (λ damage. IsTrue tells → AreGroupsOf blocks (leaves file blocks) groups
-    → IsListedDefect format file blocks first damage) fault
-data_refused before between now tells format file there blocks first groups Store later same_file is = omega (arith, is)
-data_refused before between now tells format file there blocks first groups (Damaged damage) later same_file is = (
-  is.0,
-  λ told are numbers same same_first.
-      data_defect format file there numbers blocks groups damage same_file same are (is.1 told),
-)
-data_refused before between now tells format file there blocks first groups Memory later same_file is = tt
+    (λ damage. IsTrue tells → AreGroupsOf blocks (leaves (in_order order file) blocks) groups
+    → IsListedDefect order format file blocks first damage) fault
+data_refused before between now tells order format file there blocks first groups Store later same_file is =
+    omega (arith, is)
+data_refused before between now tells order format file there blocks first groups (Damaged damage) later
+    same_file is = (
+      is.0,
+      λ told are numbers same same_first.
+          data_defect order format file there numbers blocks groups damage same_file same are (is.1 told),
+    )
+data_refused before between now tells order format file there blocks first groups Memory later same_file is = tt
 
 -- the file of a name, in two stores with the same files
 pub same_bytes : (files now : List ℕ → Option (List ℕ)) (name : List ℕ) → now ≡ files
     → bytes_of (now name) ≡ bytes_of (files name)
 same_bytes files now name e = ap (λ (f : List ℕ → Option (List ℕ)). bytes_of (f name)) e
+
+-- and its words
+pub same_words : (order : Order) (files now : World) (name : List ℕ) → now ≡ files
+    → words_of order now name ≡ words_of order files name
+same_words order files now name e = ap (λ (f : World). words_of order f name) e

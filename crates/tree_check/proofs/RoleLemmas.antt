@@ -18,12 +18,16 @@ use Rattle.file_blocks.specs.BlockSet.{AreFlagsOf}
 use Rattle.free_chains.specs.Chain.{IsChain}
 use Rattle.file_blocks.specs.CheckFault.{IsCheckFault}
 use Rattle.quota_types.specs.Times.{StandsIn, times}
-use Rattle.tree_meaning.specs.Defect.{IsDefectOf, IsTreeDefect}
+use Rattle.byte_order.specs.declared.order.Order.{Order}
+use Rattle.byte_order.specs.Words.{in_order, words_of}
+use Rattle.outside.specs.World.{World}
+use Rattle.tree_meaning.specs.Entries.{stated_in}
+use Rattle.tree_meaning.specs.Defect.{IsDefectOf}
 use Rattle.quota_types.specs.Damage.{NamesItsId}
 use Rattle.tree_check.specs.Found.{HasNoEmptyBlock, IsRoleDefect, AreRoles}
 use Rattle.tree_check.specs.Groups.{AreGroupsOf, groups_of, named_blocks}
 use Rattle.tree_check.proofs.ByBlockLemmas.{same_groups}
-use Rattle.tree_check.proofs.FoundLemmas.{same_bytes}
+use Rattle.tree_check.proofs.FoundLemmas.{same_words}
 use Rattle.tree_check.specs.declared.roles.Roles.{Roles}
 use Rattle.quota_radix.specs.Levels.{AreTreeBlocksWhole, IsSecondRole, IsTreeFault, IsTreeFaultOf}
 use Rattle.tree_meaning.specs.Loose.{nothing_loose}
@@ -46,13 +50,14 @@ header_marked blocks flags now true two none added = (added blocks [] none (omeg
 header_marked blocks flags now false two none added =
     absurd (let twice = added blocks [] none (omega arith) in omega (arith, twice))
 
-second_role_of : (format : Format) (file : List ℕ) (numbers : HeaderNumbers) (free : List ℕ) (end : ℕ)
-    (front rest : List ℕ) (damage : Damage)
+second_role_of : (stated : ℕ → ℕ) (len : ℕ) (format : Format) (file : List ℕ) (numbers : HeaderNumbers)
+    (free : List ℕ) (end : ℕ) (front rest : List ℕ) (damage : Damage)
     → IsChain file numbers.blocks numbers.free free end → front ++ rest ≡ roles nothing_loose file numbers.blocks free
-    → IsSecondRole front damage → IsTreeDefect format file numbers damage
-second_role_of format file numbers free end front rest damage is_free all is =
+    → IsSecondRole front damage
+    → IsDefectOf stated len format file numbers damage.kind damage.block damage.id × NamesItsId damage.kind damage.id
+second_role_of stated len format file numbers free end front rest damage is_free all is =
     subst (λ (kind : DamageKind).
-    IsDefectOf format file numbers kind damage.block damage.id × NamesItsId kind damage.id) (sym is.kind) (
+    IsDefectOf stated len format file numbers kind damage.block damage.id × NamesItsId kind damage.id) (sym is.kind) (
       record {
         free = free;
         end = end;
@@ -64,23 +69,26 @@ second_role_of format file numbers free end front rest damage is_free all is =
     )
 
 -- a second role among those that were found so far is one of the file
-pub second_role : (file : List ℕ) (blocks free_head : ℕ) (free : List ℕ) (end : ℕ) (front rest : List ℕ)
-    (damage : Damage)
-    → IsChain file blocks free_head free end → front ++ rest ≡ roles nothing_loose file blocks free
-    → IsSecondRole front damage → IsRoleDefect file blocks free_head damage
-second_role file blocks free_head free end front rest damage is_free all is format numbers same same_free =
-    second_role_of format file numbers free end front rest damage
+pub second_role : (order : Order) (read : List ℕ) (blocks free_head : ℕ) (free : List ℕ) (end : ℕ)
+    (front rest : List ℕ) (damage : Damage)
+    → IsChain (in_order order read) blocks free_head free end
+    → front ++ rest ≡ roles nothing_loose (in_order order read) blocks free
+    → IsSecondRole front damage → IsRoleDefect order read blocks free_head damage
+second_role order read blocks free_head free end front rest damage is_free all is format numbers same same_free =
+    let file : List ℕ = in_order order read in
+    second_role_of (stated_in order read) (length read) format file numbers free end front rest damage
     (subst (λ (b : ℕ). IsChain file b numbers.free free end) (sym same)
     (subst (λ (h : ℕ). IsChain file blocks h free end) (sym same_free) is_free))
     (subst (λ (b : ℕ). front ++ rest ≡ roles nothing_loose file b free) (sym same) all) is
 
 -- the damages of the tree
-tree_fault_of : (format : Format) (file : List ℕ) (numbers : HeaderNumbers) (block id : ℕ) (kind : DamageKind) → id ≡ 0
+tree_fault_of : (stated : ℕ → ℕ) (len : ℕ) (format : Format) (file : List ℕ) (numbers : HeaderNumbers) (block id : ℕ)
+    (kind : DamageKind) → id ≡ 0
     → IsTreeFaultOf file numbers.blocks (0 ∷ []) kind block
-    → IsDefectOf format file numbers kind block id × NamesItsId kind id
-tree_fault_of format file numbers block id RefOut no_id is = (is, no_id)
-tree_fault_of format file numbers block id EmptyTree no_id is = (is, no_id)
-tree_fault_of format file numbers block id TwoRoles no_id is =
+    → IsDefectOf stated len format file numbers kind block id × NamesItsId kind id
+tree_fault_of stated len format file numbers block id RefOut no_id is = (is, no_id)
+tree_fault_of stated len format file numbers block id EmptyTree no_id is = (is, no_id)
+tree_fault_of stated len format file numbers block id TwoRoles no_id is =
     let found = some_chain file numbers.blocks numbers.free in
     let rest : List ℕ = data_blocks file numbers.blocks ++ found.0 in (
       record {
@@ -97,53 +105,54 @@ tree_fault_of format file numbers block id TwoRoles no_id is =
       },
       no_id,
     )
-tree_fault_of format file numbers block id Short no_id is = absurd is
-tree_fault_of format file numbers block id NoRole no_id is = absurd is
-tree_fault_of format file numbers block id ChainOut no_id is = absurd is
-tree_fault_of format file numbers block id ChainLoop no_id is = absurd is
-tree_fault_of format file numbers block id ForeignInChain no_id is = absurd is
-tree_fault_of format file numbers block id MissingInChain no_id is = absurd is
-tree_fault_of format file numbers block id BadPrev no_id is = absurd is
-tree_fault_of format file numbers block id BadCount no_id is = absurd is
-tree_fault_of format file numbers block id MissingEntry no_id is = absurd is
-tree_fault_of format file numbers block id StrayEntry no_id is = absurd is
-tree_fault_of format file numbers block id DoubleEntry no_id is = absurd is
-tree_fault_of format file numbers block id PartialRecord no_id is = absurd is
+tree_fault_of stated len format file numbers block id Short no_id is = absurd is
+tree_fault_of stated len format file numbers block id NoRole no_id is = absurd is
+tree_fault_of stated len format file numbers block id ChainOut no_id is = absurd is
+tree_fault_of stated len format file numbers block id ChainLoop no_id is = absurd is
+tree_fault_of stated len format file numbers block id ForeignInChain no_id is = absurd is
+tree_fault_of stated len format file numbers block id MissingInChain no_id is = absurd is
+tree_fault_of stated len format file numbers block id BadPrev no_id is = absurd is
+tree_fault_of stated len format file numbers block id BadCount no_id is = absurd is
+tree_fault_of stated len format file numbers block id MissingEntry no_id is = absurd is
+tree_fault_of stated len format file numbers block id StrayEntry no_id is = absurd is
+tree_fault_of stated len format file numbers block id DoubleEntry no_id is = absurd is
+tree_fault_of stated len format file numbers block id PartialRecord no_id is = absurd is
 
 -- what the search for the leaves was refused for
-pub tree_refused : (before now : ℕ) (tells : Bool) (file : List ℕ) (blocks free_head : ℕ) (flags : List Bool)
-    (fault : CheckFault) → AreFlagsOf blocks flags (0 ∷ [])
+pub tree_refused : (before now : ℕ) (tells : Bool) (order : Order) (read : List ℕ) (blocks free_head : ℕ)
+    (flags : List Bool) (fault : CheckFault) → AreFlagsOf blocks flags (0 ∷ [])
     → IsCheckFault before now
-    (λ damage.
-    IsTrue tells → (numbers : List ℕ) → AreFlagsOf blocks flags numbers → IsTreeFault file blocks numbers damage) fault
-    → IsCheckFault before now (λ damage. IsTrue tells → IsRoleDefect file blocks free_head damage) fault
-tree_refused before now tells file blocks free_head flags Store are is = is
-tree_refused before now tells file blocks free_head flags (Damaged damage) are is = (
+    (λ damage. IsTrue tells → (numbers : List ℕ) → AreFlagsOf blocks flags numbers
+    → IsTreeFault (in_order order read) blocks numbers damage) fault
+    → IsCheckFault before now (λ damage. IsTrue tells → IsRoleDefect order read blocks free_head damage) fault
+tree_refused before now tells order read blocks free_head flags Store are is = is
+tree_refused before now tells order read blocks free_head flags (Damaged damage) are is = (
   is.0,
   λ told format numbers same same_free.
       let fault = is.1 told (0 ∷ []) are in
-      tree_fault_of format file numbers damage.block damage.id damage.kind fault.1
-      (subst (λ (b : ℕ). IsTreeFaultOf file b (0 ∷ []) damage.kind damage.block) (sym same) fault.0),
+      tree_fault_of (stated_in order read) (length read) format (in_order order read) numbers damage.block damage.id
+      damage.kind fault.1
+      (subst (λ (b : ℕ). IsTreeFaultOf (in_order order read) b (0 ∷ []) damage.kind damage.block) (sym same) fault.0),
 )
-tree_refused before now tells file blocks free_head flags Memory are is = tt
+tree_refused before now tells order read blocks free_head flags Memory are is = tt
 
 -- a block without a role
-no_role_of : (format : Format) (file : List ℕ) (numbers : HeaderNumbers) (free : List ℕ) (end block : ℕ)
-    → IsChain file numbers.blocks numbers.free free end
-    → block < numbers.blocks → times (roles nothing_loose file numbers.blocks free) block ≡ 0
-    → IsTreeDefect format file numbers (record { kind = NoRole; block = block; id = 0 })
-no_role_of format file numbers free end block is_free low none =
-    (record { free = free; end = end; is_free = is_free; inside = low; none = none }, refl)
-
-pub no_role : (file : List ℕ) (blocks free_head : ℕ) (free : List ℕ) (end block : ℕ)
-    → IsChain file blocks free_head free end → block < blocks → times (roles nothing_loose file blocks free) block ≡ 0
-    → IsRoleDefect file blocks free_head (record { kind = NoRole; block = block; id = 0 })
-no_role file blocks free_head free end block is_free low none format numbers same same_free =
-    no_role_of format file numbers free end block
-    (subst (λ (b : ℕ). IsChain file b numbers.free free end) (sym same)
-    (subst (λ (h : ℕ). IsChain file blocks h free end) (sym same_free) is_free))
-    (subst (λ (b : ℕ). block < b) (sym same) low)
-    (subst (λ (b : ℕ). times (roles nothing_loose file b free) block ≡ 0) (sym same) none)
+pub no_role : (order : Order) (read : List ℕ) (blocks free_head : ℕ) (free : List ℕ) (end block : ℕ)
+    → IsChain (in_order order read) blocks free_head free end → block < blocks
+    → times (roles nothing_loose (in_order order read) blocks free) block ≡ 0
+    → IsRoleDefect order read blocks free_head (record { kind = NoRole; block = block; id = 0 })
+no_role order read blocks free_head free end block is_free low none format numbers same same_free =
+    let file : List ℕ = in_order order read in (
+      record {
+        free = free;
+        end = end;
+        is_free = subst (λ (b : ℕ). IsChain file b numbers.free free end) (sym same)
+            (subst (λ (h : ℕ). IsChain file blocks h free end) (sym same_free) is_free);
+        inside = subst (λ (b : ℕ). block < b) (sym same) low;
+        none = subst (λ (b : ℕ). times (roles nothing_loose file b free) block ≡ 0) (sym same) none;
+      },
+      refl,
+    )
 
 -- each block has one role
 one_role : (file : List ℕ) (blocks free_head : ℕ) (free : List ℕ) (flags : List Bool) → AreTreeBlocksWhole file blocks
@@ -234,16 +243,17 @@ are_found tells file blocks header flags found sorted marked are_leaves more sam
 }
 
 -- what the marking of the data blocks was refused for
-pub data_marked_refused : (tells : Bool) (file : List ℕ) (blocks free_head : ℕ) (flags : List Bool)
+pub data_marked_refused : (tells : Bool) (order : Order) (read : List ℕ) (blocks free_head : ℕ) (flags : List Bool)
     (found : List TreePath) (groups : List (List ℕ)) (damage : Damage)
-    → AreFound tells file blocks flags found groups
+    → AreFound tells (in_order order read) blocks flags found groups
     → ((led : List TreePath) → (numbers : List ℕ) → AreGroupsOf blocks led groups → AreFlagsOf blocks flags numbers
     → IsSecondRole (numbers ++ named_blocks blocks led) damage)
-    → IsTrue tells → IsRoleDefect file blocks free_head damage
-data_marked_refused tells file blocks free_head flags found groups damage are is told =
+    → IsTrue tells → IsRoleDefect order read blocks free_head damage
+data_marked_refused tells order read blocks free_head flags found groups damage are is told =
+    let file : List ℕ = in_order order read in
     let chain = some_chain file blocks free_head in
-    second_role file blocks free_head chain.0 chain.1 ((0 ∷ tree_blocks file blocks) ++ data_blocks file blocks) chain.0
-    damage chain.2 refl
+    second_role order read blocks free_head chain.0 chain.1
+    ((0 ∷ tree_blocks file blocks) ++ data_blocks file blocks) chain.0 damage chain.2 refl
     (is (leaves file blocks) (0 ∷ tree_blocks file blocks)
     (subst (λ (ps : List TreePath). AreGroupsOf blocks ps groups) (are.are_leaves told) are.groups) (are.marked told))
 
@@ -278,10 +288,11 @@ roles_marked R tells file blocks flags now found groups links given are told mor
     inside led marks
 
 -- the free list, by a walk along it in a file that stayed
-pub walk_is_free : (files now : List ℕ → Option (List ℕ)) (name : List ℕ) (blocks free_head : ℕ) (walk : Walk)
-    → now ≡ files → IsWalk blocks walk → AreLinksTo (bytes_of (now name)) free_head walk.links.items 0
-    → IsChain (bytes_of (files name)) blocks free_head (linked_blocks walk.links.items) 0
-walk_is_free files now name blocks free_head walk stayed is links =
-    walked (bytes_of (files name)) blocks free_head walk.links.items
-    (subst (λ (file : List ℕ). AreLinksTo file free_head walk.links.items 0) (same_bytes files now name stayed) links)
+pub walk_is_free : (order : Order) (files now : World) (name : List ℕ) (blocks free_head : ℕ) (walk : Walk)
+    → now ≡ files → IsWalk blocks walk → AreLinksTo (words_of order now name) free_head walk.links.items 0
+    → IsChain (words_of order files name) blocks free_head (linked_blocks walk.links.items) 0
+walk_is_free order files now name blocks free_head walk stayed is links =
+    walked (words_of order files name) blocks free_head walk.links.items
+    (subst (λ (file : List ℕ). AreLinksTo file free_head walk.links.items 0) (same_words order files now name stayed)
+    links)
     is.marked.distinct is.inside

@@ -5,13 +5,22 @@ use Rattle.quota_value.specs.QuotaValue.{QuotaValue}
 use Rattle.entry_codec.specs.Header.{header_of}
 use Rattle.tree_check.specs.declared.checked.Checked.{Checked}
 use Rattle.free_chains.specs.Chain.{IsChain}
-use Rattle.tree_meaning.specs.TreeFile.{TreeStandsFor}
+use Rattle.byte_order.specs.declared.order.Order.{Order}
+use Rattle.byte_order.specs.declared.order.Order.TheVariants.{Little}
+use Rattle.byte_order.specs.Words.{in_order}
+use Rattle.tree_meaning.specs.TreeFile.{TreeStandsForIn}
 
--- The file stands for a value, which has this many records, and its free list has this many blocks.
-pub record IsChecked (file : List ℕ) (checked : Checked) : Type 0 where
+-- A file that is read in an order stands for a value, which has this many records, and its free list has this many
+-- blocks.
+pub record IsCheckedIn (order : Order) (file : List ℕ) (checked : Checked) : Type 0 where
   pub value : QuotaValue
-  pub stands : TreeStandsFor file value
+  pub stands : TreeStandsForIn order file value
   pub used : checked.used ≡ len value.records
   pub free : List ℕ
-  pub is_free : IsChain file (header_of file).blocks (header_of file).free free 0
+  pub is_free : IsChain (in_order order file) (header_of (in_order order file)).blocks
+      (header_of (in_order order file)).free free 0
   pub free_count : checked.free ≡ length free
+
+-- the same of a little-endian file
+abbrev pub IsChecked : List ℕ → Checked → Type 0
+IsChecked file checked = IsCheckedIn Little file checked

@@ -5,7 +5,8 @@ use Rattle.quota_types.specs.declared.damage.Damage.{Damage}
 use Rattle.quota_types.specs.declared.file_kind.Format.{Format}
 use Rattle.tree_check.specs.declared.roles.Roles.{Roles}
 use Rattle.quota_types.specs.Times.{StandsIn}
-use Rattle.tree_meaning.specs.Defect.{IsTreeDefect}
+use Rattle.byte_order.specs.declared.order.Order.{Order}
+use Rattle.tree_meaning.specs.Defect.{IsTreeDefectIn}
 use Rattle.tree_check.specs.Groups.{AreGroupsOf, groups_of}
 use Rattle.quota_radix.specs.TreeDefect.{IsEmpty}
 use Rattle.tree_meaning.specs.Loose.{nothing_loose}
@@ -25,19 +26,20 @@ pub record AreRoles (file : List ℕ) (blocks free_head : ℕ) (roles : Roles) :
   pub used : roles.used ≡ length (leaves file blocks)
   pub free : roles.free ≡ length one_role.free
 
--- a damage of a file by its number of blocks alone
+-- a damage of a file by its number of blocks alone, in whichever order it is read
 abbrev pub IsLengthDefect : List ℕ → ℕ → Damage → Type 0
 IsLengthDefect file blocks damage =
-    (format : Format) (numbers : HeaderNumbers) → numbers.blocks ≡ blocks → IsTreeDefect format file numbers damage
+    (order : Order) (format : Format) (numbers : HeaderNumbers) → numbers.blocks ≡ blocks
+    → IsTreeDefectIn order format file numbers damage
 
--- a damage of a file by its number of blocks and the head of its free list
-abbrev pub IsRoleDefect : List ℕ → ℕ → ℕ → Damage → Type 0
-IsRoleDefect file blocks free_head damage =
+-- a damage of a file that is read in an order, by its number of blocks and the head of its free list
+abbrev pub IsRoleDefect : Order → List ℕ → ℕ → ℕ → Damage → Type 0
+IsRoleDefect order file blocks free_head damage =
     (format : Format) (numbers : HeaderNumbers) → numbers.blocks ≡ blocks → numbers.free ≡ free_head
-    → IsTreeDefect format file numbers damage
+    → IsTreeDefectIn order format file numbers damage
 
--- a damage of a file by its number of blocks and the head of its entry list
-abbrev pub IsListedDefect : Format → List ℕ → ℕ → ℕ → Damage → Type 0
-IsListedDefect format file blocks first damage =
+-- a damage of a file that is read in an order, by its number of blocks and the head of its entry list
+abbrev pub IsListedDefect : Order → Format → List ℕ → ℕ → ℕ → Damage → Type 0
+IsListedDefect order format file blocks first damage =
     (numbers : HeaderNumbers) → numbers.blocks ≡ blocks → numbers.first ≡ first
-    → IsTreeDefect format file numbers damage
+    → IsTreeDefectIn order format file numbers damage

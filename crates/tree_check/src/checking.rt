@@ -6,23 +6,26 @@ ghost use Rattle.quota_types.specs.declared.damage.Damage.{Damage};
 ghost use Rattle.outside.specs.Frame.{OnlyReads};
 ghost use Rattle.quota_value.specs.QuotaValue.{QuotaValue};
 ghost use Rattle.file_blocks.specs.declared.check_fault.CheckFault.TheVariants.{Damage as Damaged};
-ghost use Rattle.tree_check.specs.Check.{IsChecked};
+ghost use Rattle.tree_check.specs.Check.{IsCheckedIn};
 ghost use Rattle.file_blocks.specs.CheckFault.{IsCheckFault};
+ghost use Rattle.byte_order.specs.Words.{words_of};
 ghost use Rattle.file_blocks.specs.Block.{file_of};
-ghost use Rattle.tree_meaning.specs.Defect.{IsTreeDefect};
+ghost use Rattle.tree_meaning.specs.Defect.{IsTreeDefectIn};
 ghost use Rattle.tree_check.specs.Found.{IsLengthDefect};
-ghost use Rattle.tree_meaning.specs.TreeFile.{TreeStandsFor};
+ghost use Rattle.tree_meaning.specs.TreeFile.{TreeStandsForIn};
 
 use crate::checked::Checked;
 use crate::lists::check_lists;
 use crate::roles::check_roles;
+use byte_order::Order;
 use entry_codec::Header;
 use file_blocks::CheckFault;
 use outside::Store;
 use quota_types::{DamageKind, damage_at};
 use std::alloc::Global;
 
-/// Checks a tree file whose header is this one, and tells how many records it has and how many blocks are free.
+/// Checks a tree file that is read in a byte order, whose header is this one, and tells how many records it has and how
+/// many blocks are free.
 ///
 /// It succeeds exactly where the file stands for a map, and a damage that it answers is one of the file. It makes in
 /// all at most twice as many reads as the header has blocks, whatever it answers and whether or not the store tells its
@@ -37,27 +40,28 @@ pub fn check<S: Store>(
     store: &mut S,
     name: &str,
     header: &Header,
+    order: Order,
 ) -> Result<Checked, CheckFault>
     requires tree { IsTreeFormat header.now.format }
     requires two { 2 ≤ header.now.blocks }
     ensures checked { IfOk result (λ checked. IsTrue S.tells
-        → AreOf header.now (header_of (file_of (S.seen store.old).files name.now))
-        → IsChecked (file_of (S.seen store.old).files name.now) checked) }
+        → AreOf header.now (header_of (words_of order (S.seen store.old).files name.now))
+        → IsCheckedIn order (file_of (S.seen store.old).files name.now) checked) }
     ensures refused { IfErr result (IsCheckFault (S.seen store.old).faults (S.seen store.new).faults
         (λ damage. IsTrue S.tells
-        → AreOf header.now (header_of (file_of (S.seen store.old).files name.now))
-        → IsTreeDefect header.now.format (file_of (S.seen store.old).files name.now)
-        (header_of (file_of (S.seen store.old).files name.now)) damage)) }
+        → AreOf header.now (header_of (words_of order (S.seen store.old).files name.now))
+        → IsTreeDefectIn order header.now.format (file_of (S.seen store.old).files name.now)
+        (header_of (words_of order (S.seen store.old).files name.now)) damage)) }
     ensures only_damaged { IfErr result (λ fault. (damage : Damage) → fault ≡ Damaged damage → IsTrue S.tells
-        → AreOf header.now (header_of (file_of (S.seen store.old).files name.now))
-        → (value : QuotaValue) → ¬ TreeStandsFor (file_of (S.seen store.old).files name.now) value) }
+        → AreOf header.now (header_of (words_of order (S.seen store.old).files name.now))
+        → (value : QuotaValue) → ¬ TreeStandsForIn order (file_of (S.seen store.old).files name.now) value) }
     ensures leaves { OnlyReads (is_ok result) name.now (S.seen store.old) (S.seen store.new) }
     ensures reads { (S.seen store.new).reads ≤ (S.seen store.old).reads + 2 * header.now.blocks }
     ensures commits { S.commits [] store.old store.new }
 {
     check_length(store, name, header.blocks)?;
-    let roles = check_roles(alloc, store, name, header.blocks, header.free)?;
-    check_lists(alloc, store, name, header, roles.leaves.as_slice())?;
+    let roles = check_roles(alloc, store, name, header.blocks, header.free, order)?;
+    check_lists(alloc, store, name, header, roles.leaves.as_slice(), order)?;
     Ok(Checked {
         used: roles.used,
         free: roles.free,

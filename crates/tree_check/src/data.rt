@@ -1,6 +1,7 @@
 ghost use Rattle.std.specs.Prelude.{◌≡◌, ℕ, List, ◌+◌, ◌<◌, ◌≤◌, ◌++◌, ◌∷◌, [], ◌&&◌, nat_le, if◌then◌else◌, take};
 ghost use Rattle.std.specs.Prelude.{length, IsTrue, IfOk, OnOk, IfErr, MatchOption, is_ok};
 ghost use Rattle.outside.specs.Frame.{OnlyReads};
+ghost use Rattle.byte_order.specs.Words.{words_of};
 ghost use Rattle.file_blocks.specs.Block.{block_of, file_of};
 ghost use Rattle.file_blocks.specs.BlockSet.{AreFlagsOf};
 ghost use Rattle.file_blocks.specs.CheckFault.{IsCheckFault};
@@ -16,6 +17,7 @@ ghost use Rattle.free_chains.specs.Walk.{IsWalk, linked_blocks, previous_in};
 
 use crate::block_check::check_block;
 use crate::groups::{list_numbers, part};
+use byte_order::Order;
 use file_blocks::{BLOCK, BlockSet, CheckFault};
 use free_chains::{ChainLink, Walk};
 use outside::Store;
@@ -23,7 +25,8 @@ use quota_radix::TreePath;
 use quota_types::{Damage, DamageKind, Format, damage_at};
 use std::alloc::Global;
 
-/// Checks the data blocks, which are those that leaves name, and answers those that have room.
+/// Checks the data blocks of a file that is read in a byte order, which are those that leaves name, and answers those
+/// that have room.
 pub(crate) fn check_data<S: Store>(
     alloc: Global,
     store: &mut S,
@@ -31,18 +34,19 @@ pub(crate) fn check_data<S: Store>(
     format: Format,
     blocks: u32,
     leaves: &[TreePath],
+    order: Order,
 ) -> Result<BlockSet, CheckFault>
     requires tree { IsTreeFormat format }
     requires by_block { AreByBlock leaves.now }
     ensures entries { OnOk result (IsTrue S.tells → (block : ℕ) → block < blocks
-        → HasEntriesOf format (file_of (S.seen store.old).files name.now) block
+        → HasEntriesOf order format (file_of (S.seen store.old).files name.now) block
         (leading_ids (groups_of blocks leaves.now) block)) }
     ensures room { IfOk result (λ room. IsTrue S.tells
-        → AreFlagsOf blocks room.flags.items (rooms format (file_of (S.seen store.old).files name.now)
+        → AreFlagsOf blocks room.flags.items (rooms format (words_of order (S.seen store.old).files name.now)
         (groups_of blocks leaves.now) blocks)) }
     ensures refused { IfErr result (IsCheckFault (S.seen store.old).faults (S.seen store.new).faults
         (λ damage. IsTrue S.tells
-        → IsDataDefect format (file_of (S.seen store.old).files name.now)
+        → IsDataDefect order format (file_of (S.seen store.old).files name.now)
         (leading_ids (groups_of blocks leaves.now) damage.block) damage.block damage)) }
     ensures leaves { OnlyReads (is_ok result) name.now (S.seen store.old) (S.seen store.new) }
     ensures reads { (S.seen store.new).reads ≤ (S.seen store.old).reads + led_blocks (groups_of blocks leaves.now) }
@@ -64,6 +68,7 @@ pub(crate) fn check_data<S: Store>(
             block,
             ids.as_slice(),
             &mut room,
+            order,
         )?;
     }
     Ok(room)
@@ -79,19 +84,20 @@ fn check_group<S: Store>(
     number: u32,
     ids: &[u32],
     room: &mut BlockSet,
+    order: Order,
 ) -> Result<(), CheckFault>
     requires tree { IsTreeFormat format }
     ensures entries { OnOk result (IsTrue S.tells
-        → HasEntriesOf format (file_of (S.seen store.old).files name.now) number ids.now) }
+        → HasEntriesOf order format (file_of (S.seen store.old).files name.now) number ids.now) }
     ensures room { OnOk result (IsTrue S.tells → (blocks : ℕ) → (numbers : List ℕ)
         → AreFlagsOf blocks room.old.flags.items numbers
         → number < blocks → times numbers number ≡ 0
         → AreFlagsOf blocks room.new.flags.items (numbers ++ (if nat_le 1 (length ids.now)
-        && has_unused format (block_of (file_of (S.seen store.old).files name.now) number)
+        && has_unused format (block_of (words_of order (S.seen store.old).files name.now) number)
         then number ∷ [] else []))) }
     ensures refused { IfErr result (IsCheckFault (S.seen store.old).faults (S.seen store.new).faults
         (λ damage. IsTrue S.tells
-        → IsDataDefect format (file_of (S.seen store.old).files name.now) ids.now number damage)) }
+        → IsDataDefect order format (file_of (S.seen store.old).files name.now) ids.now number damage)) }
     ensures leaves { OnlyReads (is_ok result) name.now (S.seen store.old) (S.seen store.new) }
     ensures reads { (S.seen store.new).reads ≤ (S.seen store.old).reads + (if nat_le 1 (length ids.now) then 1 else 0) }
     ensures commits { S.commits [] store.old store.new }
@@ -99,7 +105,7 @@ fn check_group<S: Store>(
     if ids.is_empty() {
         return Ok(());
     }
-    if check_block(store, name, bytes, format, number, ids)? {
+    if check_block(store, name, bytes, format, number, ids, order)? {
         room.insert(number);
     }
     Ok(())

@@ -24,6 +24,7 @@ use Rattle.quota_radix.specs.declared.walk_fault.WalkFault.{WalkFault}
 use Rattle.quota_radix.specs.declared.walk_fault.WalkFault.TheVariants.{Store, Damage as Damaged}
 use Rattle.tree_meaning.specs.Defect.{IsTreeDefect}
 use Rattle.tree_meaning.specs.TreeFile.{TreeStandsFor}
+use Rattle.byte_order.specs.declared.order.Order.TheVariants.{Little}
 use Rattle.tree_meaning.proofs.DefectLemmas.{no_defect_of_sound}
 use Rattle.tree_meaning.proofs.MeaningLemmas.{header_format}
 use Rattle.tree_file.specs.Coming.{HoldsComing}
@@ -64,7 +65,7 @@ defect_refuted : (header : Header) (file : List ℕ) (value : QuotaValue) (damag
     → AreOf header (header_of file) → TreeStandsFor file value
     → IsTreeDefect header.format file (header_of file) damage → ⊥
 defect_refuted header file value damage of stands defect =
-    no_defect_of_sound value.format file (header_of file) stands.sound damage
+    no_defect_of_sound Little value.format file (header_of file) stands.sound damage
     (subst (λ (format : Format). IsTreeDefect format file (header_of file) damage)
     (header_format file header value of stands) defect)
 

@@ -26,6 +26,7 @@ use Rattle.quota_radix.proofs.DescentLemmas.{leaf_led_to, option_cases}
 use Rattle.tree_meaning.specs.TreeHeads.{heads_of}
 use Rattle.tree_meaning.specs.Ids.{ids_in}
 use Rattle.tree_meaning.specs.TreeFile.{TreeStandsFor, record_in}
+use Rattle.byte_order.specs.declared.order.Order.TheVariants.{Little}
 use Rattle.tree_meaning.proofs.MeaningLemmas.{one_meaning}
 use Rattle.tree_meaning.proofs.ValueLemmas.{sound_value, sound_value_ids}
 use Rattle.tree_file.specs.BlocksWanted.{blocks_wanted, blocks_with_new, has_no_leaf, tree_blocks_wanted}
@@ -115,9 +116,9 @@ none_found id (p ∷ ps) none = elim (times_cases p.number (numbers_of ps) id) [
 ids_of_value : (file : List ℕ) (value : QuotaValue) → TreeStandsFor file value
     → ids_in value.records ≡ numbers_of (leaves file (header_of file).blocks)
 ids_of_value file value stands =
-    let found = sound_value file value.kind value.format stands.magic stands.version stands.sound in
-    ap (λ (v : QuotaValue). ids_in v.records) (one_meaning file value found.0 stands found.1)
-    ∙ sound_value_ids file value.kind value.format stands.magic stands.version stands.sound
+    let found = sound_value Little file value.kind value.format stands.magic stands.version stands.sound in
+    ap (λ (v : QuotaValue). ids_in v.records) (one_meaning Little file value found.0 stands found.1)
+    ∙ sound_value_ids Little file value.kind value.format stands.magic stands.version stands.sound
 
 -- an identifier of the file's value has a leaf, and another one has none
 has_leaf : (file : List ℕ) (value : QuotaValue) (id : ℕ) → TreeStandsFor file value → get value.records id ≢ None

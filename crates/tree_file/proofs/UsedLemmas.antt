@@ -13,7 +13,7 @@ use Rattle.quota_types.specs.declared.record.Rec.{Rec}
 use Rattle.entry_codec.specs.Entry.{entries_per_block}
 use Rattle.quota_types.specs.Times.{StandsIn, times}
 use Rattle.quota_types.proofs.TimesLemmas.{times-cons, times-cons-other, times-cons-same, stands_right}
-use Rattle.tree_meaning.specs.Entries.{entry_bytes, entry_of, used_entries, used_ids}
+use Rattle.tree_meaning.specs.Entries.{entries_in, entry_bytes, entry_of, used_entries, used_ids}
 use Rattle.tree_meaning.specs.EntryRecords.{IsRecordIn, used_by}
 use Rattle.tree_meaning.specs.TreeFile.{record_in}
 use Rattle.tree_meaning.proofs.EntryLemmas.{used_ids-entries}
@@ -110,7 +110,7 @@ given_is o id rec own gives is =
 -- of a block that has one entry of an identifier, the record of any is that of the first one
 pub one_is_first : (format : Format) (block : List ℕ) (id : ℕ) (rec : Rec) → times (used_ids format block) id ≡ 1
     → IsRecordIn format block id rec → record_in format block id ≡ Some rec
-unfolding used_entries
+unfolding entries_in
 one_is_first format block id rec once there =
     let entry : Option Entry = entry_of format (entry_bytes format block there.place) in
     let some : IsSome (option_and_then (used_by id) entry) = subst (λ (o : Option Rec). IsSome o) (sym there.is) refl in

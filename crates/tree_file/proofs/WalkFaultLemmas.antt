@@ -1,5 +1,5 @@
 -- Why look-ups in an opened tree file are refused.
-use Rattle.std.proofs.Common.{◌≡◌, ℕ, ◌≤◌, Bool, true, List, Some, sym, ap, subst, ◌∙◌, arith}
+use Rattle.std.proofs.Common.{◌≡◌, ℕ, ◌≤◌, Bool, true, List, Some, sym, ap, subst, ◌∙◌, arith, length}
 use Rattle.quota_types.specs.Damage.{NamesItsId}
 use Rattle.quota_types.specs.declared.damage.Damage.{Damage}
 use Rattle.quota_types.specs.declared.damage.DamageKind.{DamageKind}
@@ -27,6 +27,7 @@ use Rattle.quota_radix.proofs.InsideLemmas.{out_on_way}
 use Rattle.quota_radix.proofs.LeafLemmas.{IsLeaf}
 use Rattle.quota_radix.proofs.WalkLemmas.{damaged_weaker}
 use Rattle.tree_meaning.specs.Defect.{IsDefectOf, IsTreeDefect}
+use Rattle.tree_meaning.specs.Entries.{stated_count}
 use Rattle.tree_meaning.specs.TreeFile.{record_in}
 use Rattle.tree_file.specs.Leaf.{IsLeafFault}
 use Rattle.tree_file.proofs.LookupLemmas.{leaf_damage}
@@ -51,7 +52,9 @@ ref_damage : (header : Header) (file : List ℕ) (damage : Damage) → AreOf hea
     → NamesItsId damage.kind damage.id → IsWayFault file header.blocks damage
     → IsTreeDefect header.format file (header_of file) damage
 ref_damage header file damage of kind named fault = (
-  subst (λ (k : DamageKind). IsDefectOf header.format file (header_of file) k damage.block damage.id) (sym kind)
+  subst (λ (k : DamageKind).
+      IsDefectOf (stated_count file) (length file) header.format file (header_of file) k damage.block damage.id)
+      (sym kind)
       (subst (λ (blocks : ℕ). IsRefOut file blocks damage.block) (sym of.blocks)
       (subst (λ (k : DamageKind). IsWayFaultOf file header.blocks k damage.block) kind fault.fault)),
   named,

@@ -16,6 +16,8 @@ use Rattle.opened_file.specs.declared.quota_file.OpenFault.{OpenFault}
 use Rattle.opened_file.specs.declared.quota_file.OpenFault.TheVariants.{Store, NoFile, Memory}
 use Rattle.entry_codec.specs.declared.header.Header.{Header}
 use Rattle.tree_meaning.specs.TreeFile.{TreeStandsFor}
+use Rattle.byte_order.specs.declared.order.Order.{Order}
+use Rattle.byte_order.specs.declared.order.Order.TheVariants.{Little}
 use Rattle.tree_file.specs.Opened.{HoldsTree, LacksRoom, MayRefuse}
 use Rattle.tree_file.specs.declared.coming.Coming.{Coming}
 use Rattle.tree_file.specs.TreeChange.{TreeMakes, TreeLeaves}
@@ -68,12 +70,17 @@ abbrev pub tree_at : Bool → (name : List ℕ) → FileUse → Header → Comin
 tree_at tells name opened header coming limit store =
     file_at (HoldsTree tells (store.files name) header coming limit) (seen_in opened name header.format limit) store
 
--- Why opening is refused: the store's count of faults rose, there is not enough memory, there is no file, or the file
--- is refused. What is said of the file holds where the store tells it; that no other refusal comes, and where the limit
--- lies, holds always.
+-- Why the opening of a file that is read in an order is refused: the store's count of faults rose, there is not enough
+-- memory, there is no file, or the file is refused. What is said of the file holds where the store tells it; that no
+-- other refusal comes, and where the limit lies, holds always.
+abbrev pub IsTreeFaultIn : Order → ℕ → ℕ → Bool → Option (List ℕ) → Kind → Option Format → ℕ → OpenFault → Type 0
+IsTreeFaultIn order before now tells named kind asked limit Store = Rose before now
+IsTreeFaultIn order before now tells named kind asked limit NoFile = IsTrue tells → named ≡ None
+IsTreeFaultIn order before now tells named kind asked limit Memory = ⊤
+IsTreeFaultIn order before now tells named kind asked limit fault =
+    FitsRequest asked limit fault × (IsTrue tells → IsSomeAnd named (IsRefusedFor order kind asked limit fault))
+
+-- the same of a little-endian file
 abbrev pub IsTreeFault : ℕ → ℕ → Bool → Option (List ℕ) → Kind → Option Format → ℕ → OpenFault → Type 0
-IsTreeFault before now tells named kind asked limit Store = Rose before now
-IsTreeFault before now tells named kind asked limit NoFile = IsTrue tells → named ≡ None
-IsTreeFault before now tells named kind asked limit Memory = ⊤
 IsTreeFault before now tells named kind asked limit fault =
-    FitsRequest asked limit fault × (IsTrue tells → IsSomeAnd named (IsRefusedFor kind asked limit fault))
+    IsTreeFaultIn Little before now tells named kind asked limit fault

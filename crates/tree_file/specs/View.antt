@@ -14,9 +14,12 @@ use Rattle.entry_codec.specs.Header.{HeaderNumbers, format_of, header_fault, hea
 use Rattle.entry_codec.specs.declared.header.HeaderFault.TheVariants.{NotQuota as NoMagic, WrongKind as OtherKind}
 use Rattle.entry_codec.specs.declared.header.HeaderFault.TheVariants.{UnknownVersion as OtherVersion}
 use Rattle.entry_codec.specs.declared.header.HeaderFault.TheVariants.{BadBlockCount as FewBlocks}
-use Rattle.tree_meaning.specs.Defect.{IsTreeDefect}
+use Rattle.byte_order.specs.declared.order.Order.{Order}
+use Rattle.byte_order.specs.declared.order.Order.TheVariants.{Little}
+use Rattle.byte_order.specs.Words.{in_order}
+use Rattle.tree_meaning.specs.Defect.{IsTreeDefectIn}
 use Rattle.quota_types.specs.Damage.{NamesItsId}
-use Rattle.tree_meaning.specs.TreeFile.{TreeStandsFor}
+use Rattle.tree_meaning.specs.TreeFile.{TreeStandsForIn}
 
 -- a format is the one that was asked for, where one was
 abbrev pub IsAsAsked : Option Format → Format → Type 0
@@ -46,19 +49,21 @@ IsRefusedHeader kind asked limit (FormatMismatch found) numbers = HasHeader kind
 IsRefusedHeader kind asked limit (TooLarge number most) numbers = HasTooManyBlocks kind asked limit number numbers
 IsRefusedHeader kind asked limit _ numbers = ⊥
 
--- the header is one of the kind and of the format that was asked for, has no more blocks than there may be, and the
--- damage is one of the file
-pub record IsDamaged (kind : Kind) (asked : Option Format) (limit : ℕ) (damage : Damage) (file : List ℕ) : Type 0 where
+-- read in an order, the header is one of the kind and of the format that was asked for, has no more blocks than there
+-- may be, and the damage is one of the file
+pub record IsDamaged (order : Order) (kind : Kind) (asked : Option Format) (limit : ℕ) (damage : Damage)
+    (file : List ℕ) : Type 0 where
   pub format : Format
-  pub header : HasHeader kind (header_of file) format
+  pub header : HasHeader kind (header_of (in_order order file)) format
   pub as_asked : IsAsAsked asked format
-  pub few : (header_of file).blocks ≤ limit
-  pub defect : IsTreeDefect format file (header_of file) damage
+  pub few : (header_of (in_order order file)).blocks ≤ limit
+  pub defect : IsTreeDefectIn order format file (header_of (in_order order file)) damage
 
--- what a refusal says of the file
-abbrev pub IsRefusedFor : Kind → Option Format → ℕ → OpenFault → List ℕ → Type 0
-IsRefusedFor kind asked limit (Damaged damage) file = IsDamaged kind asked limit damage file
-IsRefusedFor kind asked limit fault file = IsRefusedHeader kind asked limit fault (header_of file)
+-- what a refusal says of the file that is read in an order
+abbrev pub IsRefusedFor : Order → Kind → Option Format → ℕ → OpenFault → List ℕ → Type 0
+IsRefusedFor order kind asked limit (Damaged damage) file = IsDamaged order kind asked limit damage file
+IsRefusedFor order kind asked limit fault file =
+    IsRefusedHeader kind asked limit fault (header_of (in_order order file))
 
 -- What a refusal says beside that: another format was asked for than was found; the limit is the given one, and the
 -- number passes it; or the damage names an identifier only where its kind does.
@@ -68,15 +73,20 @@ FitsRequest asked limit (TooLarge number most) = (most ≡ limit) × (limit < nu
 FitsRequest asked limit (Damaged damage) = NamesItsId damage.kind damage.id
 FitsRequest asked limit _ = ⊤
 
--- The file stands for a value of the kind, in the format that was asked for, and has no more blocks than there may be;
--- or it is refused: there is none, it is no quota file, one of another kind, of a version that is not known, of fewer
--- than two blocks, of another format, of too many blocks, or damaged, in this order.
+-- Read in an order, the file stands for a value of the kind, in the format that was asked for, and has no more blocks
+-- than there may be; or it is refused: there is none, it is no quota file, one of another kind, of a version that is
+-- not known, of fewer than two blocks, of another format, of too many blocks, or damaged, in this order.
+abbrev pub IsTreeViewIn : Order → Option (List ℕ) → Kind → Option Format → ℕ → Result QuotaValue OpenFault → Type 0
+IsTreeViewIn order named kind asked limit (Ok value) =
+    IsSomeAnd named
+    (λ file. ((header_of (in_order order file)).blocks ≤ limit) × TreeStandsForIn order file value)
+    × (value.kind ≡ kind) × IsAsAsked asked value.format
+IsTreeViewIn order named kind asked limit (Err Store) = ⊥
+IsTreeViewIn order named kind asked limit (Err NoFile) = named ≡ None
+IsTreeViewIn order named kind asked limit (Err Memory) = ⊥
+IsTreeViewIn order named kind asked limit (Err fault) =
+    FitsRequest asked limit fault × IsSomeAnd named (IsRefusedFor order kind asked limit fault)
+
+-- the same of a little-endian file
 abbrev pub IsTreeView : Option (List ℕ) → Kind → Option Format → ℕ → Result QuotaValue OpenFault → Type 0
-IsTreeView named kind asked limit (Ok value) =
-    IsSomeAnd named (λ file. ((header_of file).blocks ≤ limit) × TreeStandsFor file value) × (value.kind ≡ kind)
-    × IsAsAsked asked value.format
-IsTreeView named kind asked limit (Err Store) = ⊥
-IsTreeView named kind asked limit (Err NoFile) = named ≡ None
-IsTreeView named kind asked limit (Err Memory) = ⊥
-IsTreeView named kind asked limit (Err fault) =
-    FitsRequest asked limit fault × IsSomeAnd named (IsRefusedFor kind asked limit fault)
+IsTreeView named kind asked limit result = IsTreeViewIn Little named kind asked limit result

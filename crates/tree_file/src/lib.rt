@@ -14,7 +14,7 @@ mod opened_tree;
 mod tree_opening;
 
 pub use opened_tree::TreeFile;
-pub use tree_opening::open_tree;
+pub use tree_opening::{check_tree, open_tree};
 
 // The check and the building of a tree file are calls of this crate, though they stand below it.
 pub use file_blocks::CheckFault;

@@ -11,10 +11,13 @@ ghost use Rattle.quota_value.specs.QuotaValue.{QuotaValue};
 ghost use Rattle.std.specs.Bool.{OnFalse, OnTrue};
 ghost use Rattle.file_blocks.specs.Block.{block_of, file_of};
 ghost use Rattle.tree_file.specs.View.{FitsRequest, HasHeader, IsAsAsked, IsRefusedHeader, IsTreeView};
-ghost use Rattle.tree_file.specs.TreeCalls.{IsTreeFault};
+ghost use Rattle.tree_file.specs.View.{IsTreeViewIn};
+ghost use Rattle.byte_order.specs.Words.{in_order, words_of};
+ghost use Rattle.tree_file.specs.TreeCalls.{IsTreeFault, IsTreeFaultIn};
 
 use crate::TreeFile;
 use crate::coming::Coming;
+use byte_order::Order;
 use entry_codec::{Header, HeaderFault, read_header};
 use file_blocks::{BLOCK, read_block};
 use opened_file::{FileUse, OpenFault, QuotaFile};
@@ -69,9 +72,7 @@ pub fn open_tree<S: Store>(
         Ok(own_name) => own_name,
         Err(_) => return Err(OpenFault::Memory),
     };
-    let first = first_block(store, name)?;
-    let header = accepted_header(&first, kind, format, limit)?;
-    check(alloc, store, name, &header)?;
+    let header = check_tree(alloc, store, name, kind, format, limit, Order::Little)?;
     Ok(TreeFile {
         pages: Pages::new(own_name),
         opened: FileUse::new(),
@@ -81,13 +82,53 @@ pub fn open_tree<S: Store>(
     })
 }
 
+/// Checks a tree file that is read in a byte order, block by block as the store has it, and answers its header.
+///
+/// # Errors
+///
+/// Those of `open_tree`.
+pub fn check_tree<S: Store>(
+    alloc: Global,
+    store: &mut S,
+    name: &str,
+    kind: Kind,
+    format: Option<Format>,
+    limit: u32,
+    order: Order,
+) -> Result<Header, OpenFault>
+    requires { IfSome format IsTreeFormat }
+    ensures seen { OnOk result (IsTrue S.tells → (value : QuotaValue)
+        × IsTreeViewIn order ((S.seen store.old).files name.now) kind format limit (Ok value)) }
+    ensures numbers { IfOk result (λ header. IsTrue S.tells
+        → AreOf header (header_of (words_of order (S.seen store.old).files name.now))) }
+    ensures kind { IfOk result (λ header. header.kind ≡ kind) }
+    ensures as_asked { IfOk result (λ header. IsAsAsked format header.format) }
+    ensures grace { IfOk result (λ header. grace_unfit header.format header.grace ≡ None) }
+    ensures tree { IfOk result (λ header. IsTreeFormat header.format) }
+    ensures two { IfOk result (λ header. 2 ≤ header.blocks) }
+    ensures few { IfOk result (λ header. header.blocks ≤ limit) }
+    ensures refused { IfErr result (IsTreeFaultIn order (S.seen store.old).faults (S.seen store.new).faults S.tells
+        ((S.seen store.old).files name.now) kind format limit) }
+    ensures leaves { OnlyReads (is_ok result) name.now (S.seen store.old) (S.seen store.new) }
+    ensures reads { IsTrue S.tells → (S.seen store.new).reads
+        ≤ (S.seen store.old).reads + 1 + 2 * (header_of (words_of order (S.seen store.old).files name.now)).blocks }
+    ensures few_reads { IfOk result (λ header. (S.seen store.new).reads
+        ≤ (S.seen store.old).reads + 1 + 2 * header.blocks) }
+    ensures commits { S.commits [] store.old store.new }
+{
+    let first = first_block(store, name)?;
+    let header = accepted_header(&first, kind, format, limit, order)?;
+    check(alloc, store, name, &header, order)?;
+    Ok(header)
+}
+
 /// The first block of a file that is there. Bytes past the end of the file are 0.
 fn first_block<S: Store>(store: &mut S, name: &str) -> Result<[u8; BLOCK], OpenFault>
     ensures there { OnOk result (IsTrue S.tells → IsSome ((S.seen store.old).files name.now)) }
     ensures bytes { IfOk result (λ first. IsTrue S.tells
         → first ≡ block_of (file_of (S.seen store.old).files name.now) 0) }
-    ensures refused { IfErr result (λ fault. (kind : Kind) (asked : Option Format) (limit : ℕ)
-        → IsTreeFault (S.seen store.old).faults (S.seen store.new).faults S.tells
+    ensures refused { IfErr result (λ fault. (order : Order) (kind : Kind) (asked : Option Format) (limit : ℕ)
+        → IsTreeFaultIn order (S.seen store.old).faults (S.seen store.new).faults S.tells
         ((S.seen store.old).files name.now) kind asked limit fault) }
     ensures leaves { OnlyReads (is_ok result) name.now (S.seen store.old) (S.seen store.new) }
     ensures reads { (S.seen store.new).reads ≤ (S.seen store.old).reads + 1 }
@@ -105,26 +146,28 @@ fn first_block<S: Store>(store: &mut S, name: &str) -> Result<[u8; BLOCK], OpenF
     }
 }
 
-/// The header that a file begins with, where it is one of the kind, of the format that is asked for, where one is, and
-/// of at most `limit` blocks.
+/// The header that a file begins with, read in a byte order, where it is one of the kind, of the format that is asked
+/// for, where one is, and of at most `limit` blocks.
 fn accepted_header(
     first: &[u8; BLOCK],
     kind: Kind,
     format: Option<Format>,
     limit: u32,
+    order: Order,
 ) -> Result<Header, OpenFault>
-    ensures accepted { IfOk result (λ header. HasHeader kind (header_of first.now) header.format) }
+    ensures accepted { IfOk result (λ header. HasHeader kind (header_of (in_order order first.now)) header.format) }
     ensures kind { IfOk result (λ header. header.kind ≡ kind) }
     ensures as_asked { IfOk result (λ header. IsAsAsked format header.format) }
-    ensures numbers { IfOk result (λ header. AreOf header (header_of first.now)) }
+    ensures numbers { IfOk result (λ header. AreOf header (header_of (in_order order first.now))) }
     ensures grace { IfOk result (λ header. grace_unfit header.format header.grace ≡ None) }
     ensures tree { IfOk result (λ header. IsTreeFormat header.format) }
     ensures two { IfOk result (λ header. 2 ≤ header.blocks) }
     ensures few { IfOk result (λ header. header.blocks ≤ limit) }
     ensures fits { IfErr result (FitsRequest format limit) }
-    ensures refused { IfErr result (λ fault. IsRefusedHeader kind format limit fault (header_of first.now)) }
+    ensures refused { IfErr result
+        (λ fault. IsRefusedHeader kind format limit fault (header_of (in_order order first.now))) }
 {
-    let header = match read_header(first, kind) {
+    let header = match read_header(first, kind, order) {
         Ok(header) => header,
         Err(HeaderFault::NotQuota) => return Err(OpenFault::NotQuota),
         Err(HeaderFault::WrongKind) => return Err(OpenFault::WrongKind),

@@ -14,14 +14,16 @@ use Rattle.entry_codec.specs.Header.{HeaderNumbers}
 use Rattle.file_blocks.specs.Block.{block_of, previous_of}
 use Rattle.free_chains.specs.Chain.{IsChain}
 use Rattle.quota_types.specs.Times.{StandsIn, StandsTwiceIn, times}
+use Rattle.byte_order.specs.declared.order.Order.{Order}
+use Rattle.byte_order.specs.Words.{in_order}
 use Rattle.tree_meaning.specs.Defect.{HasBadPrevious, HasNoRole, HasTwoRoles, HasStrayEntry, HasDoubleEntry, IsDefectOf}
-use Rattle.tree_meaning.specs.Defect.{IsForeign, IsMissing, IsTreeDefect}
+use Rattle.tree_meaning.specs.Defect.{IsForeign, IsMissing, IsTreeDefectIn}
 use Rattle.free_chains.specs.ChainDefect.{IsLoop, IsOut}
-use Rattle.tree_meaning.specs.Entries.{used_ids}
+use Rattle.tree_meaning.specs.Entries.{stated_in, used_ids}
 use Rattle.tree_meaning.specs.Loose.{nothing_loose}
-use Rattle.tree_meaning.specs.Roles.{Chained, Filled, OneRole, roles}
+use Rattle.tree_meaning.specs.Roles.{Chained, FilledBy, OneRole, roles}
 use Rattle.quota_radix.specs.Tree.{data_blocks, ids_at, leaves}
-use Rattle.tree_meaning.specs.TreeFile.{IsSound}
+use Rattle.tree_meaning.specs.TreeFile.{IsSoundBy, IsSoundIn}
 use Rattle.file_blocks.proofs.LeadsLemmas.{leads_within}
 use Rattle.free_chains.proofs.ChainLemmas.{one_chain}
 use Rattle.quota_types.proofs.TimesLemmas.{length_of_times, times_cases}
@@ -123,10 +125,11 @@ more_numbers ids used id distinct once more = length_of_times (id ∷ ids) used 
 ])
 
 -- where the used entries are as many as the leaves that name the block, none is left over
-none_left_over : (format : Format) (file : List ℕ) (blocks block id : ℕ) → Filled nothing_loose format file blocks
+none_left_over : (stated : ℕ → ℕ) (format : Format) (file : List ℕ) (blocks block id : ℕ)
+    → FilledBy stated nothing_loose format file blocks
     → StandsIn (data_blocks file blocks) block
     → times (ids_at (leaves file blocks) block) id < times (used_ids format (block_of file block)) id → ⊥
-none_left_over format file blocks block id sound is_data more =
+none_left_over stated format file blocks block id sound is_data more =
     omega (
       arith,
       more_numbers (ids_at (leaves file blocks) block) (used_ids format (block_of file block)) id
@@ -134,54 +137,60 @@ none_left_over format file blocks block id sound is_data more =
       sound.counted block is_data,
     )
 
-not_stray : (format : Format) (file : List ℕ) (blocks block id : ℕ) → Filled nothing_loose format file blocks
+not_stray : (stated : ℕ → ℕ) (format : Format) (file : List ℕ) (blocks block id : ℕ)
+    → FilledBy stated nothing_loose format file blocks
     → HasStrayEntry format file blocks block id → ⊥
-not_stray format file blocks block id sound stray =
-    none_left_over format file blocks block id sound stray.is_data (omega (arith, stray.stray, stray.used))
+not_stray stated format file blocks block id sound stray =
+    none_left_over stated format file blocks block id sound stray.is_data (omega (arith, stray.stray, stray.used))
 
-not_double : (format : Format) (file : List ℕ) (blocks block id : ℕ) → Filled nothing_loose format file blocks
+not_double : (stated : ℕ → ℕ) (format : Format) (file : List ℕ) (blocks block id : ℕ)
+    → FilledBy stated nothing_loose format file blocks
     → HasDoubleEntry format file blocks block id → ⊥
-not_double format file blocks block id sound double =
-    none_left_over format file blocks block id sound double.is_data
+not_double stated format file blocks block id sound double =
+    none_left_over stated format file blocks block id sound double.is_data
     (omega (arith, double.twice, ids_distinct file blocks block id))
 
 -- what is wrong with a sound file is no kind of damage
-not_of_kind : (format : Format) (file : List ℕ) (numbers : HeaderNumbers) → IsSound format file (length file) numbers
-    → (kind : DamageKind) (block id : ℕ) → IsDefectOf format file numbers kind block id → ⊥
-not_of_kind format file numbers sound Short block id defect = omega (arith, sound.long defect.more, defect.short)
-not_of_kind format file numbers sound RefOut block id defect =
+not_of_kind : (stated : ℕ → ℕ) (len : ℕ) (format : Format) (file : List ℕ) (numbers : HeaderNumbers)
+    → IsSoundBy stated format file len numbers
+    → (kind : DamageKind) (block id : ℕ) → IsDefectOf stated len format file numbers kind block id → ⊥
+not_of_kind stated len format file numbers sound Short block id defect =
+    omega (arith, sound.long defect.more, defect.short)
+not_of_kind stated len format file numbers sound RefOut block id defect =
     omega (arith, sound.roles.references block defect.tree defect.digit defect.is_digit, defect.out)
-not_of_kind format file numbers sound TwoRoles block id defect =
+not_of_kind stated len format file numbers sound TwoRoles block id defect =
     no_two_roles file numbers.blocks numbers.free block sound.roles defect
-not_of_kind format file numbers sound NoRole block id defect =
+not_of_kind stated len format file numbers sound NoRole block id defect =
     no_role_less file numbers.blocks numbers.free block sound.roles defect
-not_of_kind format file numbers sound EmptyTree block id defect = sound.filled.not_empty block defect.lower defect.empty
-not_of_kind format file numbers sound ChainOut block id defect = elim defect [
+not_of_kind stated len format file numbers sound EmptyTree block id defect =
+    sound.filled.not_empty block defect.lower defect.empty
+not_of_kind stated len format file numbers sound ChainOut block id defect = elim defect [
   | inl free ↦ not_out file numbers.blocks numbers.free block sound.roles.free sound.two sound.roles.is_free free
   | inr first ↦
       not_out file numbers.blocks numbers.first block sound.chained.chain sound.two sound.chained.is_chain first
 ]
-not_of_kind format file numbers sound ChainLoop block id defect = elim defect [
+not_of_kind stated len format file numbers sound ChainLoop block id defect = elim defect [
   | inl free ↦ not_loop file numbers.blocks numbers.free block sound.roles.free sound.roles.is_free free
   | inr first ↦ not_loop file numbers.blocks numbers.first block sound.chained.chain sound.chained.is_chain first
 ]
-not_of_kind format file numbers sound ForeignInChain block id defect =
+not_of_kind stated len format file numbers sound ForeignInChain block id defect =
     not_foreign format file numbers.blocks numbers.first block sound.chained defect
-not_of_kind format file numbers sound MissingInChain block id defect =
+not_of_kind stated len format file numbers sound MissingInChain block id defect =
     not_missing format file numbers.blocks numbers.first block sound.chained defect
-not_of_kind format file numbers sound BadPrev block id defect =
+not_of_kind stated len format file numbers sound BadPrev block id defect =
     not_bad_previous format file numbers.blocks numbers.first block sound.chained defect
-not_of_kind format file numbers sound BadCount block id defect =
+not_of_kind stated len format file numbers sound BadCount block id defect =
     defect.other (sym (sound.filled.stated block defect.is_data))
-not_of_kind format file numbers sound MissingEntry block id defect =
+not_of_kind stated len format file numbers sound MissingEntry block id defect =
     omega (arith, sound.filled.one_entry block id defect.leads, defect.none)
-not_of_kind format file numbers sound StrayEntry block id defect =
-    not_stray format file numbers.blocks block id sound.filled defect
-not_of_kind format file numbers sound DoubleEntry block id defect =
-    not_double format file numbers.blocks block id sound.filled defect
-not_of_kind format file numbers sound PartialRecord block id defect = defect
+not_of_kind stated len format file numbers sound StrayEntry block id defect =
+    not_stray stated format file numbers.blocks block id sound.filled defect
+not_of_kind stated len format file numbers sound DoubleEntry block id defect =
+    not_double stated format file numbers.blocks block id sound.filled defect
+not_of_kind stated len format file numbers sound PartialRecord block id defect = defect
 
-pub no_defect_of_sound : (format : Format) (file : List ℕ) (numbers : HeaderNumbers)
-    → IsSound format file (length file) numbers → (damage : Damage) → ¬ IsTreeDefect format file numbers damage
-no_defect_of_sound format file numbers sound damage defect =
-    not_of_kind format file numbers sound damage.kind damage.block damage.id defect.0
+pub no_defect_of_sound : (order : Order) (format : Format) (file : List ℕ) (numbers : HeaderNumbers)
+    → IsSoundIn order format file numbers → (damage : Damage) → ¬ IsTreeDefectIn order format file numbers damage
+no_defect_of_sound order format file numbers sound damage defect =
+    not_of_kind (stated_in order file) (length file) format (in_order order file) numbers sound damage.kind damage.block
+    damage.id defect.0

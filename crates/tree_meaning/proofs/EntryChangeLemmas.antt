@@ -22,6 +22,7 @@ use Rattle.tree_meaning.specs.EntryPlaces.{ClearsEntry, HasOneMore, KeepsOtherEn
 use Rattle.tree_meaning.specs.TreeFile.{record_in}
 use Rattle.tree_meaning.proofs.EntryLemmas.{any_same, any_there, no_test, unused_none, used_ids-entries, used_one}
 use Rattle.tree_meaning.proofs.EntryPlaceLemmas.{all_bytes, entries_are, ids_are, made_same, unused_are}
+use Rattle.byte_order.specs.declared.order.Order.TheVariants.{Little}
 use Rattle.tree_meaning.proofs.RecordLemmas.{found_or_later, spelled, used_there}
 
 -- the record of an identifier among some entries
@@ -227,7 +228,7 @@ module _ (format : Format) (place : ℕ) (entry : Entry) (old new : List ℕ)
           | inr used ↦ used
         ],
         λ used. no_test test 0 (entries_per_block format) (λ at from to. elim (cases_eq at place) [
-          | inl same ↦ ap test same ∙ (spelled format (entry_bytes format new place) entry puts.is).0
+          | inl same ↦ ap test same ∙ (spelled Little format (entry_bytes format new place) entry puts.is).0
           | inr other ↦
               ap is_unused (puts.others.others at (omega (arith, to)) other) ∙ used at (omega (arith, to)) other
         ]),
@@ -334,7 +335,7 @@ module _ (format : Format) (place : ℕ) (entry : Entry) (old new : List ℕ)
       (entries_per_block format)
       (λ at from to. elim (cases_eq at place) [
         | inl same ↦ ap (λ (n : ℕ). is_unused (entry_bytes format new n)) same
-            ∙ (spelled format (entry_bytes format new place) entry overwrites.is).0 ∙ sym used.0
+            ∙ (spelled Little format (entry_bytes format new place) entry overwrites.is).0 ∙ sym used.0
             ∙ ap (λ (n : ℕ). is_unused (entry_bytes format old n)) (sym same)
         | inr other ↦ ap is_unused (overwrites.others.others at (omega (arith, to)) other)
       ])

@@ -14,7 +14,7 @@ use Rattle.quota_types.specs.Kept.{without_marker}
 use Rattle.quota_types.specs.declared.file_kind.Format.{Format}
 use Rattle.quota_types.specs.declared.record.Entry.{Entry}
 use Rattle.entry_codec.specs.Entry.{entries_per_block, is_unused, stored_id}
-use Rattle.tree_meaning.specs.Entries.{entry_bytes, entry_of, id_in, stored_record, used_entries, used_ids}
+use Rattle.tree_meaning.specs.Entries.{entries_in, entry_bytes, entry_of, id_in, stored_record, used_entries, used_ids}
 use Rattle.quota_types.proofs.TimesLemmas.{times_cases, times-append, range_with_len-add}
 
 -- the numbers of a longer beginning
@@ -114,7 +114,7 @@ unused_none format bytes unused = ap (λ (b : Bool). cond b [] (stored_id bytes 
 -- the identifiers of the used entries of a block are those of the entries themselves
 pub used_ids-entries : (format : Format) (block : List ℕ)
     → used_ids format block ≡ map (λ (entry : Entry). entry.id) (used_entries format block)
-unfolding used_ids used_entries
+unfolding used_ids entries_in
 used_ids-entries format block =
     each (λ place. entry_bytes format block place) (range_with_len 0 (entries_per_block format))
   where

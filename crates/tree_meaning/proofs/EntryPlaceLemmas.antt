@@ -10,7 +10,7 @@ use Rattle.quota_types.specs.Format.{record_size}
 use Rattle.quota_types.specs.declared.file_kind.Format.{Format}
 use Rattle.quota_types.specs.declared.record.Entry.{Entry}
 use Rattle.entry_codec.specs.Entry.{entries_per_block, is_unused}
-use Rattle.tree_meaning.specs.Entries.{entry_bytes, entry_of, has_unused, id_in, used_entries, used_ids}
+use Rattle.tree_meaning.specs.Entries.{entries_in, entry_bytes, entry_of, has_unused, id_in, used_entries, used_ids}
 use Rattle.tree_meaning.specs.EntryPlaces.{HasSameEntries, KeepsOutsideEntry}
 use Rattle.tree_meaning.specs.TreeFile.{record_in}
 use Rattle.file_blocks.proofs.WordLemmas.{same_part}
@@ -51,7 +51,7 @@ any_of_made f test (k ∷ ks) = ap (λ (b : Bool). test (f k) || b) (any_of_made
 
 pub entries_are : (format : Format) (block : List ℕ)
     → used_entries format block ≡ filter_map (entry_of format) (all_bytes format block)
-unfolding used_entries
+unfolding entries_in
 entries_are format block =
     kept_of_made (entry_bytes format block) (entry_of format) (range_with_len 0 (entries_per_block format))
 

@@ -8,6 +8,7 @@ pub mod EntryPlaceLemmas
 pub mod FrameLemmas
 pub mod HeaderLemmas
 pub mod WayWordLemmas
+pub mod InOrderLemmas
 pub mod LinkedLemmas
 pub mod ListedLemmas
 pub mod MeaningLemmas

@@ -10,7 +10,9 @@ use Rattle.entry_codec.specs.Spelling.{AreOf}
 use Rattle.quota_types.specs.declared.file_kind.Format.{Format}
 use Rattle.quota_types.specs.declared.file_kind.Kind.{Kind}
 use Rattle.quota_types.specs.declared.file_kind.Kind.TheVariants.{User, Group, Project}
-use Rattle.tree_meaning.specs.TreeFile.{TreeStandsFor, tree_record}
+use Rattle.byte_order.specs.declared.order.Order.{Order}
+use Rattle.byte_order.specs.Words.{in_order}
+use Rattle.tree_meaning.specs.TreeFile.{TreeStandsFor, TreeStandsForIn, tree_record_in}
 
 -- the kind of a magic number
 kind_of_magic : ℕ → Option Kind
@@ -30,9 +32,9 @@ same_kind kind other same =
     same_Some kind other (sym (kind_of_magic-magic kind) ∙ ap kind_of_magic same ∙ kind_of_magic-magic other)
 
 -- a file stands for one value at most
-pub one_meaning : (file : List ℕ) (value other : QuotaValue) → TreeStandsFor file value
-    → TreeStandsFor file other → value ≡ other
-one_meaning file value other stands stands' =
+pub one_meaning : (order : Order) (file : List ℕ) (value other : QuotaValue) → TreeStandsForIn order file value
+    → TreeStandsForIn order file other → value ≡ other
+one_meaning order file value other stands stands' =
     let kind : value.kind ≡ other.kind = same_kind value.kind other.kind (sym stands.magic ∙ stands'.magic) in
     let found : Some value.format ≡ Some other.format = sym stands.version ∙ stands'.version in
     let format : value.format ≡ other.format = cc in
@@ -41,7 +43,8 @@ one_meaning file value other stands stands' =
     let flags : value.flags ≡ other.flags = stands.flags ∙ sym stands'.flags in
     let records : value.records ≡ other.records =
     same_map nat_cmp_total nat_cmp-IsAntisymmetric value.records other.records
-    (λ id. stands.records id ∙ ap (λ (f : Format). tree_record f file (header_of file).blocks id) format
+    (λ id. stands.records id
+    ∙ ap (λ (f : Format). tree_record_in order f file (header_of (in_order order file)).blocks id) format
     ∙ sym (stands'.records id)) in
     λ i. record {
       kind = kind i;

@@ -14,40 +14,49 @@ use Rattle.quota_types.specs.declared.file_kind.Format.{Format}
 use Rattle.quota_types.proofs.FormatLemmas.{by_tree}
 use Rattle.quota_types.specs.declared.record.Entry.{Entry}
 use Rattle.quota_types.specs.declared.record.Rec.{Rec}
-use Rattle.entry_codec.specs.Entry.{entries_per_block, is_unused, stored_id}
-use Rattle.entry_codec.specs.Spelling.{IsEntry, IsUsedBy}
+use Rattle.entry_codec.specs.Entry.{entries_per_block, is_unused, stored_id, stored_id_in}
+use Rattle.byte_order.specs.declared.order.Order.{Order}
+use Rattle.byte_order.specs.declared.order.Order.TheVariants.{Little}
+use Rattle.entry_codec.specs.Spelling.{IsEntry, IsEntryIn, IsUsedBy}
 use Rattle.entry_codec.proofs.TreeLemmas.{entry_tree}
-use Rattle.tree_meaning.specs.Entries.{entry_bytes, entry_of, stored_record, used_entries}
+use Rattle.tree_meaning.specs.Entries.{entries_in, entry_bytes, entry_in, entry_of, stored_record, stored_record_in}
+use Rattle.tree_meaning.specs.Entries.{used_entries}
 use Rattle.tree_meaning.specs.EntryRecords.{record_by, used_by}
 use Rattle.tree_meaning.specs.TreeFile.{record_in}
 use Rattle.file_blocks.proofs.WordLemmas.{number_in_part}
 
 -- the bytes of an entry are used by its identifier, with the record that they store
-entry_used : (format : Format) (bytes : List ℕ) (id : ℕ) (rec : Rec) → IsEntry format bytes id rec
-    → IsUsedBy bytes (stored_record format bytes) id rec
-entry_used format bytes id rec entry =
-    by_tree (λ (format : Format). IsEntry format bytes id rec → IsUsedBy bytes (stored_record format bytes) id rec)
-    (λ e. e) (λ e. e) format (entry_tree format bytes id rec entry) entry
+entry_used : (order : Order) (format : Format) (bytes : List ℕ) (id : ℕ) (rec : Rec)
+    → IsEntryIn order format bytes id rec
+    → IsUsedBy bytes (stored_id_in order bytes) (stored_record_in order format bytes) id rec
+entry_used order format bytes id rec entry =
+    by_tree (λ (format : Format). IsEntryIn order format bytes id rec
+    → IsUsedBy bytes (stored_id_in order bytes) (stored_record_in order format bytes) id rec)
+    (λ e. e) (λ e. e) format (entry_tree order format bytes id rec entry) entry
 
-pub used_is : (format : Format) (bytes : List ℕ) (id : ℕ) (rec : Rec) → IsEntry format bytes id rec
-    → (is_unused bytes ≡ false) × (entry_of format bytes ≡ Some (record { id = id; rec = rec }))
-used_is format bytes id rec entry =
-    let e : IsUsedBy bytes (stored_record format bytes) id rec = entry_used format bytes id rec entry in
+pub used_is : (order : Order) (format : Format) (bytes : List ℕ) (id : ℕ) (rec : Rec)
+    → IsEntryIn order format bytes id rec
+    → (is_unused bytes ≡ false) × (entry_in order format bytes ≡ Some (record { id = id; rec = rec }))
+used_is order format bytes id rec entry =
+    let stored_id : ℕ = stored_id_in order bytes in
+    let stored : Rec = stored_record_in order format bytes in
+    let e : IsUsedBy bytes stored_id stored id rec = entry_used order format bytes id rec entry in
     let found : ℕ → Rec → Option Entry = λ i r. Some (record { id = i; rec = r }) in (
       e.used,
-      ap (λ (b : Bool).
-          cond b None (found (stored_id bytes) (without_marker (stored_id bytes) (stored_record format bytes)))) e.used
-          ∙ ap (λ (i : ℕ). found i (without_marker (stored_id bytes) (stored_record format bytes))) (sym e.id_is)
-          ∙ ap (found id) (sym e.rec_is),
+      ap (λ (b : Bool). cond b None (found stored_id (without_marker stored_id stored))) e.used
+          ∙ ap (λ (i : ℕ). found i (without_marker stored_id stored)) (sym e.id_is) ∙ ap (found id) (sym e.rec_is),
     )
 
 -- the bytes of an entry are used, and spell its identifier and its record
-pub spelled : (format : Format) (bytes : List ℕ) (entry : Entry) → entry_of format bytes ≡ Some entry
-    → (is_unused bytes ≡ false) × (entry.id ≡ stored_id bytes)
-    × (entry.rec ≡ without_marker (stored_id bytes) (stored_record format bytes))
-spelled format bytes entry is =
-    let made : Entry =
-    record { id = stored_id bytes; rec = without_marker (stored_id bytes) (stored_record format bytes) } in
+pub spelled : (order : Order) (format : Format) (bytes : List ℕ) (entry : Entry)
+    → entry_in order format bytes ≡ Some entry
+    → (is_unused bytes ≡ false) × (entry.id ≡ stored_id_in order bytes)
+    × (entry.rec ≡ without_marker (stored_id_in order bytes) (stored_record_in order format bytes))
+spelled order format bytes entry is =
+    let made : Entry = record {
+      id = stored_id_in order bytes;
+      rec = without_marker (stored_id_in order bytes) (stored_record_in order format bytes);
+    } in
     elim (cases_Bool (is_unused bytes)) [
       | inl unused ↦
           absurd (let none : None ≡ Some entry = sym (ap (λ (b : Bool). cond b None (Some made)) unused) ∙ is in cc)
@@ -57,12 +66,13 @@ spelled format bytes entry is =
           (used, sym (ap (λ (e : Entry). e.id) one), sym (ap (λ (e : Entry). e.rec) one))
     ]
 
-pub is_spelled : (format : Format) (bytes : List ℕ) (entry : Entry) → IsTreeFormat format
-    → entry_of format bytes ≡ Some entry → IsEntry format bytes entry.id entry.rec
-is_spelled format bytes entry tree is =
-    let parts = spelled format bytes entry is in
+pub is_spelled : (order : Order) (format : Format) (bytes : List ℕ) (entry : Entry) → IsTreeFormat format
+    → entry_in order format bytes ≡ Some entry → IsEntryIn order format bytes entry.id entry.rec
+is_spelled order format bytes entry tree is =
+    let parts = spelled order format bytes entry is in
     by_tree (λ (format : Format).
-    IsUsedBy bytes (stored_record format bytes) entry.id entry.rec → IsEntry format bytes entry.id entry.rec)
+    IsUsedBy bytes (stored_id_in order bytes) (stored_record_in order format bytes) entry.id entry.rec
+    → IsEntryIn order format bytes entry.id entry.rec)
     (λ e. e) (λ e. e) format tree (record { used = parts.0; id_is = parts.1; rec_is = parts.2 })
 
 some_size : (format : Format) → IsTreeFormat format → 4 ≤ record_size format
@@ -99,12 +109,13 @@ pub same_entry : (format : Format) (block bytes : List ℕ) (id other place : �
     → bytes ≡ entry_bytes format block place → IsEntry format bytes other rec → other ≡ id
     → Some rec ≡ record_by format block id place
 same_entry format block bytes id other place rec is entry same =
-    sym (ap (given_by format id) (sym is) ∙ ap (option_and_then (used_by id)) (used_is format bytes other rec entry).1
+    sym (ap (given_by format id) (sym is)
+    ∙ ap (option_and_then (used_by id)) (used_is Little format bytes other rec entry).1
     ∙ ap (λ (b : Bool). cond b (Some rec) None) (eq-eqb other id same))
 
 entry_id : (format : Format) (bytes : List ℕ) (other : ℕ) (rec : Rec) → IsEntry format bytes other rec
     → other ≡ stored_id bytes
-entry_id format bytes other rec entry = (entry_used format bytes other rec entry).id_is
+entry_id format bytes other rec entry = (entry_used Little format bytes other rec entry).id_is
 
 -- the identifier that an entry stores is the one that uses it
 pub stored_entry : (format : Format) (block bytes : List ℕ) (id other place size stored : ℕ) (rec : Rec)
@@ -152,7 +163,7 @@ record_among format block id place count =
 
 pub record_from-first : (format : Format) (block : List ℕ) (id : ℕ)
     → record_in format block id ≡ record_from format block id 0
-unfolding used_entries
+unfolding entries_in
 record_from-first format block id =
     let all : entries_per_block format ≡ entries_per_block format - 0 = omega arith in
     ap (record_among format block id 0) all

@@ -15,22 +15,23 @@ use Rattle.entry_codec.specs.Header.{HeaderNumbers}
 use Rattle.file_blocks.specs.Block.{block_of, previous_of, word_at, leads}
 use Rattle.free_chains.specs.Chain.{IsChain}
 use Rattle.quota_types.specs.Times.{StandsIn, times}
-use Rattle.tree_meaning.specs.Defect.{IsDefectOf, IsTreeDefect}
+use Rattle.tree_meaning.specs.Defect.{IsDefectOf}
 use Rattle.free_chains.specs.ChainDefect.{IsLoop, IsOut}
 use Rattle.quota_types.specs.Damage.{NamesItsId}
-use Rattle.tree_meaning.specs.Entries.{stated_count, used_ids}
+use Rattle.tree_meaning.specs.Entries.{used_ids}
 use Rattle.tree_meaning.specs.Loose.{nothing_loose}
-use Rattle.tree_meaning.specs.Roles.{Chained, Filled, OneRole, has_room, roles}
+use Rattle.tree_meaning.specs.Roles.{Chained, FilledBy, OneRole, has_room, roles}
 use Rattle.quota_radix.specs.Tree.{data_blocks, ids_at, leaves, level, lower_blocks, tree_blocks}
-use Rattle.tree_meaning.specs.TreeFile.{IsSound}
+use Rattle.tree_meaning.specs.TreeFile.{IsSoundBy}
 use Rattle.file_blocks.proofs.LeadsLemmas.{leads_within}
 use Rattle.free_chains.proofs.ChainLemmas.{some_chain}
 use Rattle.quota_types.proofs.TimesLemmas.{length_same_times, stands_cons, stands_either}
 use Rattle.quota_radix.proofs.PathLemmas.{data_block_of_id, data_blocks_within, ids_distinct, level_leads}
 
 -- no damage is one of the file
-abbrev pub HasNoDefect : Format → List ℕ → HeaderNumbers → Type 0
-HasNoDefect format file numbers = (damage : Damage) → ¬ IsTreeDefect format file numbers damage
+abbrev pub HasNoDefect : (stated : ℕ → ℕ) → (len : ℕ) → Format → List ℕ → HeaderNumbers → Type 0
+HasNoDefect stated len format file numbers = (kind : DamageKind) (block id : ℕ) → NamesItsId kind id
+    → IsDefectOf stated len format file numbers kind block id → ⊥
 
 -- a list that leads neither out nor back to itself ends at 0
 ends_well : (file : List ℕ) (blocks head : ℕ) (chain : List ℕ) (end : ℕ) → IsChain file blocks head chain end
@@ -74,16 +75,10 @@ role_within file blocks head block free two is_free stands =
       ]
     ]
 
--- what each kind of damage would say
-none_of : (format : Format) (file : List ℕ) (numbers : HeaderNumbers) → HasNoDefect format file numbers
-    → (kind : DamageKind) (block id : ℕ) → NamesItsId kind id → IsDefectOf format file numbers kind block id → ⊥
-none_of format file numbers no_defect kind block id names defect =
-    no_defect (record { kind = kind; block = block; id = id }) (defect, names)
-
-one_role : (format : Format) (file : List ℕ) (numbers : HeaderNumbers) → 2 ≤ numbers.blocks
-    → HasNoDefect format file numbers → OneRole nothing_loose file numbers.blocks numbers.free
-one_role format file numbers two no_defect =
-    let none = none_of format file numbers no_defect in
+one_role : (stated : ℕ → ℕ) (len : ℕ) (format : Format) (file : List ℕ) (numbers : HeaderNumbers)
+    → 2 ≤ numbers.blocks → HasNoDefect stated len format file numbers
+    → OneRole nothing_loose file numbers.blocks numbers.free
+one_role stated len format file numbers two none =
     let found = some_chain file numbers.blocks numbers.free in
     let free : List ℕ = found.0 in
     let is_free : IsChain file numbers.blocks numbers.free free 0 =
@@ -140,10 +135,10 @@ all_previous previous from before (x ∷ behind) each is =
     (ap (λ (o : Option ℕ). unwrap_or o 0) (last_or-append (Some 0) before x)) in
     ap (λ (y : ℕ). y ∷ map previous behind) first ∙ ap (λ (xs : List ℕ). from ∷ xs) rest
 
-chained : (format : Format) (file : List ℕ) (numbers : HeaderNumbers) → HasNoDefect format file numbers
+chained : (stated : ℕ → ℕ) (len : ℕ) (format : Format) (file : List ℕ) (numbers : HeaderNumbers)
+    → HasNoDefect stated len format file numbers
     → Chained nothing_loose format file numbers.blocks numbers.first
-chained format file numbers no_defect =
-    let none = none_of format file numbers no_defect in
+chained stated len format file numbers none =
     let found = some_chain file numbers.blocks numbers.first in
     let chain : List ℕ = found.0 in
     let is_chain : IsChain file numbers.blocks numbers.first chain 0 =
@@ -190,10 +185,10 @@ chained format file numbers no_defect =
           refl;
     }
 
-filled : (format : Format) (file : List ℕ) (numbers : HeaderNumbers) → HasNoDefect format file numbers
-    → Filled nothing_loose format file numbers.blocks
-filled format file numbers no_defect =
-    let none = none_of format file numbers no_defect in
+filled : (stated : ℕ → ℕ) (len : ℕ) (format : Format) (file : List ℕ) (numbers : HeaderNumbers)
+    → HasNoDefect stated len format file numbers
+    → FilledBy stated nothing_loose format file numbers.blocks
+filled stated len format file numbers none =
     let ids : ℕ → List ℕ = λ block. ids_at (leaves file numbers.blocks) block in
     let used : ℕ → List ℕ = λ block. used_ids format (block_of file block) in
     let once : (block id : ℕ) → StandsIn (ids block) id → times (used block) id ≡ 1 =
@@ -210,7 +205,7 @@ filled format file numbers no_defect =
     record {
       not_empty = λ block lower empty. none EmptyTree block 0 refl (record { lower = lower; empty = empty });
       one_entry = once;
-      stated = λ block is_data. elim (cases_eq (stated_count file block) (length (used block))) [
+      stated = λ block is_data. elim (cases_eq (stated block) (length (used block))) [
         | inl same ↦ sym same
         | inr other ↦ absurd (none BadCount block 0 refl (record { is_data = is_data; other = other }))
       ];
@@ -229,19 +224,15 @@ filled format file numbers no_defect =
           ]);
     }
 
-pub sound_of_no_defect : (format : Format) (file : List ℕ) (numbers : HeaderNumbers) → 2 ≤ numbers.blocks
-    → HasNoDefect format file numbers → IsSound format file (length file) numbers
-sound_of_no_defect format file numbers two no_defect = record {
+pub sound_of_no_defect : (stated : ℕ → ℕ) (len : ℕ) (format : Format) (file : List ℕ) (numbers : HeaderNumbers)
+    → 2 ≤ numbers.blocks → HasNoDefect stated len format file numbers → IsSoundBy stated format file len numbers
+sound_of_no_defect stated len format file numbers two none = record {
   two = two;
-  long = λ more. elim (cases_lt (length file) (1024 * numbers.blocks)) [
-    | inl short ↦ absurd (none_of format file numbers no_defect Short (length file / 1024) 0 refl (record {
-      more = more;
-      short = short;
-      cut = refl;
-    }))
+  long = λ more. elim (cases_lt len (1024 * numbers.blocks)) [
+    | inl short ↦ absurd (none Short (len / 1024) 0 refl (record { more = more; short = short; cut = refl }))
     | inr long ↦ long
   ];
-  roles = one_role format file numbers two no_defect;
-  chained = chained format file numbers no_defect;
-  filled = filled format file numbers no_defect;
+  roles = one_role stated len format file numbers two none;
+  chained = chained stated len format file numbers none;
+  filled = filled stated len format file numbers none;
 }

@@ -7,7 +7,9 @@ use Rattle.quota_types.specs.declared.damage.DamageKind.TheVariants.{BadCount, M
 use Rattle.quota_types.specs.declared.file_kind.Format.{Format}
 use Rattle.file_blocks.specs.Block.{block_of}
 use Rattle.quota_types.specs.Times.{StandsIn, StandsTwiceIn, times}
-use Rattle.tree_meaning.specs.Entries.{has_unused, stated_count, used_ids}
+use Rattle.byte_order.specs.declared.order.Order.{Order}
+use Rattle.byte_order.specs.Words.{in_order}
+use Rattle.tree_meaning.specs.Entries.{has_unused, stated_in, used_ids}
 
 -- a used entry of each identifier that leads to the block, one of no other, and as many as the block states
 pub record AreEntriesOf (stated : ℕ) (used ids : List ℕ) : Type 0 where
@@ -41,12 +43,16 @@ is_room format file groups block =
 abbrev pub rooms : Format → List ℕ → List (List ℕ) → ℕ → List ℕ
 rooms format file groups blocks = filter (is_room format file groups) (range_with_len 0 blocks)
 
--- a block to which some identifiers lead has a used entry of each of them and of no other, and states their number
-abbrev pub HasEntriesOf : Format → List ℕ → ℕ → List ℕ → Type 0
-HasEntriesOf format file block ids =
-    1 ≤ length ids → AreEntriesOf (stated_count file block) (used_ids format (block_of file block)) ids
+-- in a file that is read in an order, a block to which some identifiers lead has a used entry of each of them and of no
+-- other, and states their number
+abbrev pub HasEntriesOf : Order → Format → List ℕ → ℕ → List ℕ → Type 0
+HasEntriesOf order format file block ids =
+    1 ≤ length ids
+    → AreEntriesOf (stated_in order file block) (used_ids format (block_of (in_order order file) block)) ids
 
 -- a damage of a block to which some identifiers lead
-pub record IsDataDefect (format : Format) (file ids : List ℕ) (block : ℕ) (damage : Damage) : Type 0 where
+pub record IsDataDefect (order : Order) (format : Format) (file ids : List ℕ) (block : ℕ)
+    (damage : Damage) : Type 0 where
   pub led : 1 ≤ length ids
-  pub defect : IsEntryDefectAt block (stated_count file block) (used_ids format (block_of file block)) ids damage
+  pub defect : IsEntryDefectAt block (stated_in order file block)
+      (used_ids format (block_of (in_order order file) block)) ids damage

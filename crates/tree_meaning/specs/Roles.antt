@@ -13,7 +13,8 @@ use Rattle.tree_meaning.specs.Loose.{Loose, but_misplaced, leaves_with}
 use Rattle.quota_radix.specs.Tree.{blocks_of, ids_at, leaves, lower_blocks, tree_blocks}
 use Rattle.quota_radix.specs.TreeDefect.{IsEmpty}
 
--- These definitions take what is loose of the file, while it is being changed. Of a file as a whole nothing is.
+-- These definitions take what is loose of the file, while it is being changed. Of a file as a whole nothing is. The
+-- file is that of its words in the order in which it is read, which don't tell how many entries a block states.
 
 -- the leaves that count: those of the tree, and the awaited one
 abbrev pub counted_leaves : Loose → List ℕ → ℕ → List TreePath
@@ -56,11 +57,15 @@ pub record Chained (loose : Loose) (format : Format) (file : List ℕ) (blocks f
 
 -- No tree block below the root is empty; each data block has one used entry of each identifier that leads to it, and
 -- its used entries are as many as it states, and as many as the leaves that name it.
-pub record Filled (loose : Loose) (format : Format) (file : List ℕ) (blocks : ℕ) : Type 0 where
+pub record FilledBy (states : ℕ → ℕ) (loose : Loose) (format : Format) (file : List ℕ) (blocks : ℕ) : Type 0 where
   pub not_empty : (block : ℕ) → StandsIn (lower_blocks file blocks) block → ¬ IsEmpty file block
   pub one_entry : (block id : ℕ) → StandsIn (ids_at (counted_leaves loose file blocks) block) id
       → times (used_ids format (block_of file block)) id ≡ 1
   pub stated : (block : ℕ) → StandsIn (data_with loose file blocks) block
-      → length (used_ids format (block_of file block)) ≡ stated_count file block
+      → length (used_ids format (block_of file block)) ≡ states block
   pub counted : (block : ℕ) → StandsIn (data_with loose file blocks) block
       → length (used_ids format (block_of file block)) ≡ length (ids_at (counted_leaves loose file blocks) block)
+
+-- the same of a little-endian file
+abbrev pub Filled : Loose → Format → List ℕ → ℕ → Type 0
+Filled loose format file blocks = FilledBy (stated_count file) loose format file blocks

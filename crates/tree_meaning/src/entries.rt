@@ -4,7 +4,6 @@ ghost use Rattle.std.specs.Option.{option_map};
 ghost use Rattle.std.specs.Bool.{OnFalse, OnTrue};
 ghost use Rattle.arrayvec.specs.ArrayVec.{array_vec_len};
 ghost use Rattle.entry_codec.specs.Entry.{entries_per_block, is_unused};
-ghost use Rattle.quota_types.specs.Bytes.{number_at};
 ghost use Rattle.quota_types.specs.Format.{IsTreeFormat, record_size};
 ghost use Rattle.quota_types.specs.Kept.{IsKept};
 ghost use Rattle.tree_meaning.specs.Compared.{AreEntriesOf, IsEntryDefectAt};
@@ -15,8 +14,9 @@ ghost use Rattle.tree_meaning.specs.EntryRecords.{IsRecordIn, record_by};
 ghost use Rattle.tree_meaning.specs.TreeFile.{record_in};
 
 use arrayvec::ArrayVec;
+use byte_order::Order;
 use entry_codec::{entries_per_block, read_entry, read_id};
-use file_blocks::{le16, le32};
+use file_blocks::le32;
 use quota_types::{Damage, DamageKind, Format, Rec, damage_at};
 
 /// What the entries of a data block are used for.
@@ -94,7 +94,7 @@ fn record_by(format: Format, block: &[u8; 1024], place: usize, id: u32) -> Optio
     if le32(block, 16 + format.record_size() * place) != id {
         return None;
     }
-    let (_, rec) = read_entry(format, bytes)?;
+    let (_, rec) = read_entry(format, bytes, Order::Little)?;
     Some(rec)
 }
 
@@ -236,24 +236,25 @@ fn is_full_of(format: Format, block: &[u8; 1024], ids: &[u32]) -> bool
     true
 }
 
-/// Compares the entries of a data block with the identifiers that lead to it, and answers whether one is unused.
+/// Compares the entries of a data block with the identifiers that lead to it, and answers whether one is unused. The
+/// block is that of its words in the order in which the file is read, in which it states this number of entries.
 ///
 /// In a file that was built at once each data block but the last is full, and ascends by identifier. For such a block
 /// no list of its entries is made.
 pub fn compare_entries(
     format: Format,
     number: u32,
+    stated: u16,
     block: &[u8; 1024],
     ids: &[u32],
 ) -> Result<bool, Damage>
     requires tree { IsTreeFormat format }
-    ensures entries { OnOk result (AreEntriesOf (number_at 2 block.now 8) (used_ids format block.now) ids.now) }
+    ensures entries { OnOk result (AreEntriesOf stated (used_ids format block.now) ids.now) }
     ensures room { IfOk result (λ has_room. has_room ≡ has_unused format block.now) }
-    ensures refused { IfErr result (IsEntryDefectAt number (number_at 2 block.now 8)
-        (used_ids format block.now) ids.now) }
+    ensures refused { IfErr result (IsEntryDefectAt number stated (used_ids format block.now) ids.now) }
     ensures names_id { IfErr result (λ damage. NamesItsId damage.kind damage.id) }
 {
-    let stated = usize::from(le16(block, 8));
+    let stated = usize::from(stated);
     if stated == ids.len() && ascends(ids) && is_full_of(format, block, ids) {
         return Ok(false);
     }

@@ -3,6 +3,7 @@ use Rattle.std.specs.Prelude.{MatchBool}
 use Rattle.quota_types.specs.Format.{is_flat}
 use Rattle.quota_types.specs.declared.file_kind.Format.{Format}
 use Rattle.quota_value.specs.QuotaValue.{QuotaValue}
+use Rattle.byte_order.specs.declared.order.Order.TheVariants.{Little}
 use Rattle.tree_meaning.specs.TreeFile.{TreeStandsFor}
 use Rattle.quota_v1.specs.FlatFile.{FlatStandsFor}
 use Rattle.quota_map.specs.StandsFor.{StandsForAs}
@@ -21,5 +22,5 @@ pub returns : goal.returns
 returns c file value other stands stands' kind format =
     one_meaning (is_flat value.format) file value.format value other
     (λ s s'. c.a_file_has_one_meaning_of_a_kind.ensures value.format file value other s s' kind)
-    (λ s s'. c.a_file_has_one_meaning.ensures file value other s s')
+    (λ s s'. c.a_file_has_one_meaning.ensures Little file value other s s')
     stands (subst (λ (f : Format). StandsForAs f file other) (sym format) stands')

@@ -3,7 +3,7 @@ use Rattle.std.specs.Prelude.{All}
 use Rattle.std.specs.List.{flat_map}
 use Rattle.outside.specs.Frame.{OnlyReads}
 use Rattle.quota_radix.specs.declared.tree_path.TreePath.{TreePath}
-use Rattle.file_blocks.specs.Block.{bytes_of}
+use Rattle.byte_order.specs.Words.{words_of}
 use Rattle.quota_radix.specs.Levels.{AreWithin, IsWhole}
 use Rattle.quota_radix.specs.Tree.{steps}
 use Rattle.quota_radix.proofs.levels.next_level.Given as goal
@@ -14,9 +14,9 @@ invariant-loop-path g l =
     record {
       next : IsTrue S.tells
           → l.next.items
-          ≡ flat_map (steps (bytes_of ((S.seen l.fn.store).files l.name)) l.blocks) (take l.path-index l.level);
+          ≡ flat_map (steps (words_of l.order (S.seen l.fn.store).files l.name) l.blocks) (take l.path-index l.level);
       whole : IsTrue S.tells
-          → All (λ (path : TreePath). IsWhole (bytes_of ((S.seen l.fn.store).files l.name)) l.blocks path.block)
+          → All (λ (path : TreePath). IsWhole (words_of l.order (S.seen l.fn.store).files l.name) l.blocks path.block)
           (take l.path-index l.level);
       within : (bound : ℕ) → AreWithin l.blocks bound l.level → AreWithin l.blocks (256 * bound) l.next.items;
       leaves : OnlyReads true l.name (S.seen l.fn.store) (S.seen l.store);

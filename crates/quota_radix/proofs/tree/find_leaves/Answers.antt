@@ -1,7 +1,7 @@
 use Rattle.std.proofs.Common.{IfOk, IsTrue, ◌^◌, ◌∙◌, ℕ, List, [], ◌∷◌, refl, arith}
 use Rattle.std.proofs.lemmas.Result.{err_from_is_err_and}
 use Rattle.file_blocks.specs.BlockSet.{AreFlagsOf}
-use Rattle.file_blocks.specs.Block.{bytes_of}
+use Rattle.byte_order.specs.Words.{words_of}
 use Rattle.quota_radix.specs.Reads.{AreMarkedReads}
 use Rattle.quota_radix.proofs.DownLemmas.{IsDown, down_none, down_on, down_end, down_end_marked, down_end_whole}
 use Rattle.quota_radix.proofs.DownLemmas.{down_refused, down_refused_at, file_same, within_end, within_higher}
@@ -27,14 +27,14 @@ go_down-requires-2 g c = record {
 pub returns-in_err-third-clause-refused : goal.returns-in_err-third-clause-refused
 returns-in_err-third-clause-refused g c =
     let p = err_from_is_err_and c.from_residual-in_err-third.result c.from_residual-in_err-third.ensures.1 in
-    let file : List ℕ = bytes_of ((g.S.Store.seen c.args.store.now).files c.args.name.now) in
+    let file : List ℕ = words_of c.args.order (g.S.Store.seen c.args.store.now).files c.args.name.now in
     let flags = c.args.met.now.flags.items in
     let second = c.in_ok-second.ensures in
     let down = down_on file file c.args.blocks 0 _ flags flags c.go_down.new.met.flags.items _ _ c.deref.result.now refl
     (λ told. down_none file c.args.blocks flags) second.next c.deref.ensures.value second.marked second.whole in
     rw (p.1, p.2) (down_refused (g.S.Store.seen c.args.store.now).faults (g.S.Store.seen c.go_down.new.store).faults _
     c.args.blocks 1 _ file _ flags _ _
-    second.leaves.later (file_same c.args.name.now _ _ second.leaves.files) (omega arith) down _
+    second.leaves.later (file_same c.args.order c.args.name.now _ _ second.leaves.files) (omega arith) down _
     c.in_err-third.ensures.refused)
 
 pub go_down-requires-3 : goal.go_down-requires-3
@@ -48,7 +48,7 @@ go_down-requires-3 g c = record {
 pub returns-in_err-fourth-clause-refused : goal.returns-in_err-fourth-clause-refused
 returns-in_err-fourth-clause-refused g c =
     let p = err_from_is_err_and c.from_residual-in_err-fourth.result c.from_residual-in_err-fourth.ensures.1 in
-    let file : List ℕ = bytes_of ((g.S.Store.seen c.args.store.now).files c.args.name.now) in
+    let file : List ℕ = words_of c.args.order (g.S.Store.seen c.args.store.now).files c.args.name.now in
     let flags = c.args.met.now.flags.items in
     let second = c.in_ok-second.ensures in
     let down = down_on file file c.args.blocks 0 _ flags flags c.go_down.new.met.flags.items _ _ c.deref.result.now refl
@@ -56,12 +56,12 @@ returns-in_err-fourth-clause-refused g c =
     let third = c.in_ok-third.ensures in
     let down_2 =
     down_on file _ c.args.blocks 1 _ flags _ c.go_down-2.new.met.flags.items c.deref.result.now _ c.deref-2.result.now
-    (file_same c.args.name.now _ _ second.leaves.files) down third.next c.deref-2.ensures.value
+    (file_same c.args.order c.args.name.now _ _ second.leaves.files) down third.next c.deref-2.ensures.value
     third.marked third.whole in
     rw (p.1, p.2) (down_refused (g.S.Store.seen c.args.store.now).faults (g.S.Store.seen c.go_down-2.new.store).faults _
     c.args.blocks 2 _ file _ flags _ _
     (omega (arith, second.leaves.later, third.leaves.later))
-    (file_same c.args.name.now _ _ (third.leaves.files ∙ second.leaves.files))
+    (file_same c.args.order c.args.name.now _ _ (third.leaves.files ∙ second.leaves.files))
     (omega arith) down_2 _ c.in_err-fourth.ensures.refused)
 
 pub go_down-requires-4 : goal.go_down-requires-4
@@ -76,10 +76,10 @@ go_down-requires-4 g c = record {
 
 -- what the blocks of the fourth level are, once they were found
 down_to_fourth : (g : Over) (c : goal.After-drop-second-2 g) → IsTrue g.S.Store.tells
-    → IsDown (bytes_of ((g.S.Store.seen c.args.store.now).files c.args.name.now)) c.args.blocks 3
+    → IsDown (words_of c.args.order (g.S.Store.seen c.args.store.now).files c.args.name.now) c.args.blocks 3
     c.args.met.now.flags.items c.go_down-3.new.met.flags.items c.deref-3.result.now
 down_to_fourth g c =
-    let file : List ℕ = bytes_of ((g.S.Store.seen c.args.store.now).files c.args.name.now) in
+    let file : List ℕ = words_of c.args.order (g.S.Store.seen c.args.store.now).files c.args.name.now in
     let flags = c.args.met.now.flags.items in
     let second = c.in_ok-second.ensures in
     let down = down_on file file c.args.blocks 0 _ flags flags c.go_down.new.met.flags.items _ _ c.deref.result.now refl
@@ -87,16 +87,16 @@ down_to_fourth g c =
     let third = c.in_ok-third.ensures in
     let down_2 =
     down_on file _ c.args.blocks 1 _ flags _ c.go_down-2.new.met.flags.items c.deref.result.now _ c.deref-2.result.now
-    (file_same c.args.name.now _ _ second.leaves.files) down third.next c.deref-2.ensures.value
+    (file_same c.args.order c.args.name.now _ _ second.leaves.files) down third.next c.deref-2.ensures.value
     third.marked third.whole in
     let fourth = c.in_ok-fourth.ensures in
     down_on file _ c.args.blocks 2 _ flags _ c.go_down-3.new.met.flags.items c.deref-2.result.now _ c.deref-3.result.now
-    (file_same c.args.name.now _ _ (third.leaves.files ∙ second.leaves.files)) down_2 fourth.next
+    (file_same c.args.order c.args.name.now _ _ (third.leaves.files ∙ second.leaves.files)) down_2 fourth.next
     c.deref-3.ensures.value fourth.marked fourth.whole
 
 -- and what the leaves are
 down_to_leaves : (g : Over) (c : goal.After-drop-second-2 g) → IfOk c.go_down-4.result (λ found. IsTrue g.S.Store.tells
-    → IsDown (bytes_of ((g.S.Store.seen c.args.store.now).files c.args.name.now)) c.args.blocks 4
+    → IsDown (words_of c.args.order (g.S.Store.seen c.args.store.now).files c.args.name.now) c.args.blocks 4
     c.args.met.now.flags.items c.go_down-4.new.met.flags.items found.items)
 down_to_leaves g c =
     let second = c.in_ok-second.ensures in
@@ -104,7 +104,7 @@ down_to_leaves g c =
     let fourth = c.in_ok-fourth.ensures in
     down_end (λ found. found.items) _ _ c.args.blocks 3 _ c.args.met.now.flags.items c.go_down-3.new.met.flags.items
     c.go_down-4.new.met.flags.items c.deref-3.result.now
-    (file_same c.args.name.now _ _ (fourth.leaves.files ∙ third.leaves.files ∙ second.leaves.files))
+    (file_same c.args.order c.args.name.now _ _ (fourth.leaves.files ∙ third.leaves.files ∙ second.leaves.files))
     (down_to_fourth g c) c.go_down-4.result
     c.go_down-4.ensures.next c.go_down-4.ensures.marked c.go_down-4.ensures.whole
 
@@ -116,7 +116,8 @@ returns-clause-refused g c =
     down_refused_at (g.S.Store.seen c.args.store.now).faults (g.S.Store.seen c.go_down-3.new.store).faults _
     c.args.blocks 3 _ _ _ c.args.met.now.flags.items _ _
     (omega (arith, second.leaves.later, third.leaves.later, fourth.leaves.later))
-    (file_same c.args.name.now _ _ (fourth.leaves.files ∙ third.leaves.files ∙ second.leaves.files)) (omega arith)
+    (file_same c.args.order c.args.name.now _ _ (fourth.leaves.files ∙ third.leaves.files ∙ second.leaves.files))
+    (omega arith)
     (down_to_fourth g c)
     c.go_down-4.result c.go_down-4.ensures.refused
 

@@ -1,6 +1,7 @@
 use Rattle.std.proofs.Common.{get_or, arith}
 use Rattle.tree_meaning.specs.Entries.{entry_bytes}
 use Rattle.tree_build.proofs.DataBlockLemmas.{filled_all, filled_more, filled_none, no_entry}
+use Rattle.byte_order.specs.declared.order.Order.TheVariants.{Little}
 use Rattle.tree_meaning.proofs.RecordLemmas.{is_spelled}
 use Rattle.tree_build.proofs.new_data.data_block.Goals as goal
 
@@ -13,7 +14,7 @@ pub loop-place-preserved : goal.loop-place-preserved
 loop-place-preserved c =
     filled_more c.args.format c.loop-place.block c.put_entry.new.block c.args.entries.now c.loop-place.place
     (omega arith) c.loop-place-test.true
-    (is_spelled c.args.format (entry_bytes c.args.format c.put_entry.new.block c.loop-place.place)
+    (is_spelled Little c.args.format (entry_bytes c.args.format c.put_entry.new.block c.loop-place.place)
     (get_or c.args.entries.now c.loop-place.place no_entry) c.requires.tree c.put_entry.ensures.entry)
     c.put_entry.ensures.padding c.put_entry.ensures.others c.loop-place.invariant
 

@@ -2,6 +2,7 @@ use Rattle.std.proofs.Common.{◌≡◌, ℕ, ◌+◌, ◌<◌, cond, nat_le, Li
 use Rattle.std.proofs.lemmas.Result.{err_from_is_err_and}
 use Rattle.outside.proofs.FrameLemmas.{only_reads-then}
 use Rattle.file_blocks.specs.BlockSet.{AreFlagsOf}
+use Rattle.byte_order.specs.Words.{in_order, words_of}
 use Rattle.file_blocks.specs.Block.{bytes_of}
 use Rattle.tree_meaning.specs.Compared.{leading_ids, rooms}
 use Rattle.tree_check.specs.Groups.{groups_of}
@@ -35,9 +36,12 @@ loop-block-preserved g c =
     ap (λ (files : List ℕ → Option (List ℕ)). bytes_of (files c.args.name.now)) kept.leaves.files in
     record {
       left = c.part.ensures.behind _ kept.left;
-      entries = λ told. entries_more c.args.format _ _ groups block c.as_slice.result.now same group (kept.entries told)
+      entries =
+          λ told.
+          entries_more c.args.order c.args.format _ _ groups block c.as_slice.result.now same group (kept.entries told)
           (found.entries told);
-      room = λ told. room_more c.args.format _ _ groups block c.args.blocks c.as_slice.result.now _ _ same group inside
+      room = λ told. room_more c.args.format _ _ groups block c.args.blocks c.as_slice.result.now _ _
+          (ap (in_order c.args.order) same) group inside
           (kept.room told) (found.room told);
       leaves = only_reads-then _ _ _ _ kept.leaves found.leaves;
       reads = omega (
@@ -54,7 +58,7 @@ pub returns-clause-room : goal.returns-clause-room
 returns-clause-room g c = λ told.
     let all : c.loop-block.block ≡ c.args.blocks = omega arith in
     subst (λ (n : ℕ). AreFlagsOf c.args.blocks c.loop-block.room.flags.items
-    (rooms c.args.format (bytes_of ((g.S.Store.seen c.args.store.now).files c.args.name.now))
+    (rooms c.args.format (words_of c.args.order (g.S.Store.seen c.args.store.now).files c.args.name.now)
     (groups_of c.args.blocks c.args.leaves.now) n))
     all (c.loop-block.invariant.room told)
 
@@ -83,7 +87,7 @@ returns-in_err-check_group-clause-refused g c =
     let block : ℕ = c.loop-block.block in
     rw (p.1, p.2) (
     led_refused (g.S.Store.seen c.args.store.now).faults (g.S.Store.seen c.loop-block.store).faults
-    (g.S.Store.seen c.check_group.new.store).faults g.S.Store.tells c.args.format _ _
+    (g.S.Store.seen c.check_group.new.store).faults g.S.Store.tells c.args.order c.args.format _ _
     (groups_of c.args.blocks c.args.leaves.now) block c.as_slice.result.now _ kept.leaves.later
     (ap (λ (files : List ℕ → Option (List ℕ)). bytes_of (files c.args.name.now)) kept.leaves.files)
     (led_here c.args.blocks c.args.leaves.now _ block _ _ c.loop-block-test.true (c.part.ensures.here _ kept.left)

@@ -1,6 +1,7 @@
 use Rattle.std.proofs.Common.{ℕ, List, subst}
 use Rattle.std.proofs.lemmas.Result.{err_from_is_err_and}
 use Rattle.file_blocks.specs.BlockSet.{AreFlagsOf}
+use Rattle.byte_order.specs.Words.{in_order}
 use Rattle.file_blocks.specs.Block.{bytes_of}
 use Rattle.tree_meaning.specs.Compared.{HasEntriesOf, leading_ids, rooms}
 use Rattle.tree_check.specs.Groups.{groups_of}
@@ -17,7 +18,8 @@ returns-in_err-room-clause-refused g c =
     let there : List ℕ = bytes_of ((g.S.Store.seen c.walk_chain.new.store).files c.args.name.now) in
     rw (p.1, p.2) (data_refused (g.S.Store.seen c.args.store.now).faults (g.S.Store.seen c.walk_chain.new.store).faults
     (g.S.Store.seen c.check_data.new.store).faults
-    g.S.Store.tells c.args.header.now.format file there c.args.header.now.blocks c.args.header.now.first groups _
+    g.S.Store.tells c.args.order c.args.header.now.format file there c.args.header.now.blocks
+    c.args.header.now.first groups _
     walk.leaves.later (same_bytes _ _ c.args.name.now walk.leaves.files) c.in_err-room.ensures.refused)
 
 pub returns-in_err-check_listed-clause-refused : goal.returns-in_err-check_listed-clause-refused
@@ -33,10 +35,11 @@ returns-in_err-check_listed-clause-refused g c =
       λ told are numbers same_blocks same_first.
           let room = subst
           (λ (f : List ℕ).
-          AreFlagsOf blocks c.in_ok-room.room.flags.items (rooms c.args.header.now.format f groups blocks)) same
+          AreFlagsOf blocks c.in_ok-room.room.flags.items
+          (rooms c.args.header.now.format (in_order c.args.order f) groups blocks)) same
           (c.in_ok-room.ensures.room told) in
           let linked = walk.links told in
-          list_defect c.args.header.now.format _ numbers blocks c.args.header.now.first groups
+          list_defect c.args.order c.args.header.now.format _ numbers blocks c.args.header.now.first groups
           c.in_ok-listed.listed.links.items _ same_blocks same_first are
           (walked _ blocks c.args.header.now.first c.in_ok-listed.listed.links.items linked walk.walk.marked.distinct
           walk.walk.inside) linked
@@ -50,7 +53,8 @@ returns-clause-chained g c = λ told are.
     let groups : List (List ℕ) = groups_of c.args.header.now.blocks c.args.by_block.now in
     let same = same_bytes ((g.S.Store.seen c.args.store.now).files) _ c.args.name.now walk.leaves.files in
     let room = subst
-    (λ (f : List ℕ). AreFlagsOf blocks c.in_ok-room.room.flags.items (rooms c.args.header.now.format f groups blocks))
+    (λ (f : List ℕ). AreFlagsOf blocks c.in_ok-room.room.flags.items
+    (rooms c.args.header.now.format (in_order c.args.order f) groups blocks))
     same
     (c.in_ok-room.ensures.room told) in
     let linked = walk.links told in
@@ -65,7 +69,8 @@ returns-clause-filled g c = λ told are not_empty.
     let blocks = c.args.header.now.blocks in
     let groups : List (List ℕ) = groups_of c.args.header.now.blocks c.args.by_block.now in
     let same = same_bytes ((g.S.Store.seen c.args.store.now).files) _ c.args.name.now walk.leaves.files in
-    filled c.args.header.now.format _ blocks groups are
-    (λ block low. subst (λ (f : List ℕ). HasEntriesOf c.args.header.now.format f block (leading_ids groups block)) same
+    filled c.args.order c.args.header.now.format _ blocks groups are
+    (λ block low.
+    subst (λ (f : List ℕ). HasEntriesOf c.args.order c.args.header.now.format f block (leading_ids groups block)) same
     (c.in_ok-room.ensures.entries told block low))
     not_empty

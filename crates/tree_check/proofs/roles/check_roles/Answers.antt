@@ -4,6 +4,7 @@ use Rattle.std.proofs.lemmas.Result.{err_from_is_err_and}
 use Rattle.free_chains.specs.declared.chain_link.ChainLink.{ChainLink}
 use Rattle.quota_radix.specs.declared.tree_path.TreePath.{TreePath}
 use Rattle.file_blocks.specs.BlockSet.{AreFlagsOf}
+use Rattle.byte_order.specs.Words.{words_of}
 use Rattle.file_blocks.specs.Block.{bytes_of}
 use Rattle.tree_check.specs.Groups.{named_blocks}
 use Rattle.quota_radix.specs.Levels.{IsSecondRole}
@@ -22,7 +23,8 @@ pub returns-in_err-leaves-clause-refused : goal.returns-in_err-leaves-clause-ref
 returns-in_err-leaves-clause-refused g c =
     let p = err_from_is_err_and c.from_residual-in_err-leaves.result c.from_residual-in_err-leaves.ensures.1 in
     rw (p.1, p.2) (tree_refused (g.S.Store.seen c.args.store.now).faults (g.S.Store.seen c.find_leaves.new.store).faults
-    g.S.Store.tells _ c.args.blocks c.args.free_head _ _
+    g.S.Store.tells c.args.order (bytes_of ((g.S.Store.seen c.args.store.now).files c.args.name.now)) c.args.blocks
+    c.args.free_head _ _
     (header_marked _ _ _ _ c.requires.two c.in_ok-met.ensures c.insert.ensures.added) c.in_err-leaves.ensures.refused)
 
 pub returns-in_err-mark_data-clause-refused : goal.returns-in_err-mark_data-clause-refused
@@ -35,7 +37,9 @@ returns-in_err-mark_data-clause-refused g c =
     ap (λ (ps : List TreePath). ids_at ps block) c.as_slice.ensures.value ∙ c.in_ok-sort_by_block.ensures.same block) in
     rw (p.1, p.2) (
       c.in_err-mark_data.ensures.names_id,
-      data_marked_refused g.S.Store.tells _ c.args.blocks c.args.free_head _ _ _ _ found
+      data_marked_refused g.S.Store.tells c.args.order
+          (bytes_of ((g.S.Store.seen c.args.store.now).files c.args.name.now)) c.args.blocks
+          c.args.free_head _ _ _ _ found
           c.in_err-mark_data.ensures.refused,
     )
 
@@ -50,10 +54,11 @@ returns-in_err-mark_links-clause-refused g c =
     rw (p.1, p.2) (
       c.in_err-mark_links.ensures.names_id,
       λ told.
-          let all = roles nothing_loose (bytes_of ((g.S.Store.seen c.args.store.now).files c.args.name.now))
+          let all = roles nothing_loose (words_of c.args.order (g.S.Store.seen c.args.store.now).files c.args.name.now)
           c.args.blocks (linked_blocks c.in_ok-free.free.links.items) in
-          second_role _ c.args.blocks c.args.free_head (linked_blocks c.in_ok-free.free.links.items) 0 all [] _
-          (walk_is_free _ _ c.args.name.now c.args.blocks c.args.free_head c.in_ok-free.free
+          second_role c.args.order (bytes_of ((g.S.Store.seen c.args.store.now).files c.args.name.now)) c.args.blocks
+          c.args.free_head (linked_blocks c.in_ok-free.free.links.items) 0 all [] _
+          (walk_is_free c.args.order _ _ c.args.name.now c.args.blocks c.args.free_head c.in_ok-free.free
           c.in_ok-leaves.ensures.leaves.files c.in_ok-free.ensures.walk (c.in_ok-free.ensures.links told))
           (append-nil all)
           (roles_marked (λ (n : ℕ) (ns : List ℕ). IsSecondRole ns c.in_err-mark_links.field-0.0) g.S.Store.tells _
@@ -77,8 +82,9 @@ returns-in-Some-clause-refused g c =
           c.in_ok-mark_data.ensures.marked c.as_slice-2.ensures.value c.in_ok-free.ensures.walk.inside
           c.in_ok-mark_links.ensures.marked in
           let without = c.in-Some.ensures _ marked in
-          no_role _ c.args.blocks c.args.free_head (linked_blocks c.in_ok-free.free.links.items) 0 c.in-Some.block
-          (walk_is_free _ _ c.args.name.now c.args.blocks c.args.free_head c.in_ok-free.free
+          no_role c.args.order (bytes_of ((g.S.Store.seen c.args.store.now).files c.args.name.now)) c.args.blocks
+          c.args.free_head (linked_blocks c.in_ok-free.free.links.items) 0 c.in-Some.block
+          (walk_is_free c.args.order _ _ c.args.name.now c.args.blocks c.args.free_head c.in_ok-free.free
           c.in_ok-leaves.ensures.leaves.files c.in_ok-free.ensures.walk (c.in_ok-free.ensures.links told))
           without.0 without.1,
     )
@@ -110,7 +116,7 @@ returns-clause-roles g c =
     c.in_ok-mark_links.ensures.marked in
     are_roles _ c.args.blocks c.args.free_head (linked_blocks links) c.mark_links.new.met.flags.items
     c.in_ok-leaves.leaves.items _ (found.are_leaves told) (c.in_ok-leaves.ensures.whole told)
-    (walk_is_free _ _ c.args.name.now c.args.blocks c.args.free_head c.in_ok-free.free
+    (walk_is_free c.args.order _ _ c.args.name.now c.args.blocks c.args.free_head c.in_ok-free.free
     c.in_ok-leaves.ensures.leaves.files c.in_ok-free.ensures.walk (c.in_ok-free.ensures.links told))
     all (c.in_default.ensures _ all)
     (same_groups c.args.blocks c.in_ok-leaves.leaves.items _ c.in_ok-sort_by_block.ensures.same)

@@ -9,7 +9,7 @@ returns-then-is_full_of-clause-entries c =
     let same : used ≡ c.args.ids.now = c.if-is_full_of.ensures.ids in
     let alike : (id : ℕ) → times used id ≡ times c.args.ids.now id = λ id. ap (λ (xs : List ℕ). times xs id) same in
     record {
-      count = omega (arith, ap length same, c.if-stated-ids.true, c.from-stated.ensures, c.le16.ensures);
+      count = omega (arith, ap length same, c.if-stated-ids.true, c.from-stated.ensures);
       one = λ id leads. omega (arith, c.if-ascends.ensures id, alike id, leads);
       none = λ id stray. omega (arith, alike id, stray);
     }

@@ -39,20 +39,20 @@ pub returns-then-not-insert-clause-few_reads : goal.returns-then-not-insert-clau
 returns-then-not-insert-clause-few_reads g c =
     λ is. omega (arith, walk_few c.args.blocks c.args.self.now is, c.args.self.now.links.ok.0)
 
-pub returns-in_err-read_block-clause-few_reads : goal.returns-in_err-read_block-clause-few_reads
-returns-in_err-read_block-clause-few_reads g c = λ is.
+pub returns-in_err-read_words-clause-few_reads : goal.returns-in_err-read_words-clause-few_reads
+returns-in_err-read_words-clause-few_reads g c = λ is.
     let fits = links_fit c.args.blocks _ c.args.self.now.links.items c.args.at
     (c.if-not-insert.ensures.added c.args.blocks _ is.marked (omega arith)).0 in
-    omega (arith, fits, c.args.self.now.links.ok.0, c.in_err-read_block.ensures.reads)
+    omega (arith, fits, c.args.self.now.links.ok.0, c.in_err-read_words.ensures.reads)
 
 pub returns-in_err-push-clause-few_reads : goal.returns-in_err-push-clause-few_reads
 returns-in_err-push-clause-few_reads g c = λ is.
     let fits = links_fit c.args.blocks _ c.args.self.now.links.items c.args.at
     (c.if-not-insert.ensures.added c.args.blocks _ is.marked (omega arith)).0 in
-    omega (arith, fits, c.args.self.now.links.ok.0, c.in_ok-read_block.ensures.reads)
+    omega (arith, fits, c.args.self.now.links.ok.0, c.in_ok-read_words.ensures.reads)
 
 pub returns-clause-few_reads : goal.returns-clause-few_reads
 returns-clause-few_reads g c = λ is.
     let fits = links_fit c.args.blocks _ c.args.self.now.links.items c.args.at
     (c.if-not-insert.ensures.added c.args.blocks _ is.marked (omega arith)).0 in
-    omega (arith, fits, c.args.self.now.links.ok.0, c.in_ok-read_block.ensures.reads)
+    omega (arith, fits, c.args.self.now.links.ok.0, c.in_ok-read_words.ensures.reads)

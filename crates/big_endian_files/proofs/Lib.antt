@@ -1,0 +1,7 @@
+pub mod EntryLemmas
+pub mod LeavesLemmas
+pub mod PermutedLemmas
+pub mod ReadLemmas
+pub mod SortedLemmas
+pub mod ValueLemmas
+pub mod ViewLemmas
